@@ -1,0 +1,4 @@
+pub mod Variables
+pub mod Refusals
+pub mod Bits
+pub mod Digits

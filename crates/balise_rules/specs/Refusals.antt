@@ -1,5 +1,5 @@
 -- The refusals: their numbers and names, as they are printed.
-use Rattle.std.specs.Prelude.{ℕ, List, codes}
+use Rattle.std.specs.Prelude.{ℕ, List, codes, Result, Ok, Err}
 use Rattle.balise_rules.specs.declared.refusal.Refusal.{Refusal}
 use Rattle.balise_rules.specs.declared.refusal.Refusal.TheVariants.{BadLine, BadHex, BadLength, SpareBits, NotABalise, NoEnd, PacketCut, LayoutMismatch, PacketZero, GroupSize, HeaderDisagrees, NumberReserved, GroupTwice, NoSuchGroup, NoSuchTelegram, NoSuchPacket, NoSuchVariable, Steering, ValueTooWide, NoRoom, NumberTaken, SamePlace, NothingToUndo, NothingToRedo, NoSuchEdit, DependsOn, JournalMismatch, Worn, InputTooLong, OutOfMemory, ReadFault, WriteFault}
 
@@ -70,3 +70,8 @@ name_of InputTooLong = codes "InputTooLong"
 name_of OutOfMemory = codes "OutOfMemory"
 name_of ReadFault = codes "ReadFault"
 name_of WriteFault = codes "WriteFault"
+
+-- what comes next, where nothing was refused
+abbrev pub and_then : {A B : Type 0} → Result A Refusal → (A → Result B Refusal) → Result B Refusal
+and_then (Err r) next = Err r
+and_then (Ok x) next = next x

@@ -2,10 +2,16 @@
 //! The rules themselves are the definitions of specs/; here are the few types that they name.
 #![tactic(auto)]
 
+mod address;
+mod identity;
 mod refusal;
+mod review;
 mod tag;
 mod variable;
 
+pub use address::{Address, Place};
+pub use identity::Id;
 pub use refusal::Refusal;
+pub use review::{ReviewLine, Reviewed};
 pub use tag::Tag;
 pub use variable::Var;

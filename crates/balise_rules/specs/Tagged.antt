@@ -89,3 +89,10 @@ changed same (Each f) xs = each f xs
 changed same (Put a z) xs = put same a z xs
 changed same (Take k) xs = without same k xs
 changed same (Move k a) xs = move same k a xs
+
+-- what a change puts in isn't there yet
+abbrev pub IsNew : {K A : Type 0} → (K → K → Bool) → Change K A → List (K × A) → Type 0
+IsNew same (Each f) xs = Unit {0}
+IsNew same (Put a z) xs = find same z.0 xs ≡ None
+IsNew same (Take k) xs = Unit {0}
+IsNew same (Move k a) xs = Unit {0}

@@ -1,6 +1,7 @@
 -- Worked telegrams as their digits, and what a session over them answers and shows.
 use Rattle.std.specs.Prelude.{ℕ, zero, suc, ◌==◌, if◌then◌else◌, List, [], ◌∷◌, ◌++◌, Bool, length, map, codes, Result, Ok, Err}
 use Rattle.balise_rules.specs.declared.refusal.Refusal.{Refusal}
+use Rattle.balise_rules.specs.declared.identity.Id.{Id}
 use Rattle.balise_rules.specs.Refusals.{and_then}
 use Rattle.balise_rules.specs.Digits.{read_hex, read_digits, hex_of}
 use Rattle.balise_rules.specs.Plan.{Plan, shown_plan, read_plan}
@@ -53,10 +54,52 @@ bits_or_none (Ok b) = b
 abbrev pub word : Text → List Bool
 word t = bits_or_none (read_digits t)
 
--- 5.100, empty, linked
-abbrev pub empty_5_100 : Text
-empty_5_100 = codes "a1007f80a0327f" ++ (padded 19 ++ codes "c0")
+-- the bits of a telegram's line
+abbrev pub line : Text → List Bool
+line t = bits_or_none (read_line t)
+
+abbrev pub id : ℕ → ℕ → Id
+id c n = record { country = c; number = n }
+
+-- a plan of one group of one telegram
+abbrev pub alone : Text → List (List Text)
+alone t = (t ∷ []) ∷ []
+
+-- Telegrams of version 33, M_MCOUNT 255, linked, unless they say otherwise.
+-- 5.100 without packets, short and long
+abbrev pub empty : Text
+empty = codes "a1007f80a0327f" ++ (padded 19 ++ codes "c0")
+
+abbrev pub empty_long : Text
+empty_long = codes "a1007f80a0327f" ++ (padded 96 ++ codes "fc")
 
 -- 5.100 with a packet 66, NID_TSR 5
-abbrev pub revoking_5_100 : Text
-revoking_5_100 = codes "a1007f80a03250900f82" ++ (padded 16 ++ codes "c0")
+abbrev pub revoking : Text
+revoking = codes "a1007f80a03250900f82" ++ (padded 16 ++ codes "c0")
+
+-- 5.100 with a packet 65: NID_TSR 5, D_TSR 200, L_TSR 300, V_TSR 8
+abbrev pub restricting : Text
+restricting = codes "a1007f80a032505023a0a0320096047f" ++ (padded 10 ++ codes "c0")
+
+-- 5.101 with a packet 5: D_LINK 500, NID_BG 100, orientation 1
+abbrev pub linking_100 : Text
+linking_100 = codes "a1007f80a032c15022a07d00326301" ++ (padded 11 ++ codes "c0")
+
+-- 5.102 with a packet 5 of two elements: NID_C 6 and NID_BG 100, then NID_BG 100
+abbrev pub linking_twice : Text
+linking_twice = codes "a1007f80a03341503b204b20300c88c0819000c98c" ++ (padded 5 ++ codes "c0")
+
+-- 5.100 with four packets 66: NID_TSR 1, 2, 3, 4
+abbrev pub four_packets : Text
+four_packets = codes "a1007f80a03250900f80a1201f0242403e0684807c13" ++ (padded 4 ++ codes "c0")
+
+-- 5.100 without packets, its padding of many colours
+abbrev pub coloured : Text
+coloured = codes "a1007f80a0327fc0" ++ (times 18 (codes "5a") ++ codes "40")
+
+-- group 5.100 of three: M_DUP 1 and a packet 65; M_DUP 2 and an unknown packet 44; none
+abbrev pub three : List Text
+three =
+    (codes "a104ff80a032505023a0a0320096047f" ++ (padded 10 ++ codes "c0"))
+    ∷ (codes "a1157f80a0324b0010697f" ++ (padded 15 ++ codes "c0"))
+    ∷ (codes "a1247f80a0327f" ++ (padded 19 ++ codes "c0")) ∷ []

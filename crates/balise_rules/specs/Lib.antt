@@ -21,3 +21,5 @@ pub mod Session
 pub mod Review
 pub mod Behind
 pub mod Examples
+pub mod Rows
+pub mod GroupRows

@@ -59,4 +59,3 @@ plans_refused = (refl, refl, refl, refl, refl, refl, refl, refl, refl)
 pub edited_after_undo : EditedAfterUndo
 unfolding width_of steers is_free_in_header is_distance num bits digit_bits digits_in spelling read_form counted link linking gradient gradients difference section speeds level levels restriction revocation is_known known_body body packet read_body header read_packets read_header read_telegram read_telegrams read_group group_of packet_in
 edited_after_undo = refl
-

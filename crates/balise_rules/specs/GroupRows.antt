@@ -1,11 +1,9 @@
 -- Worked rows of groups and sessions.
-use Rattle.std.specs.Prelude.{◌≡◌, ℕ, List, [], ◌∷◌, ◌++◌, codes, map, Result, Ok, Err}
-use Rattle.balise_rules.specs.declared.variable.Var.TheVariants.{NidTsr, QLink, DLink, DTsr}
-use Rattle.balise_rules.specs.declared.refusal.Refusal.{Refusal}
+use Rattle.std.specs.Prelude.{◌≡◌, ℕ, List, [], ◌∷◌, ◌++◌, codes, Ok}
+use Rattle.balise_rules.specs.declared.variable.Var.TheVariants.{QLink, DLink, DTsr}
 use Rattle.balise_rules.specs.declared.refusal.Refusal.TheVariants.{NotABalise, NoEnd, PacketCut, LayoutMismatch, PacketZero, GroupSize, HeaderDisagrees, NumberReserved, GroupTwice, NoSuchGroup, ValueTooWide, NumberTaken, NothingToUndo, NothingToRedo, NoSuchEdit, DependsOn}
 use Rattle.balise_rules.specs.declared.tag.Tag.TheVariants.{Base}
 use Rattle.balise_rules.specs.declared.review.Reviewed.TheVariants.{Field, Opaque}
-use Rattle.balise_rules.specs.declared.review.ReviewLine.{ReviewLine}
 use Rattle.balise_rules.specs.Refusals.{and_then}
 use Rattle.balise_rules.specs.Addresses.{AskSet, AskSetHead, AskInsert, AskAdd, AskDrop, AskRenumber, AskTurn}
 use Rattle.balise_rules.specs.Session.{Call, Ask, Undo, Redo, Strike, Done, Undone, Redone, Struck, Refused}
@@ -34,7 +32,6 @@ RenumberRefused =
 abbrev pub turn : Call
 turn = Ask (AskTurn (id 5 100))
 
-
 abbrev pub three_turned : List Text
 three_turned =
     (codes "a1047f80a0327f" ++ (padded 19 ++ codes "c0"))
@@ -62,8 +59,8 @@ abbrev pub TurnReviewed : Type 0
 TurnReviewed =
     and_then (plan_of (three ∷ (linking_100 ∷ []) ∷ [])) (λ plan. Ok (review (Base 0) plan))
     ≡ Ok (record { id = id 5 100; pig = 1; pkt = 0; what = Opaque 44 }
-        ∷ record { id = id 5 100; pig = 2; pkt = 0; what = Field DTsr 0 200 }
-        ∷ record { id = id 5 101; pig = 0; pkt = 0; what = Field DLink 0 500 } ∷ [])
+    ∷ record { id = id 5 100; pig = 2; pkt = 0; what = Field DTsr 0 200 }
+    ∷ record { id = id 5 101; pig = 0; pkt = 0; what = Field DLink 0 500 } ∷ [])
 
 abbrev pub moved_1_4 : Text
 moved_1_4 = codes "a1007f80a03250900f81a1201f0142403e09" ++ (padded 8 ++ codes "c0")

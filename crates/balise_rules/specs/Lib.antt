@@ -23,3 +23,4 @@ pub mod Behind
 pub mod Examples
 pub mod Rows
 pub mod GroupRows
+pub mod Laws

@@ -1,17 +1,11 @@
 -- Worked rows: what the rules give for them. The checker computes each.
 use Rattle.std.specs.Prelude.{◌≡◌, ℕ, List, [], ◌∷◌, ◌++◌, codes, Result, Ok, Err}
-use Rattle.balise_rules.specs.declared.variable.Var.TheVariants.{NidTsr, MMcount, NidBg, NidC, VDiff, QDiff, QDir, QLink, DLink, DTsr, GA, NIter, DGradient, NidNtc, MLeveltr}
+use Rattle.balise_rules.specs.declared.variable.Var.TheVariants.{NidTsr, MMcount, NidBg, NidC, VDiff, QDiff, QDir, GA, NIter, DGradient, NidNtc, MLeveltr}
 use Rattle.balise_rules.specs.declared.refusal.Refusal.{Refusal}
-use Rattle.balise_rules.specs.declared.refusal.Refusal.TheVariants.{BadLength, SpareBits, NotABalise, NoEnd, PacketCut, LayoutMismatch, PacketZero, GroupSize, HeaderDisagrees, NumberReserved, GroupTwice, NoSuchGroup, NoSuchTelegram, NoSuchPacket, NoSuchVariable, Steering, ValueTooWide, NoRoom, NumberTaken, SamePlace, NothingToUndo, NothingToRedo, NoSuchEdit, DependsOn}
-use Rattle.balise_rules.specs.declared.tag.Tag.TheVariants.{Base}
-use Rattle.balise_rules.specs.declared.review.Reviewed.TheVariants.{Field, Opaque}
-use Rattle.balise_rules.specs.declared.review.ReviewLine.{ReviewLine}
-use Rattle.balise_rules.specs.Refusals.{and_then}
-use Rattle.balise_rules.specs.Plan.{Plan}
-use Rattle.balise_rules.specs.Addresses.{AskSet, AskSetHead, AskInsert, AskDelete, AskMove, AskAdd, AskDrop, AskRenumber, AskTurn}
-use Rattle.balise_rules.specs.Session.{Call, Ask, Undo, Redo, Strike, Reply, Done, Undone, Redone, Struck, Refused}
-use Rattle.balise_rules.specs.Review.{review}
-use Rattle.balise_rules.specs.Examples.{Text, times, padded, plan_of, outcome, word, line, id, alone, empty, empty_long, revoking, restricting, linking_100, linking_twice, four_packets, coloured, three}
+use Rattle.balise_rules.specs.declared.refusal.Refusal.TheVariants.{BadLength, SpareBits, PacketCut, LayoutMismatch, PacketZero, NoSuchTelegram, NoSuchPacket, NoSuchVariable, Steering, ValueTooWide, NoRoom, SamePlace}
+use Rattle.balise_rules.specs.Addresses.{AskSet, AskSetHead, AskInsert, AskDelete, AskMove}
+use Rattle.balise_rules.specs.Session.{Call, Ask, Undo, Reply, Done, Undone, Refused}
+use Rattle.balise_rules.specs.Examples.{Text, times, padded, plan_of, outcome, word, id, alone, empty, empty_long, revoking, linking_twice, coloured}
 
 -- replies, and the plan after them
 abbrev pub Gives : List (List Text) → List Call → List Reply → List (List Text) → Type 0
@@ -85,7 +79,6 @@ DigitsRefused =
     (insert 0 (codes "00") ∷ insert 0 (codes "ff") ∷ insert 0 (codes "42403e") ∷ insert 0 (codes "42403e0a00") ∷ insert 0 (codes "42403e0b") ∷ insert 0 (codes "4240400a") ∷ insert 2 (codes "42403e0a") ∷ [])
     (Refused PacketZero ∷ Refused LayoutMismatch ∷ Refused PacketCut ∷ Refused BadLength ∷ Refused SpareBits ∷ Refused LayoutMismatch ∷ Refused NoSuchPacket ∷ [])
     (alone empty)
-
 
 -- The second element of a link named 6.100 and names 6.150: its country is that of the element before.
 abbrev pub LinkSet : Type 0

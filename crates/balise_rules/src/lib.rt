@@ -4,8 +4,10 @@
 
 mod address;
 mod identity;
+pub mod laws;
 mod refusal;
 mod review;
+pub mod rows;
 mod tag;
 mod variable;
 

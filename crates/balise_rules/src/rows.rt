@@ -1,0 +1,34 @@
+//! Worked rows of the rules, which the checker computes, each a clause of a function that does nothing.
+
+ghost use Rattle.balise_rules.specs.GroupRows.{DroppedAndAdded, EditedAfterUndo, FourPackets, LinkStruck, NothingDone, PlansRefused, Refilled, RenumberRefused, Renumbered, TurnReviewed, Turned, TwoInserted};
+ghost use Rattle.balise_rules.specs.Rows.{DigitsRefused, Filled, InsertedAndUndone, LinkSet, OthersSet, PaddingKept, ProfileSet, SetAndUndone, SpareRefused, Unchanged};
+
+/// Rows of packets and of one telegram.
+pub fn telegram_rows()
+    ensures unchanged { Unchanged }
+    ensures set_and_undone { SetAndUndone }
+    ensures inserted_and_undone { InsertedAndUndone }
+    ensures spare_refused { SpareRefused }
+    ensures padding_kept { PaddingKept }
+    ensures filled { Filled }
+    ensures digits_refused { DigitsRefused }
+    ensures link_set { LinkSet }
+    ensures profile_set { ProfileSet }
+    ensures others_set { OthersSet }
+{}
+
+/// Rows of groups and of sessions.
+pub fn plan_rows()
+    ensures renumbered { Renumbered }
+    ensures renumber_refused { RenumberRefused }
+    ensures turned { Turned }
+    ensures turn_reviewed { TurnReviewed }
+    ensures four_packets { FourPackets }
+    ensures refilled { Refilled }
+    ensures link_struck { LinkStruck }
+    ensures two_inserted { TwoInserted }
+    ensures nothing_done { NothingDone }
+    ensures dropped_and_added { DroppedAndAdded }
+    ensures plans_refused { PlansRefused }
+    ensures edited_after_undo { EditedAfterUndo }
+{}

@@ -1,5 +1,6 @@
 -- Doing an edit: the first refusal, by its number, or what the edit makes.
 use Rattle.std.specs.Prelude.{ℕ, ◌||◌, not, nat_lt, Bool, false, cond, List, [], ◌∷◌, Option, Some, None, Result, Ok, Err, is_some, is_none, eqb}
+use Rattle.balise_rules.specs.declared.variable.Var.{Var}
 use Rattle.balise_rules.specs.declared.variable.Var.TheVariants.{NidBg}
 use Rattle.balise_rules.specs.declared.refusal.Refusal.{Refusal}
 use Rattle.balise_rules.specs.declared.refusal.Refusal.TheVariants.{NumberReserved, GroupTwice, NoSuchGroup, NoSuchTelegram, NoSuchPacket, NoSuchVariable, Steering, ValueTooWide, NoRoom, NumberTaken, SamePlace}
@@ -55,16 +56,28 @@ abbrev pub group_fault : Plan → Result Group Refusal → Option Refusal
 group_fault plan (Err r) = Some r
 group_fault plan (Ok ys) = when (is_some (group_named (identity_of ys) plan)) GroupTwice
 
--- the first reason why an edit is refused
+-- the telegram lacks the anchor
+abbrev pub no_anchor : Tag → ℕ → Option Tag → Plan → Option Refusal
+no_anchor g t a plan = when (in_telegram (telegram_at g t plan) (λ y. not (stands same_tag a y.packets))) NoSuchPacket
+
+abbrev pub too_wide : Var → ℕ → Option Refusal
+too_wide v n = when (not (fits (width_of v) n)) ValueTooWide
+
+-- the first reason why an edit is refused: each line of a table, in its order
 abbrev pub refusal : Edit → Plan → Option Refusal
-refusal (SetVar g t p v k n) plan = first_of (no_group g plan ∷ no_telegram g t plan ∷ no_packet g t p plan ∷ when (is_none (field_at g t p v k plan)) NoSuchVariable ∷ when (steers v) Steering ∷ when (not (fits (width_of v) n)) ValueTooWide ∷ [])
-refusal (SetHead g t v n) plan = first_of (no_group g plan ∷ no_telegram g t plan ∷ when (in_telegram (telegram_at g t plan) (λ y. is_none (field_of v 0 y.head))) NoSuchVariable ∷ when (not (is_free_in_header v)) Steering ∷ when (not (fits (width_of v) n)) ValueTooWide ∷ [])
-refusal (InsertPacket g t a x) plan = first_of (no_group g plan ∷ no_telegram g t plan ∷ when (in_telegram (telegram_at g t plan) (λ y. not (stands same_tag a y.packets))) NoSuchPacket ∷ when (in_telegram (telegram_at g t plan) (λ y. nat_lt (room y) (width x))) NoRoom ∷ [])
+refusal (SetVar g t p v k n) plan = first_of (no_group g plan ∷ no_telegram g t plan ∷ no_packet g t p plan
+    ∷ when (is_none (field_at g t p v k plan)) NoSuchVariable ∷ when (steers v) Steering ∷ too_wide v n ∷ [])
+refusal (SetHead g t v n) plan = first_of (no_group g plan ∷ no_telegram g t plan
+    ∷ when (in_telegram (telegram_at g t plan) (λ y. is_none (field_of v 0 y.head))) NoSuchVariable ∷ when (not (is_free_in_header v)) Steering ∷ too_wide v n ∷ [])
+refusal (InsertPacket g t a x) plan = first_of (no_group g plan ∷ no_telegram g t plan ∷ no_anchor g t a plan
+    ∷ when (in_telegram (telegram_at g t plan) (λ y. nat_lt (room y) (width x))) NoRoom ∷ [])
 refusal (DeletePacket g t p) plan = first_of (no_group g plan ∷ no_telegram g t plan ∷ no_packet g t p plan ∷ [])
-refusal (MovePacket g t p a) plan = first_of (no_group g plan ∷ no_telegram g t plan ∷ no_packet g t p plan ∷ when (in_telegram (telegram_at g t plan) (λ y. not (stands same_tag a y.packets))) NoSuchPacket ∷ when (in_telegram (telegram_at g t plan) (same_place p a)) SamePlace ∷ [])
+refusal (MovePacket g t p a) plan = first_of (no_group g plan ∷ no_telegram g t plan ∷ no_packet g t p plan ∷ no_anchor g t a plan
+    ∷ when (in_telegram (telegram_at g t plan) (same_place p a)) SamePlace ∷ [])
 refusal (AddGroup a bs) plan = first_of (when (not (stands same_tag a plan)) NoSuchGroup ∷ group_fault plan (read_group bs) ∷ [])
 refusal (DropGroup g) plan = no_group g plan
-refusal (Renumber g n) plan = first_of (no_group g plan ∷ when (not (fits (width_of NidBg) n)) ValueTooWide ∷ when (eqb n reserved) NumberReserved ∷ when (taken (renumbered (find same_tag g plan) n) plan) NumberTaken ∷ [])
+refusal (Renumber g n) plan = first_of (no_group g plan ∷ too_wide NidBg n ∷ when (eqb n reserved) NumberReserved
+    ∷ when (taken (renumbered (find same_tag g plan) n) plan) NumberTaken ∷ [])
 refusal (TurnGroup g) plan = no_group g plan
 
 -- what an edit with its serial makes of a plan, where it is accepted

@@ -24,3 +24,4 @@ pub mod Examples
 pub mod Rows
 pub mod GroupRows
 pub mod Laws
+pub mod Opening

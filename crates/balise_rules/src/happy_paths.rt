@@ -1,0 +1,28 @@
+//! Each function once on its happy path, with values of the standard's tables.
+
+use crate::{Refusal, Var};
+
+#[test]
+fn knows_the_variables(rt: HostRuntime) {
+    for (name, var, width, steers) in [
+        ("NID_PACKET", Var::NidPacket, 8, true),
+        ("NID_BG", Var::NidBg, 14, false),
+        ("Q_LINKORIENTATION", Var::QLinkorientation, 1, false),
+        ("N_ITER", Var::NIter, 5, true),
+        ("M_VERSION", Var::MVersion, 7, false),
+    ] {
+        assert!(rt; Var::from_name(name) == Some(var), "{name}");
+        assert_eq!(rt; var.name(), name);
+        assert_eq!(rt; var.width(), width, "{name}");
+        assert_eq!(rt; var.steers(), steers, "{name}");
+    }
+    assert!(rt; Var::from_name("nid_bg").is_none());
+}
+
+#[test]
+fn numbers_the_refusals(rt: HostRuntime) {
+    assert_eq!(rt; Refusal::DependsOn(2).number(), 26);
+    assert_eq!(rt; Refusal::DependsOn(2).name(), "DependsOn");
+    assert_eq!(rt; Refusal::WriteFault.number(), 32);
+    assert_eq!(rt; Refusal::BadLine.name(), "BadLine");
+}

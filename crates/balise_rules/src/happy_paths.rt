@@ -17,6 +17,7 @@ fn knows_the_variables(rt: HostRuntime) {
         assert_eq!(rt; var.steers(), steers, "{name}");
     }
     assert!(rt; Var::from_name("nid_bg").is_none());
+    assert!(rt; Var::from_bytes(b"D_LINK") == Some(Var::DLink));
 }
 
 #[test]

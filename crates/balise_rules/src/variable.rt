@@ -226,7 +226,17 @@ impl Var {
     pub fn from_name(name: &str) -> Option<Var>
         ensures { result ≡ var_named name.now }
     {
-        VARIABLES.iter().copied().find(|var| var.name() == name)
+        Var::from_bytes(name.as_bytes())
+    }
+
+    /// The variable whose name these bytes are.
+    pub fn from_bytes(name: &[u8]) -> Option<Var>
+        ensures { result ≡ var_named name.now }
+    {
+        VARIABLES
+            .iter()
+            .copied()
+            .find(|var| var.name().as_bytes() == name)
     }
 
     /// Whether no edit sets the variable of a packet in place, since its value says what follows, or since another edit sets it.

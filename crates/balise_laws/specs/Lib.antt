@@ -1,0 +1,4 @@
+pub mod Laws
+pub mod Striking
+pub mod Witness
+pub mod InSession

@@ -1,0 +1,9 @@
+pub mod Pieces
+pub mod Putting
+pub mod Flat
+pub mod Windows
+pub mod Packing
+pub mod Digits
+pub mod Spare
+pub mod Ones
+pub mod Same

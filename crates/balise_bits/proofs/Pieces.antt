@@ -1,0 +1,158 @@
+-- Numbers and their pieces: a number's bits in two parts, the number of a part, and a part replaced.
+use Rattle.std.proofs.Common.{◌≡◌, ℕ, ◌+◌, ◌-◌, ◌*◌, ◌/◌, ◌%◌, ◌^◌, ◌<◌, ◌≤◌, Bool, List, [], ◌++◌, length, take, drop, refl, sym, ap, subst, ◌∙◌, append_assoc, arith, length-append, lit<}
+use Rattle.std.proofs.Math.Nat.{pow-le-pow_right, mod-eq_of_lt, le-mul_of_pos_right}
+use Rattle.std.proofs.lemmas.Nat.{pow_pos, one_shl, shr_high, mod_low, mod-pow-add}
+use Rattle.std.proofs.lemmas.List.{take-append-drop, length-take, length-drop, drop-drop}
+use Rattle.balise_rules.specs.Bits.{num, bits, part, put_at}
+use Rattle.balise_rules.proofs.Numbers.{length-bits, num_below, num-bits, num-bits_fit, num_injective, bits-num, num-append}
+use Rattle.balise_bits.proofs.Putting.{length-put_at, length-part}
+
+-- the bits of a number are those of a list with the same number
+pub same_bits : (w n : ℕ) (b : List Bool) → length b ≡ w → n % 2 ^ w ≡ num b → bits w n ≡ b
+same_bits w n b l e = num_injective (bits w n) b (length-bits w n ∙ sym l) (num-bits w n ∙ e)
+
+-- a number's bits in two parts
+pub bits-split : (a b n : ℕ) → bits (a + b) n ≡ bits a (n / 2 ^ b) ++ bits b n
+bits-split a b n =
+    let pieces : num (bits a (n / 2 ^ b) ++ bits b n) ≡ n / 2 ^ b % 2 ^ a * 2 ^ b + n % 2 ^ b =
+    num-append (bits a (n / 2 ^ b)) (bits b n) ∙ rw (length-bits b n, num-bits a (n / 2 ^ b), num-bits b n) refl in
+    same_bits (a + b) n (bits a (n / 2 ^ b) ++ bits b n)
+    (length-append (bits a (n / 2 ^ b)) (bits b n) ∙ omega (arith, length-bits a (n / 2 ^ b), length-bits b n))
+    (mod-pow-add n a b ∙ sym pieces)
+
+-- only the low bits of a number count
+pub bits-mod : (w n : ℕ) → bits w (n % 2 ^ w) ≡ bits w n
+bits-mod w n = same_bits w (n % 2 ^ w) (bits w n) (length-bits w n) (mod-twice ∙ sym (num-bits w n))
+  where
+    mod-twice : n % 2 ^ w % 2 ^ w ≡ n % 2 ^ w
+    mod-twice = sym (num-bits w (n % 2 ^ w)) ∙ num-bits_fit w (n % 2 ^ w) (subst (λ (x : ℕ). x < 2 ^ w) (num-bits w n) (subst (λ (k : ℕ). num (bits w n) < 2 ^ k) (length-bits w n) (num_below (bits w n))))
+
+-- a short list has a small number
+pub num_small : (b : List Bool) (n : ℕ) → length b ≤ n → num b < 2 ^ n
+num_small b n h = omega (arith, num_below b, pow-le-pow_right {n = 2} (lit< tt) h)
+
+pub num_nil : num [] ≡ 0
+unfolding num
+num_nil = refl
+
+-- a list in three parts
+pub three_parts : (b : List Bool) (o w : ℕ) → b ≡ take o b ++ (take w (drop o b) ++ drop (o + w) b)
+three_parts b o w =
+    sym (ap (λ (x : List Bool). take o b ++ (take w (drop o b) ++ x)) (sym (drop-drop w o b)) ∙ ap (λ (x : List Bool). take o b ++ x) (take-append-drop w (drop o b)) ∙ take-append-drop o b)
+
+-- the number of three parts, as the last part's shift leaves it and cuts it off
+num-three : (a m c : List Bool) → num (a ++ (m ++ c)) ≡ (num a * 2 ^ length m + num m) * 2 ^ length c + num c
+num-three a m c =
+    ap num (sym (append_assoc a m c)) ∙ num-append (a ++ m) c ∙ ap (λ (x : ℕ). x * 2 ^ length c + num c) (num-append a m)
+
+pub num-three_above : (a m c : List Bool) → num (a ++ (m ++ c)) / 2 ^ length c ≡ num a * 2 ^ length m + num m
+num-three_above a m c =
+    ap (λ (x : ℕ). x / 2 ^ length c) (num-three a m c) ∙ shr_high (num a * 2 ^ length m + num m) (length c) (num c) (num_below c)
+
+num-three_middle : (a m c : List Bool) → num (a ++ (m ++ c)) / 2 ^ length c % 2 ^ length m ≡ num m
+num-three_middle a m c =
+    ap (λ (x : ℕ). x % 2 ^ length m) (num-three_above a m c) ∙ mod_low (num a) (length m) (num m) (num_below m)
+
+num-three_first : (a m c : List Bool) → num (a ++ (m ++ c)) / 2 ^ length c / 2 ^ length m ≡ num a
+num-three_first a m c =
+    ap (λ (x : ℕ). x / 2 ^ length m) (num-three_above a m c) ∙ shr_high (num a) (length m) (num m) (num_below m)
+
+num-three_last : (a m c : List Bool) → num (a ++ (m ++ c)) % 2 ^ length c ≡ num c
+num-three_last a m c =
+    ap (λ (x : ℕ). x % 2 ^ length c) (num-three a m c) ∙ mod_low (num a * 2 ^ length m + num m) (length c) (num c) (num_below c)
+
+-- the number of a part with s bits behind it
+pub num-part : (b : List Bool) (o w s : ℕ) → o + w + s ≡ length b → num b / 2 ^ s % 2 ^ w ≡ num (part o w b)
+num-part b o w s e =
+    let m = take w (drop o b) in
+    let c = drop (o + w) b in
+    let lm : length m ≡ w = omega (arith, length-take w (drop o b), length-drop o b) in
+    let lc : length c ≡ s = omega (arith, length-drop (o + w) b) in
+    ap (λ (x : List Bool). num x / 2 ^ s % 2 ^ w) (three_parts b o w)
+    ∙ subst (λ (k : ℕ). num (take o b ++ (m ++ c)) / 2 ^ k % 2 ^ w ≡ num m) lc
+    (subst (λ (k : ℕ). num (take o b ++ (m ++ c)) / 2 ^ length c % 2 ^ k ≡ num m) lm (num-three_middle (take o b) m c))
+
+-- the number above a part, and the number behind it
+num-above : (b : List Bool) (o w s : ℕ) → o + w + s ≡ length b → num b / 2 ^ s / 2 ^ w ≡ num (take o b)
+num-above b o w s e =
+    let m = take w (drop o b) in
+    let c = drop (o + w) b in
+    let lm : length m ≡ w = omega (arith, length-take w (drop o b), length-drop o b) in
+    let lc : length c ≡ s = omega (arith, length-drop (o + w) b) in
+    ap (λ (x : List Bool). num x / 2 ^ s / 2 ^ w) (three_parts b o w)
+    ∙ subst (λ (k : ℕ). num (take o b ++ (m ++ c)) / 2 ^ k / 2 ^ w ≡ num (take o b)) lc
+    (subst (λ (k : ℕ). num (take o b ++ (m ++ c)) / 2 ^ length c / 2 ^ k ≡ num (take o b)) lm (num-three_first (take o b) m c))
+
+num-behind : (b : List Bool) (o w s : ℕ) → o + w + s ≡ length b → num b % 2 ^ s ≡ num (drop (o + w) b)
+num-behind b o w s e =
+    let m = take w (drop o b) in
+    let c = drop (o + w) b in
+    let lc : length c ≡ s = omega (arith, length-drop (o + w) b) in
+    ap (λ (x : List Bool). num x % 2 ^ s) (three_parts b o w)
+    ∙ subst (λ (k : ℕ). num (take o b ++ (m ++ c)) % 2 ^ k ≡ num c) lc (num-three_last (take o b) m c)
+
+-- another number in the place of a part
+abbrev pub replaced : ℕ → ℕ → ℕ → ℕ → ℕ
+replaced s w v n = (n / 2 ^ s / 2 ^ w * 2 ^ w + v) * 2 ^ s + n % 2 ^ s
+
+pub num-put_at : (b : List Bool) (o w s v : ℕ) → o + w + s ≡ length b → v < 2 ^ w → replaced s w v (num b) ≡ num (put_at o (bits w v) b)
+num-put_at b o w s v e fits =
+    let m = bits w v in
+    let c = drop (o + length m) b in
+    let lm : length m ≡ w = length-bits w v in
+    let far : drop (o + w) b ≡ c = ap (λ (k : ℕ). drop (o + k) b) (sym lm) in
+    let lc : length c ≡ s = omega (arith, lm, length-drop (o + length m) b) in
+    let value : num (take o b ++ (m ++ c)) ≡ (num (take o b) * 2 ^ w + v) * 2 ^ s + num c =
+    num-three (take o b) m c ∙ ap (λ (k : ℕ). (num (take o b) * 2 ^ k + num m) * 2 ^ length c + num c) lm
+    ∙ ap (λ (k : ℕ). (num (take o b) * 2 ^ w + num m) * 2 ^ k + num c) lc
+    ∙ ap (λ (x : ℕ). (num (take o b) * 2 ^ w + x) * 2 ^ s + num c) (num-bits_fit w v fits) in
+    ap (λ (x : ℕ). (x * 2 ^ w + v) * 2 ^ s + num b % 2 ^ s) (num-above b o w s e)
+    ∙ ap (λ (x : ℕ). (num (take o b) * 2 ^ w + v) * 2 ^ s + x) (num-behind b o w s e ∙ ap num far) ∙ sym value
+
+length-put : (b : List Bool) (o w s v : ℕ) → o + w + s ≡ length b → length (put_at o (bits w v) b) ≡ length b
+length-put b o w s v e = length-put_at o (bits w v) b (omega (arith, length-bits w v))
+
+pub bits-replaced : (b : List Bool) (o w s v : ℕ) → o + w + s ≡ length b → v < 2 ^ w → bits (length b) (replaced s w v (num b)) ≡ put_at o (bits w v) b
+bits-replaced b o w s v e fits =
+    let x = put_at o (bits w v) b in
+    ap (bits (length b)) (num-put_at b o w s v e fits) ∙ ap (λ (k : ℕ). bits k (num x)) (sym (length-put b o w s v e)) ∙ bits-num x
+
+pub replaced_below : (b : List Bool) (o w s v : ℕ) → o + w + s ≡ length b → v < 2 ^ w → replaced s w v (num b) < 2 ^ length b
+replaced_below b o w s v e fits =
+    let x = put_at o (bits w v) b in
+    let p : 2 ^ length x ≡ 2 ^ length b = ap (λ (k : ℕ). 2 ^ k) (length-put b o w s v e) in
+    omega (arith, num-put_at b o w s v e fits, num_below x, p)
+
+-- the same in numbers of 64 bits
+abbrev pub replaced_word : ℕ → ℕ → ℕ → ℕ → ℕ
+replaced_word s w v n = (n / 2 ^ s / 2 ^ w * 2 ^ w % 2 ^ 64 + v) * 2 ^ s % 2 ^ 64 + n % (1 * 2 ^ s % 2 ^ 64)
+
+pub above_small : (b : List Bool) (w s v : ℕ) → w + s ≤ length b → length b ≤ 40 → v < 2 ^ w → num b / 2 ^ s / 2 ^ w * 2 ^ w + v < 2 ^ 40
+above_small b w s v h small fits =
+    let a = num b / 2 ^ s / 2 ^ w * 2 ^ w + v in
+    let whole = replaced_below b (length b - (w + s)) w s v (omega arith) fits in
+    let most : 2 ^ length b ≤ 2 ^ 40 = pow-le-pow_right {n = 2} (lit< tt) small in
+    let once : a ≤ a * 2 ^ s = le-mul_of_pos_right a (pow_pos s) in
+    omega (arith, whole, most, once)
+
+pub replaced-word : (b : List Bool) (w s v : ℕ) → w + s ≤ length b → length b ≤ 40 → v < 2 ^ w → replaced_word s w v (num b) ≡ replaced s w v (num b)
+replaced-word b w s v h small fits =
+    let f = num b / 2 ^ s / 2 ^ w * 2 ^ w in
+    let above = above_small b w s v h small fits in
+    let whole = replaced_below b (length b - (w + s)) w s v (omega arith) fits in
+    let most : 2 ^ length b ≤ 2 ^ 40 = pow-le-pow_right {n = 2} (lit< tt) small in
+    let first : f % 2 ^ 64 ≡ f = mod-eq_of_lt (omega (arith, above)) in
+    let second : (f + v) * 2 ^ s % 2 ^ 64 ≡ (f + v) * 2 ^ s = mod-eq_of_lt (omega (arith, whole, most)) in
+    let mask : 1 * 2 ^ s % 2 ^ 64 ≡ 2 ^ s = one_shl s 64 (omega arith) in
+    ap (λ (x : ℕ). (x + v) * 2 ^ s % 2 ^ 64 + num b % (1 * 2 ^ s % 2 ^ 64)) first
+    ∙ ap (λ (x : ℕ). x + num b % (1 * 2 ^ s % 2 ^ 64)) second ∙ ap (λ (x : ℕ). (f + v) * 2 ^ s + num b % x) mask
+
+-- ---- the number of a part, and its bits
+
+pub num-part_below : (b : List Bool) (at w : ℕ) → at + w ≤ length b → num (part at w b) < 2 ^ w
+num-part_below b at w h = num_small (part at w b) w (omega (arith, length-part at w b h))
+
+pub bits-num_part : (b : List Bool) (at w : ℕ) → at + w ≤ length b → bits w (num (part at w b)) ≡ part at w b
+bits-num_part b at w h =
+    let p = part at w b in
+    subst (λ (k : ℕ). bits k (num p) ≡ p) (length-part at w b h) (bits-num p)

@@ -1,0 +1,99 @@
+-- Bytes written one after another: those of a number, and those that lie across others.
+use Rattle.std.proofs.Common.{◌≡◌, ℕ, ◌+◌, ◌-◌, ◌*◌, ◌/◌, ◌%◌, ◌^◌, ◌<◌, ◌≤◌, Bool, List, [], ◌∷◌, ◌++◌, length, take, drop, get_or, set, refl, sym, ap, subst, ◌∙◌, arith}
+use Rattle.std.proofs.Math.Seq.{take-add}
+use Rattle.std.proofs.lemmas.Nat.{shr-shr}
+use Rattle.std.proofs.lemmas.List.{length-take, length-drop, drop-drop, drop_more, take_more_set, take_all}
+use Rattle.balise_rules.specs.Bits.{num, bits, part}
+use Rattle.balise_rules.proofs.Numbers.{length-bits, num-bits_fit, bits-num, num-append}
+use Rattle.balise_bits.specs.Bytes.{flat}
+use Rattle.balise_bits.proofs.Pieces.{bits-split, bits-mod, num-part}
+use Rattle.balise_bits.proofs.Putting.{part-part, length-part}
+use Rattle.balise_bits.proofs.Flat.{flat-nil, flat-cons, flat_one, flat-append, flat-part, length-flat}
+
+-- ---- the bytes of a number
+
+-- five writes to five bytes
+pub set_five : (w : List ℕ) (a b c d e : ℕ) → length w ≡ 5 → set (set (set (set (set w 0 a) 1 b) 2 c) 3 d) 4 e ≡ a ∷ b ∷ c ∷ d ∷ e ∷ []
+set_five [] a b c d e h = absurd (omega (arith, h))
+set_five (v ∷ []) a b c d e h = absurd (omega (arith, h))
+set_five (v ∷ w ∷ []) a b c d e h = absurd (omega (arith, h))
+set_five (v ∷ w ∷ x ∷ []) a b c d e h = absurd (omega (arith, h))
+set_five (v ∷ w ∷ x ∷ y ∷ []) a b c d e h = absurd (omega (arith, h))
+set_five (v ∷ w ∷ x ∷ y ∷ z ∷ []) a b c d e h = refl
+set_five (v ∷ w ∷ x ∷ y ∷ z ∷ q ∷ r) a b c d e h = absurd (omega (arith, h))
+
+byte_more : (m n : ℕ) (bs : List ℕ) → flat bs ≡ bits m n → flat (n / 2 ^ m % 256 ∷ bs) ≡ bits (8 + m) n
+byte_more m n bs e =
+    flat-cons (n / 2 ^ m % 256) bs ∙ ap (λ (x : List Bool). x ++ flat bs) (bits-mod 8 (n / 2 ^ m))
+    ∙ ap (λ (x : List Bool). bits 8 (n / 2 ^ m) ++ x) e ∙ sym (bits-split 8 m n)
+
+pub flat-five : (n : ℕ) → flat (n / 2 ^ 32 % 256 ∷ n / 2 ^ 24 % 256 ∷ n / 2 ^ 16 % 256 ∷ n / 2 ^ 8 % 256 ∷ n % 256 ∷ []) ≡ bits 40 n
+flat-five n =
+    let e1 : flat (n % 256 ∷ []) ≡ bits 8 n = flat_one (n % 256) ∙ bits-mod 8 n in
+    let e2 : flat (n / 2 ^ 8 % 256 ∷ n % 256 ∷ []) ≡ bits 16 n = byte_more 8 n (n % 256 ∷ []) e1 in
+    let e3 : flat (n / 2 ^ 16 % 256 ∷ n / 2 ^ 8 % 256 ∷ n % 256 ∷ []) ≡ bits 24 n = byte_more 16 n (n / 2 ^ 8 % 256 ∷ n % 256 ∷ []) e2 in
+    let e4 : flat (n / 2 ^ 24 % 256 ∷ n / 2 ^ 16 % 256 ∷ n / 2 ^ 8 % 256 ∷ n % 256 ∷ []) ≡ bits 32 n = byte_more 24 n (n / 2 ^ 16 % 256 ∷ n / 2 ^ 8 % 256 ∷ n % 256 ∷ []) e3 in
+    byte_more 32 n (n / 2 ^ 24 % 256 ∷ n / 2 ^ 16 % 256 ∷ n / 2 ^ 8 % 256 ∷ n % 256 ∷ []) e4
+
+-- no byte yet
+pub flat_none : (n : ℕ) → flat [] ≡ bits 0 n
+unfolding bits
+flat_none n = flat-nil
+
+-- one byte more
+pub flat-take_more : (w : List ℕ) (i v : ℕ) → i < length w → flat (take (i + 1) (set w i (v % 256))) ≡ flat (take i w) ++ bits 8 v
+flat-take_more w i v h =
+    ap flat (take_more_set w i (v % 256) h) ∙ flat-append (take i w) (v % 256 ∷ [])
+    ∙ ap (λ (x : List Bool). flat (take i w) ++ x) (flat_one (v % 256) ∙ bits-mod 8 v)
+
+pub put_more : (w : List ℕ) (n count i : ℕ) → i < count → length w ≡ count → flat (take i w) ≡ bits (8 * i) (n / 2 ^ (8 * (count - i))) → flat (take (i + 1) (set w i (n / 2 ^ (8 * (count - 1 - i)) % 256))) ≡ bits (8 * (i + 1)) (n / 2 ^ (8 * (count - (i + 1))))
+put_more w n count i h l before =
+    let m = n / 2 ^ (8 * (count - 1 - i)) in
+    let far : 8 * (count - 1 - i) + 8 ≡ 8 * (count - i) = omega arith in
+    let front : m / 2 ^ 8 ≡ n / 2 ^ (8 * (count - i)) = shr-shr n (8 * (count - 1 - i)) 8 ∙ ap (λ (k : ℕ). n / 2 ^ k) far in
+    let size : 8 * i + 8 ≡ 8 * (i + 1) = omega arith in
+    let left : count - 1 - i ≡ count - (i + 1) = omega arith in
+    flat-take_more w i m (omega (arith, l)) ∙ ap (λ (x : List Bool). x ++ bits 8 m) (before ∙ ap (bits (8 * i)) (sym front))
+    ∙ sym (bits-split (8 * i) 8 m) ∙ ap (λ (k : ℕ). bits k m) size ∙ ap (λ (k : ℕ). bits (8 * (i + 1)) (n / 2 ^ (8 * k))) left
+
+pub put_all : (w : List ℕ) (n count i : ℕ) → count ≡ i → length w ≡ count → flat (take i w) ≡ bits (8 * i) (n / 2 ^ (8 * (count - i))) → flat w ≡ bits (8 * count) n
+put_all w n count i e l before =
+    let all : take i w ≡ w = take_all i w (omega (arith, l, e)) in
+    let none : count - i ≡ 0 = omega arith in
+    let whole : n / 2 ^ (8 * (count - i)) ≡ n = ap (λ (k : ℕ). n / 2 ^ (8 * k)) none ∙ omega arith in
+    sym (ap flat all) ∙ before ∙ ap (λ (k : ℕ). bits (8 * k) (n / 2 ^ (8 * (count - i)))) (sym e) ∙ ap (bits (8 * count)) whole
+
+-- ---- bytes that lie across others
+
+num-pair : (a b : ℕ) → a < 256 → b < 256 → num (flat (a ∷ b ∷ [])) ≡ a * 256 + b
+num-pair a b ha hb =
+    ap num (flat-cons a (b ∷ []) ∙ ap (λ (x : List Bool). bits 8 a ++ x) (flat_one b)) ∙ num-append (bits 8 a) (bits 8 b)
+    ∙ rw (length-bits 8 b, num-bits_fit 8 a ha, num-bits_fit 8 b hb) refl
+
+pair_at : (from : List ℕ) (i : ℕ) → i + 2 ≤ length from → take 2 (drop i from) ≡ get_or from i 0 ∷ get_or from (i + 1) 0 ∷ []
+pair_at from i h =
+    ap (take 2) (drop_more from i 0 (omega arith)) ∙ ap (λ (x : List ℕ). get_or from i 0 ∷ take 1 x) (drop_more from (i + 1) 0 (omega arith))
+
+pub across : (from : List ℕ) (shift i a b : ℕ) → shift < 8 → i + 2 ≤ length from → a ≡ get_or from i 0 → b ≡ get_or from (i + 1) 0 → a < 256 → b < 256 → bits 8 ((a * 256 + b) / 2 ^ (8 - shift)) ≡ part (shift + 8 * i) 8 (flat from)
+across from shift i a b low held ea eb ha hb =
+    let w = take 2 (drop i from) in
+    let size : length (flat w) ≡ 16 = omega (arith, length-flat w, length-take 2 (drop i from), length-drop i from) in
+    let value : num (flat w) ≡ a * 256 + b =
+    ap (λ (x : List ℕ). num (flat x)) (pair_at from i held ∙ ap (λ (x : ℕ). x ∷ get_or from (i + 1) 0 ∷ []) (sym ea) ∙ ap (λ (x : ℕ). a ∷ x ∷ []) (sym eb)) ∙ num-pair a b ha hb in
+    let v = num (flat w) / 2 ^ (8 - shift) in
+    let p = part shift 8 (flat w) in
+    let long : length p ≡ 8 = length-part shift 8 (flat w) (omega (arith, size)) in
+    let number : v % 2 ^ 8 ≡ num p = num-part (flat w) shift 8 (8 - shift) (omega (arith, size)) in
+    let own : bits 8 (num p) ≡ p = subst (λ (k : ℕ). bits k (num p) ≡ p) long (bits-num p) in
+    let place : 8 * i + shift ≡ shift + 8 * i = omega arith in
+    ap (λ (x : ℕ). bits 8 (x / 2 ^ (8 - shift))) (sym value) ∙ sym (bits-mod 8 v) ∙ ap (bits 8) number ∙ own
+    ∙ ap (part shift 8) (flat-part i 2 from held) ∙ part-part shift 8 (8 * i) 16 (flat from) (omega arith)
+    ∙ ap (λ (k : ℕ). part k 8 (flat from)) place
+
+pub shifted_more : (out from : List ℕ) (shift i a b : ℕ) → shift < 8 → i < length out → i + 2 ≤ length from → a ≡ get_or from i 0 → b ≡ get_or from (i + 1) 0 → a < 256 → b < 256 → flat (take i out) ≡ part shift (8 * i) (flat from) → flat (take (i + 1) (set out i ((a * 256 + b) / 2 ^ (8 - shift) % 256))) ≡ part shift (8 * (i + 1)) (flat from)
+shifted_more out from shift i a b low h held ea eb ha hb before =
+    let size : 8 * i + 8 ≡ 8 * (i + 1) = omega arith in
+    flat-take_more out i ((a * 256 + b) / 2 ^ (8 - shift)) h
+    ∙ ap (λ (x : List Bool). x ++ bits 8 ((a * 256 + b) / 2 ^ (8 - shift))) before
+    ∙ ap (λ (x : List Bool). part shift (8 * i) (flat from) ++ x) (across from shift i a b low held ea eb ha hb ∙ ap (take 8) (sym (drop-drop (8 * i) shift (flat from))))
+    ∙ sym (take-add (8 * i) 8 (drop shift (flat from))) ∙ ap (λ (k : ℕ). part shift k (flat from)) size

@@ -1,0 +1,7 @@
+use Rattle.std.proofs.Common.{sym, subst, List, ℕ}
+use Rattle.balise_bits.specs.Bytes.{IsPacked}
+use Rattle.balise_bits.proofs.Packing.{packed_none}
+use Rattle.balise_bits.proofs.bits.Bits.new.Goals as goal
+
+pub invariant_of-result : goal.invariant_of-result
+invariant_of-result c = subst (λ (x : List ℕ). IsPacked 0 x) (sym c.new.ensures.items) packed_none

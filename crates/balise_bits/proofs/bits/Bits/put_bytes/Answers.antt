@@ -1,0 +1,70 @@
+use Rattle.std.proofs.Common.{sym, ap, ◌∙◌, length, take, drop, arith, ◌≡◌, ◌+◌, ◌-◌, ◌*◌, ◌/◌, ◌%◌, ◌≤◌, ℕ, List}
+use Rattle.std.proofs.lemmas.List.{length-take, length-drop, take_rest, with_items_is}
+use Rattle.std.specs.Vec.{with_items}
+use borrow.Rule.Slice.PartMut.{put_mid}
+use Rattle.balise_rules.specs.Bits.{part, put_at}
+use Rattle.balise_bits.specs.Bytes.{flat}
+use Rattle.balise_bits.proofs.Flat.{length-flat}
+use Rattle.balise_bits.proofs.Putting.{length-put_at, length-part}
+use Rattle.balise_bits.proofs.Packing.{length-view, flat-bytes_put, part-in_bytes, packed_put, view-put}
+use Rattle.balise_bits.proofs.bits.Bits.put_bytes.Goals as goal
+
+len_held : (c : goal.After-self-1) → c.self.inside.len ≡ length c.args.self.now
+len_held c = sym (length-view c.self.inside.len c.self.inside.bytes.items c.self.invariant) ∙ ap length c.self.view_is
+
+other_held : (c : goal.After-self-1) → c.other.inside.len ≡ length c.args.other.now
+other_held c = sym (length-view c.other.inside.len c.other.inside.bytes.items c.other.invariant) ∙ ap length c.other.view_is
+
+-- the bytes that are written
+part_held : (c : goal.After-self-1) → flat c.fill_shifted.new.out ≡ part c.args.at (8 * c.args.count) c.args.other.now
+part_held c =
+    let first = c.args.to / 8 in
+    let n = first + c.args.count - first in
+    let at = c.args.at in
+    let bytes = c.self.inside.bytes.items in
+    let others = c.other.inside.bytes.items in
+    let len = c.other.inside.len in
+    let held = len_held c in
+    let other_long = other_held c in
+    let now : length c.deref_mut.result.now ≡ length bytes = ap length c.deref_mut.ensures.value in
+    let room : first + c.args.count ≤ length bytes = omega (arith, held, c.self.invariant.whole) in
+    let few : length (take n (drop first c.deref_mut.result.now)) ≡ c.args.count = omega (arith, now, room, length-take n (drop first c.deref_mut.result.now), length-drop first c.deref_mut.result.now) in
+    c.fill_shifted.ensures ∙ ap (λ (k : ℕ). part (at % 8) (8 * k) (flat (take (length c.deref.result.now - at / 8) (drop (at / 8) c.deref.result.now)))) few
+    ∙ ap (λ (l : List ℕ). part (at % 8) (8 * c.args.count) (flat l)) (take_rest c.deref.result.now (at / 8) ∙ ap (drop (at / 8)) c.deref.ensures.value)
+    ∙ part-in_bytes others len at (8 * c.args.count) (omega (arith, c.other.invariant.whole)) (omega (arith, other_long))
+    ∙ ap (part at (8 * c.args.count)) c.other.view_is
+
+items : (c : goal.After-self-1) → flat (with_items c.self.inside.bytes (put_mid (c.args.to / 8) (c.args.to / 8 + c.args.count - c.args.to / 8) c.deref_mut.result.now c.fill_shifted.new.out)).items ≡ put_at c.args.to (part c.args.at (8 * c.args.count) c.args.other.now) (flat c.self.inside.bytes.items)
+items c =
+    let to = c.args.to in
+    let first = to / 8 in
+    let count = c.args.count in
+    let mid = c.fill_shifted.new.out in
+    let bytes = c.self.inside.bytes.items in
+    let new = put_mid first (first + count - first) c.deref_mut.result.now mid in
+    let x = part c.args.at (8 * count) c.args.other.now in
+    let held = len_held c in
+    let long : length x ≡ 8 * count = length-part c.args.at (8 * count) c.args.other.now c.requires.within in
+    let room : to + 8 * count ≤ length (flat bytes) = omega (arith, held, c.self.invariant.whole, length-flat bytes) in
+    let n : first + count - first ≡ count = omega arith in
+    let same : flat new ≡ put_at to x (flat bytes) =
+    ap (λ (l : List ℕ). flat (put_mid first (first + count - first) l mid)) c.deref_mut.ensures.value ∙ ap (λ (k : ℕ). flat (put_mid first k bytes mid)) n
+    ∙ flat-bytes_put bytes mid to first count x (let e : to / 8 ≡ to / 8 = omega arith in e) c.requires.aligned room long (part_held c) in
+    let size : length new ≡ c.self.inside.bytes.len =
+    omega (arith, sym (length-flat new) ∙ ap length same ∙ length-put_at to x (flat bytes) (omega (arith, long, room)) ∙ length-flat bytes, c.deref_mut.ensures.len, ap length c.deref_mut.ensures.value) in
+    ap flat (with_items_is c.self.inside.bytes new size) ∙ same
+
+pub invariant_of-self : goal.invariant_of-self
+invariant_of-self c =
+    let held = len_held c in
+    let x = part c.args.at (8 * c.args.count) c.args.other.now in
+    let long : length x ≡ 8 * c.args.count = length-part c.args.at (8 * c.args.count) c.args.other.now c.requires.within in
+    packed_put c.self.inside.len c.args.to x c.self.inside.bytes.items (with_items c.self.inside.bytes (put_mid (c.args.to / 8) (c.args.to / 8 + c.args.count - c.args.to / 8) c.deref_mut.result.now c.fill_shifted.new.out)).items c.self.invariant (omega (arith, long, held)) (items c)
+
+pub returns : goal.returns
+returns c =
+    let held = len_held c in
+    let x = part c.args.at (8 * c.args.count) c.args.other.now in
+    let long : length x ≡ 8 * c.args.count = length-part c.args.at (8 * c.args.count) c.args.other.now c.requires.within in
+    view-put c.self.inside.len c.args.to x c.self.inside.bytes.items (with_items c.self.inside.bytes (put_mid (c.args.to / 8) (c.args.to / 8 + c.args.count - c.args.to / 8) c.deref_mut.result.now c.fill_shifted.new.out)).items c.self.invariant (omega (arith, long, held)) (items c)
+    ∙ ap (put_at c.args.to x) c.self.view_is

@@ -1,0 +1,77 @@
+//! A list of bits in packed bytes.
+
+ghost use Rattle.std.specs.Prelude.{◌≡◌, ◌≤◌, ◌==◌, [], length, IfOk, IsOkUnless};
+
+mod digits;
+mod equal;
+mod numbers;
+mod parts;
+
+use crate::fault::BitsFault;
+use std::alloc::Global;
+use std::marker::Model;
+
+/// A list of bits, eight in a byte, the most significant first. The bits behind the last one are zero.
+#[derive(Debug, Drop)]
+pub struct Bits {
+    bytes: Vec<u8>,
+    len: usize,
+}
+
+impl Model for Bits {
+    ghost use Rattle.std.specs.Prelude.{List, Bool, take};
+    ghost use Rattle.balise_bits.specs.Bytes.{flat, IsPacked};
+
+    ghost Value = { List Bool };
+
+    ghost view = { λ a. take a.len (flat a.bytes.items) };
+
+    ghost invariant = { λ a. IsPacked a.len a.bytes.items };
+}
+
+impl Bits {
+    /// No bits. Takes no memory.
+    pub fn new(alloc: Global) -> Bits
+        ensures { result ≡ [] }
+    {
+        Bits {
+            bytes: Vec::new(alloc),
+            len: 0,
+        }
+    }
+
+    /// No bits, with room for `len` of them.
+    pub fn with_capacity(alloc: Global, len: usize) -> Result<Bits, BitsFault>
+        ensures ok { IfOk result (λ b. b ≡ []) }
+        ensures fault { IsOkUnless result BitsFault.OutOfMemory }
+    {
+        let bytes = Vec::with_capacity(alloc, len.div_ceil(8))?;
+        Ok(Bits { bytes, len: 0 })
+    }
+
+    /// How many bits there are.
+    pub fn len(&self) -> usize
+        ensures { result ≡ length self.now }
+    {
+        self.len
+    }
+
+    /// Whether there are none.
+    pub fn is_empty(&self) -> bool
+        ensures { result ≡ (length self.now == 0) }
+    {
+        self.len() == 0
+    }
+
+    /// The same bits once more.
+    pub fn copy(&self) -> Result<Bits, BitsFault>
+        ensures ok { IfOk result (λ b. b ≡ self.now) }
+        ensures fault { IsOkUnless result BitsFault.OutOfMemory }
+    {
+        let bytes = Vec::from_slice(*self.bytes.allocator(), &self.bytes)?;
+        Ok(Bits {
+            bytes,
+            len: self.len,
+        })
+    }
+}

@@ -1,0 +1,58 @@
+//! Hexadecimal digits, four bits each.
+
+ghost use Rattle.std.specs.Prelude.{◌≡◌, ◌≢◌, length, IfErr, IfOk, IsOkUnless};
+ghost use Rattle.std.specs.String.{string_bytes};
+ghost use Rattle.balise_rules.specs.Digits.{digits_in, hex_of, read_digits, read_hex};
+ghost use Rattle.balise_bits.specs.Bytes.{flat};
+ghost use Rattle.balise_bits.specs.Faults.{refusal_of};
+
+use crate::bits::Bits;
+use crate::fault::BitsFault;
+use hex::encode;
+use std::alloc::{AllocError, Global};
+
+impl Bits {
+    /// The first `len` bits of a text of hexadecimal digits of either case, which fills whole bytes with zeros.
+    pub fn from_hex(alloc: Global, text: &str, len: usize) -> Result<Bits, BitsFault>
+        ensures ok { IfOk result (λ b. read_hex len text.now ≡ Ok b) }
+        ensures len { IfOk result (λ b. length b ≡ len) }
+        ensures fault { IfErr result (λ e. e ≢ BitsFault.OutOfMemory → read_hex len text.now ≡ Err (refusal_of e)) }
+    {
+        let mut bits = Bits::digits(alloc, text)?;
+        if bits.bytes.len() != len.div_ceil(8) {
+            return Err(BitsFault::BadLength);
+        }
+        if bits.number(len, (bits.len - len) as u32) != 0 {
+            return Err(BitsFault::SpareBits);
+        }
+        bits.len = len;
+        Ok(bits)
+    }
+
+    /// The bits of hexadecimal digits of either case, four each, an even number of them.
+    pub fn digits(alloc: Global, text: &str) -> Result<Bits, BitsFault>
+        ensures ok { IfOk result (λ b. read_digits text.now ≡ Ok b) }
+        ensures fault { IfErr result (λ e. e ≢ BitsFault.OutOfMemory → read_digits text.now ≡ Err (refusal_of e)) }
+    {
+        let bytes = hex::decode(alloc, text)?;
+        let Some(len) = bytes.len().checked_mul(8) else {
+            return Err(BitsFault::OutOfMemory);
+        };
+        Ok(Bits { bytes, len })
+    }
+
+    /// The digits in lower case, two for each byte, the last byte filled with zeros.
+    pub fn to_hex(&self) -> Result<String, BitsFault>
+        ensures ok { IfOk result (λ text. string_bytes text ≡ hex_of self.now) }
+        ensures fault { IsOkUnless result BitsFault.OutOfMemory }
+    {
+        Ok(hex_text(*self.bytes.allocator(), &self.bytes)?)
+    }
+}
+
+// The digits of bytes.
+fn hex_text(alloc: Global, bytes: &[u8]) -> Result<String, AllocError>
+    ensures { IfOk result (λ text. string_bytes text ≡ digits_in (flat bytes.now)) }
+{
+    encode(alloc, bytes)
+}

@@ -1,0 +1,85 @@
+//! Numbers among the bits: read, put in place, added at the end.
+
+ghost use Rattle.std.specs.Prelude.{◌≡◌, ◌+◌, ◌^◌, ◌<◌, ◌≤◌, ◌++◌, length, IsOkUnless, OnErr, OnOk};
+ghost use Rattle.balise_rules.specs.Bits.{bits, num, ones, part, put_at, zeros};
+
+use crate::bits::Bits;
+use crate::fault::BitsFault;
+use crate::window::{WINDOW, number_before, put_over};
+
+impl Bits {
+    /// The number in the `width` bits from the place `at` on.
+    pub fn number(&self, at: usize, width: u32) -> u32
+        requires width { width ≤ 32 }
+        requires within { at + width ≤ length self.now }
+        ensures { result ≡ num (part at width self.now) }
+    {
+        let count = self.bytes.len();
+        let first = at / 8;
+        if first + WINDOW <= count {
+            let behind = 8 * WINDOW - at % 8 - width as usize;
+            return number_before(&self.bytes[first..first + WINDOW], behind, width);
+        }
+        let size = count.min(WINDOW);
+        let first = count - size;
+        let behind = 8 * size - (at - 8 * first) - width as usize;
+        number_before(&self.bytes[first..], behind, width)
+    }
+
+    /// Puts a number over the `width` bits from the place `at` on. All other bits stay.
+    pub fn put(&mut self, at: usize, width: u32, value: u32)
+        requires width { width ≤ 32 }
+        requires within { at + width ≤ length self.old }
+        requires fits { value < 2 ^ width }
+        ensures { self.new ≡ put_at at (bits width value) self.old }
+    {
+        let count = self.bytes.len();
+        let size = count.min(WINDOW);
+        let first = (at / 8).min(count - size);
+        let behind = 8 * size - (at - 8 * first) - width as usize;
+        put_over(&mut self.bytes[first..first + size], behind, width, value);
+    }
+
+    /// Adds the `width` bits of a number at the end. On want of memory the bits stay.
+    pub fn push(&mut self, width: u32, value: u32) -> Result<(), BitsFault>
+        requires width { width ≤ 32 }
+        requires fits { value < 2 ^ width }
+        ensures ok { OnOk result (self.new ≡ self.old ++ bits width value) }
+        ensures err { OnErr result (self.new ≡ self.old) }
+        ensures fault { IsOkUnless result BitsFault.OutOfMemory }
+    {
+        let at = self.len();
+        self.push_zeros(width as usize)?;
+        self.put(at, width, value);
+        Ok(())
+    }
+
+    /// Adds zeros at the end. On want of memory the bits stay.
+    pub fn push_zeros(&mut self, count: usize) -> Result<(), BitsFault>
+        ensures ok { OnOk result (self.new ≡ self.old ++ zeros count) }
+        ensures err { OnErr result (self.new ≡ self.old) }
+        ensures fault { IsOkUnless result BitsFault.OutOfMemory }
+    {
+        let Some(len) = self.len.checked_add(count) else {
+            return Err(BitsFault::OutOfMemory);
+        };
+        self.bytes.resize(len.div_ceil(8), 0)?;
+        self.len = len;
+        Ok(())
+    }
+
+    /// Puts ones over `count` bits from the place `at` on. All other bits stay.
+    pub fn put_ones(&mut self, at: usize, count: usize)
+        requires { at + count ≤ length self.old }
+        ensures { self.new ≡ put_at at (ones count) self.old }
+    {
+        // The length is a number of 64 bits, so the places below are too.
+        let _len = self.len();
+        let mut done = 0;
+        while done < count {
+            let width = (count - done).min(32) as u32;
+            self.put(at + done, width, u32::MAX >> (32 - width));
+            done += width as usize;
+        }
+    }
+}

@@ -1,0 +1,85 @@
+//! Parts of bits: cut out, joined, laid over others.
+
+ghost use Rattle.std.specs.Prelude.{◌≡◌, ◌+◌, ◌*◌, ◌%◌, ◌<◌, ◌≤◌, ◌++◌, length, IfOk, IsOkUnless, OnErr, OnOk};
+ghost use Rattle.balise_rules.specs.Bits.{part, put_at};
+
+use crate::bits::Bits;
+use crate::fault::BitsFault;
+use crate::window::fill_shifted;
+
+impl Bits {
+    /// The `len` bits from the place `at` on.
+    pub fn slice(&self, at: usize, len: usize) -> Result<Bits, BitsFault>
+        requires { at + len ≤ length self.now }
+        ensures ok { IfOk result (λ b. b ≡ part at len self.now) }
+        ensures fault { IsOkUnless result BitsFault.OutOfMemory }
+    {
+        let mut slice = Bits::with_capacity(*self.bytes.allocator(), len)?;
+        slice.append_part(self, at, len)?;
+        Ok(slice)
+    }
+
+    /// Adds all bits of another at the end. On want of memory the bits stay.
+    pub fn append(&mut self, other: &Bits) -> Result<(), BitsFault>
+        ensures ok { OnOk result (self.new ≡ self.old ++ other.now) }
+        ensures err { OnErr result (self.new ≡ self.old) }
+        ensures fault { IsOkUnless result BitsFault.OutOfMemory }
+    {
+        if self.len % 8 != 0 {
+            return self.append_part(other, 0, other.len());
+        }
+        let Some(len) = self.len.checked_add(other.len) else {
+            return Err(BitsFault::OutOfMemory);
+        };
+        self.bytes.extend_from_slice(&other.bytes)?;
+        self.len = len;
+        Ok(())
+    }
+
+    /// Adds the `len` bits of another from the place `at` on at the end. On want of memory the bits stay.
+    pub fn append_part(&mut self, other: &Bits, at: usize, len: usize) -> Result<(), BitsFault>
+        requires { at + len ≤ length other.now }
+        ensures ok { OnOk result (self.new ≡ self.old ++ part at len other.now) }
+        ensures err { OnErr result (self.new ≡ self.old) }
+        ensures fault { IsOkUnless result BitsFault.OutOfMemory }
+    {
+        let to = self.len();
+        self.push_zeros(len)?;
+        self.put_part(to, other, at, len);
+        Ok(())
+    }
+
+    /// Puts the `len` bits of another from the place `at` on over those from the place `to` on. All other bits stay.
+    pub fn put_part(&mut self, to: usize, other: &Bits, at: usize, len: usize)
+        requires within { at + len ≤ length other.now }
+        requires room { to + len ≤ length self.old }
+        ensures { self.new ≡ put_at to (part at len other.now) self.old }
+    {
+        // Lengths are numbers of 64 bits, so the places below are too.
+        let _lengths = (self.len(), other.len());
+        let head = ((8 - to % 8) % 8).min(len);
+        self.put(to, head as u32, other.number(at, head as u32));
+        let whole = (len - head) / 8;
+        self.put_bytes(to + head, other, at + head, whole);
+        let done = head + 8 * whole;
+        let tail = (len - done) as u32;
+        self.put(to + done, tail, other.number(at + done, tail));
+    }
+
+    // Puts `count` times eight bits of another over whole bytes of these.
+    fn put_bytes(&mut self, to: usize, other: &Bits, at: usize, count: usize)
+        requires aligned { 0 < count → to % 8 ≡ 0 }
+        requires within { at + 8 * count ≤ length other.now }
+        requires room { to + 8 * count ≤ length self.old }
+        ensures { self.new ≡ put_at to (part at (8 * count) other.now) self.old }
+    {
+        // Reading a field tells the prover what the type keeps of both.
+        let _lengths = (self.len, other.len);
+        let first = to / 8;
+        fill_shifted(
+            &mut self.bytes[first..first + count],
+            &other.bytes[at / 8..],
+            at % 8,
+        );
+    }
+}

@@ -1,0 +1,63 @@
+//! Why bits aren't read or made.
+
+ghost use Rattle.std.specs.Prelude.{◌≡◌};
+ghost use Rattle.balise_bits.specs.Faults.{refusal_of};
+
+use balise_rules::Refusal;
+use hex::FromHexError;
+use std::alloc::AllocError;
+use thiserror::Error;
+
+/// Why bits aren't read or made.
+#[derive(Clone, Copy, Debug, Error, PartialEq, Eq)]
+pub enum BitsFault {
+    /// A digit isn't hexadecimal, or the number of digits is odd.
+    #[error("a digit isn't hexadecimal, or their number is odd")]
+    BadHex,
+    /// The number of digits isn't the one due.
+    #[error("the number of digits isn't the one due")]
+    BadLength,
+    /// A bit behind the last one isn't zero.
+    #[error("a bit behind the last one isn't zero")]
+    SpareBits,
+    /// Memory ran out.
+    #[error("out of memory")]
+    OutOfMemory,
+}
+
+impl BitsFault {
+    /// The refusal that is printed for it, with its number and its name.
+    pub fn refusal(self) -> Refusal
+        ensures { result ≡ refusal_of self }
+    {
+        match self {
+            BitsFault::BadHex => Refusal::BadHex,
+            BitsFault::BadLength => Refusal::BadLength,
+            BitsFault::SpareBits => Refusal::SpareBits,
+            BitsFault::OutOfMemory => Refusal::OutOfMemory,
+        }
+    }
+}
+
+impl From<AllocError> for BitsFault {
+    ghost use Rattle.balise_bits.specs.declared.fault.BitsFault.TheVariants.{OutOfMemory};
+
+    ghost from_gives = { λ _ e. e ≡ OutOfMemory };
+
+    fn from(_e: AllocError) -> BitsFault {
+        BitsFault::OutOfMemory
+    }
+}
+
+impl From<FromHexError> for BitsFault {
+    ghost use Rattle.balise_bits.specs.Faults.{fault_of};
+
+    ghost from_gives = { λ error fault. fault ≡ fault_of error };
+
+    fn from(error: FromHexError) -> BitsFault {
+        match error {
+            FromHexError::OutOfMemory => BitsFault::OutOfMemory,
+            _ => BitsFault::BadHex,
+        }
+    }
+}

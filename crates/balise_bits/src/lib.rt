@@ -1,0 +1,13 @@
+//! Bits of telegrams and packets, kept in packed bytes and seen by contracts as a list of bits:
+//! numbers are read and put in place, parts are cut out and joined, and hexadecimal digits are read
+//! and written.
+#![tactic(auto)]
+
+mod bits;
+mod fault;
+#[cfg(test)]
+mod tests;
+mod window;
+
+pub use bits::Bits;
+pub use fault::BitsFault;

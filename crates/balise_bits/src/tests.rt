@@ -1,0 +1,206 @@
+//! Each public call once, on telegrams of 210 and 830 bits.
+
+use crate::{Bits, BitsFault};
+use balise_rules::Refusal;
+use std::alloc::Global;
+use std::process::Abort;
+use std::test::Fail;
+
+// A header, packet 255 and ones behind it: 210 bits and six zeros.
+const SHORT: &str = "a1007f80a0327fffffffffffffffffffffffffffffffffffffffc0";
+
+// The same text with 830 bits and two zeros.
+fn long(alloc: Global) -> Result<String, Fail> {
+    let mut text = String::from_str(alloc, "a1007f80a0327f")?;
+    for _ in 0..96 {
+        text.push_str("ff")?;
+    }
+    text.push_str("fc")?;
+    Ok(text)
+}
+
+fn check_hex<R: Abort>(rt: &R, bits: &Bits, hex: &str) -> Result<(), Fail> {
+    let text = bits.to_hex()?;
+    assert_eq!(rt; text.as_str(), hex);
+    Ok(())
+}
+
+fn check_read<R: Abort>(rt: &R, alloc: Global, hex: &str, len: usize) -> Result<(), Fail> {
+    let bits = Bits::from_hex(alloc, hex, len)?;
+    assert_eq!(rt; bits.len(), len);
+    check_hex(rt, &bits, hex)
+}
+
+#[test]
+fn telegrams_are_read_and_printed(rt: HostRuntime) -> Result<(), Fail> {
+    check_read(&rt, rt.alloc(), SHORT, 210)?;
+    let text = long(rt.alloc())?;
+    check_read(&rt, rt.alloc(), text.as_str(), 830)
+}
+
+fn check_refused<R: Abort>(rt: &R, alloc: Global, hex: &str, fault: BitsFault) {
+    let answer = Bits::from_hex(alloc, hex, 210);
+    assert_eq!(rt; answer.err(), Some(fault), "{hex}");
+}
+
+#[test]
+fn wrong_texts_are_refused(rt: HostRuntime) {
+    let spare = "a1007f80a0327fffffffffffffffffffffffffffffffffffffffc1";
+    let cut = "a1007f80a0327fffffffffffffffffffffffffffffffffffffff";
+    let bad = "a1007f80a0327fffffffffffffffffffffffffffffffffffffffcg";
+    let odd = "a1007f80a0327fffffffffffffffffffffffffffffffffffffffc";
+    check_refused(&rt, rt.alloc(), spare, BitsFault::SpareBits);
+    check_refused(&rt, rt.alloc(), cut, BitsFault::BadLength);
+    check_refused(&rt, rt.alloc(), bad, BitsFault::BadHex);
+    check_refused(&rt, rt.alloc(), odd, BitsFault::BadHex);
+    assert_eq!(rt; BitsFault::SpareBits.refusal(), Refusal::SpareBits);
+}
+
+#[test]
+fn digits_of_both_cases_are_read(rt: HostRuntime) -> Result<(), Fail> {
+    let bits = Bits::digits(rt.alloc(), "A1007F80a0327f")?;
+    assert_eq!(rt; bits.len(), 56);
+    check_hex(&rt, &bits, "a1007f80a0327f")?;
+    assert_eq!(rt;
+        Bits::digits(rt.alloc(), "a10").err(),
+        Some(BitsFault::BadHex)
+    );
+    assert_eq!(rt;
+        Bits::digits(rt.alloc(), "a1:0").err(),
+        Some(BitsFault::BadHex)
+    );
+    Ok(())
+}
+
+fn check_number<R: Abort>(rt: &R, bits: &Bits, at: usize, width: u32, number: u32) {
+    let len = bits.len();
+    assert!(rt; width <= 32);
+    assert!(rt; at <= len);
+    assert!(rt; width as usize <= len - at);
+    assert_eq!(rt; bits.number(at, width), number, "{width} bits from {at}");
+}
+
+#[test]
+fn numbers_are_read(rt: HostRuntime) -> Result<(), Fail> {
+    let bits = Bits::from_hex(rt.alloc(), SHORT, 210)?;
+    check_number(&rt, &bits, 1, 7, 33);
+    check_number(&rt, &bits, 17, 8, 255);
+    check_number(&rt, &bits, 25, 10, 5);
+    check_number(&rt, &bits, 35, 14, 100);
+    check_number(&rt, &bits, 17, 32, 4278272100);
+    check_number(&rt, &bits, 3, 32, 134478853);
+    check_number(&rt, &bits, 178, 32, 4294967295);
+    check_number(&rt, &bits, 210, 0, 0);
+    Ok(())
+}
+
+#[test]
+fn a_number_is_put(rt: HostRuntime) -> Result<(), Fail> {
+    let mut bits = Bits::from_hex(rt.alloc(), SHORT, 210)?;
+    assert_eq!(rt; bits.len(), 210);
+    bits.put(17, 8, 254);
+    let hex = "a1007f00a0327fffffffffffffffffffffffffffffffffffffffc0";
+    check_hex(&rt, &bits, hex)
+}
+
+#[test]
+fn a_wide_number_is_put(rt: HostRuntime) -> Result<(), Fail> {
+    let mut bits = Bits::from_hex(rt.alloc(), SHORT, 210)?;
+    assert_eq!(rt; bits.len(), 210);
+    bits.put(7, 32, 0x12345678);
+    let hex = "a02468acf0327fffffffffffffffffffffffffffffffffffffffc0";
+    check_hex(&rt, &bits, hex)
+}
+
+fn slice<R: Abort>(rt: &R, bits: &Bits, at: usize, len: usize) -> Result<Bits, Fail> {
+    let held = bits.len();
+    assert!(rt; at <= held);
+    assert!(rt; len <= held - at);
+    Ok(bits.slice(at, len)?)
+}
+
+#[test]
+fn slices_are_cut(rt: HostRuntime) -> Result<(), Fail> {
+    let bits = Bits::from_hex(rt.alloc(), SHORT, 210)?;
+    check_hex(&rt, &slice(&rt, &bits, 0, 50)?, "a1007f80a03240")?;
+    check_hex(&rt, &slice(&rt, &bits, 25, 24)?, "014064")?;
+    check_hex(&rt, &slice(&rt, &bits, 16, 33)?, "7f80a03200")?;
+    let hex = "0803fc050193fffffffffffffffffffffffffffffffff0";
+    check_hex(&rt, &slice(&rt, &bits, 3, 180)?, hex)?;
+    check_hex(&rt, &slice(&rt, &bits, 0, 210)?, SHORT)?;
+    check_hex(&rt, &slice(&rt, &bits, 50, 0)?, "")
+}
+
+#[test]
+fn bits_are_joined(rt: HostRuntime) -> Result<(), Fail> {
+    let bits = Bits::from_hex(rt.alloc(), SHORT, 210)?;
+    let mut joined = slice(&rt, &bits, 0, 50)?;
+    joined.append(&bits)?;
+    let hex = "a1007f80a03268401fe0280c9ffffffffffffffffffffffffffffffffffffffff0";
+    check_hex(&rt, &joined, hex)?;
+    let mut joined = slice(&rt, &bits, 0, 48)?;
+    joined.append(&bits)?;
+    let hex = "a1007f80a032a1007f80a0327fffffffffffffffffffffffffffffffffffffffc0";
+    check_hex(&rt, &joined, hex)
+}
+
+#[test]
+fn parts_are_joined(rt: HostRuntime) -> Result<(), Fail> {
+    let bits = Bits::from_hex(rt.alloc(), SHORT, 210)?;
+    assert_eq!(rt; bits.len(), 210);
+    let mut joined = slice(&rt, &bits, 0, 50)?;
+    joined.append_part(&bits, 13, 61)?;
+    check_hex(&rt, &joined, "a1007f80a03243fc050193fffffe")?;
+    let mut joined = slice(&rt, &bits, 0, 48)?;
+    joined.append_part(&bits, 8, 61)?;
+    check_hex(&rt, &joined, "a1007f80a032007f80a0327ffff8")
+}
+
+#[test]
+fn bits_grow(rt: HostRuntime) -> Result<(), Fail> {
+    let mut bits = Bits::with_capacity(rt.alloc(), 80)?;
+    assert!(rt; bits.is_empty());
+    bits.append(&Bits::digits(rt.alloc(), "a1007f80a032")?)?;
+    bits.push(2, 1)?;
+    bits.push(8, 66)?;
+    bits.push(8, 0xff)?;
+    check_hex(&rt, &bits, "a1007f80a03250bfc0")?;
+    bits.push_zeros(20)?;
+    check_hex(&rt, &bits, "a1007f80a03250bfc00000")?;
+    let mut bits = Bits::new(rt.alloc());
+    bits.push(3, 5)?;
+    check_hex(&rt, &bits, "a0")
+}
+
+#[test]
+fn a_part_is_put(rt: HostRuntime) -> Result<(), Fail> {
+    let other = Bits::from_hex(rt.alloc(), SHORT, 210)?;
+    let mut bits = other.copy()?;
+    assert_eq!(rt; other.len(), 210);
+    assert_eq!(rt; bits.len(), 210);
+    bits.put_part(60, &other, 9, 100);
+    let hex = "a1007f80a0327ff00ff014064fffffffffffffffffffffffffffc0";
+    check_hex(&rt, &bits, hex)?;
+    check_hex(&rt, &other, SHORT)
+}
+
+#[test]
+fn ones_are_put(rt: HostRuntime) -> Result<(), Fail> {
+    let mut bits = Bits::new(rt.alloc());
+    bits.push_zeros(80)?;
+    assert_eq!(rt; bits.len(), 80);
+    bits.put_ones(3, 70);
+    check_hex(&rt, &bits, "1fffffffffffffffff80")
+}
+
+#[test]
+fn bits_are_compared(rt: HostRuntime) -> Result<(), Fail> {
+    let bits = Bits::from_hex(rt.alloc(), SHORT, 210)?;
+    let same = slice(&rt, &bits, 0, 210)?;
+    let short = slice(&rt, &bits, 0, 209)?;
+    let other = Bits::digits(rt.alloc(), SHORT)?;
+    assert!(rt; bits == same);
+    assert!(rt; bits != short);
+    assert!(rt; bits != other);
+    Ok(())
+}

@@ -1,0 +1,36 @@
+-- Texts that were written one after another, all of them or up to a fault.
+use Rattle.std.proofs.Common.{◌≡◌, ℕ, ◌-◌, List, [], ◌++◌, length, take, drop, Option, refl, sym, ap, ◌∙◌, append_assoc, append-nil, take-append-drop}
+use Rattle.std.proofs.lemmas.List.{take_rest}
+use Rattle.std.specs.Io.KnownBytes.{Appends}
+use Rattle.std.proofs.KnownBytes.{Appends-nil, Appends-trans}
+use Rattle.balise_lines.specs.Writing.{AppendsSome}
+
+-- the writer took the first n bytes of the rest
+pub rest_shrinks : (text done rest : List ℕ) (n : ℕ) → text ≡ done ++ rest → text ≡ (done ++ take n rest) ++ take (length rest - n) (drop n rest)
+rest_shrinks text done rest n e =
+    e ∙ ap (λ l. done ++ l) (sym (take-append-drop n rest)) ∙ sym (append_assoc done (take n rest) (drop n rest))
+    ∙ ap (λ l. (done ++ take n rest) ++ l) (sym (take_rest rest n))
+
+-- nothing was written: it is a beginning of any text
+pub some_nothing : (old : Option (List ℕ)) (text : List ℕ) → AppendsSome old old text
+some_nothing old text = record { done = []; begins = (text, refl); appended = Appends-nil old }
+
+-- all of the text was written
+pub some_all : (old new : Option (List ℕ)) (text : List ℕ) → Appends old new text → AppendsSome old new text
+some_all old new text p = record { done = text; begins = ([], append-nil text); appended = p }
+
+-- a beginning of the first text was written: it is a beginning of both
+pub some_front : (old new : Option (List ℕ)) (xs ys : List ℕ) → AppendsSome old new xs → AppendsSome old new (xs ++ ys)
+some_front old new xs ys w = record {
+  done = w.done;
+  begins = (w.begins.0 ++ ys, sym (append_assoc w.done w.begins.0 ys) ∙ ap (λ t. t ++ ys) w.begins.1);
+  appended = w.appended;
+}
+
+-- the first text was written, and a beginning of the second
+pub some_after : (old mid new : Option (List ℕ)) (xs ys : List ℕ) → Appends old mid xs → AppendsSome mid new ys → AppendsSome old new (xs ++ ys)
+some_after old mid new xs ys p w = record {
+  done = xs ++ w.done;
+  begins = (w.begins.0, append_assoc xs w.done w.begins.0 ∙ ap (λ t. xs ++ t) w.begins.1);
+  appended = Appends-trans old mid new _ _ p w.appended;
+}

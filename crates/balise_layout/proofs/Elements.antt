@@ -1,0 +1,100 @@
+-- The identities found along the fields of a packet are those of its elements.
+use Rattle.std.proofs.Common.{◌≡◌, ℕ, suc, ◌-◌, ◌≤◌, Bool, true, false, cond, List, [], ◌∷◌, ◌++◌, refl, sym, ap, subst, ◌∙◌, append_assoc, arith}
+use Rattle.std.proofs.lemmas.List.{append-nil}
+use Rattle.balise_rules.specs.declared.variable.Var.{Var}
+use Rattle.balise_rules.specs.declared.variable.Var.TheVariants.{NidC, NidBg}
+use Rattle.balise_rules.specs.declared.identity.Id.{Id}
+use Rattle.balise_rules.specs.Variables.{width_of}
+use Rattle.balise_rules.specs.Tags.{Key, same_var, same_key, is_of}
+use Rattle.balise_rules.specs.Forms.{Fields, Numbered, NumberedFrom, count_of}
+use Rattle.balise_rules.specs.Packet.{Packet}
+use Rattle.balise_rules.specs.Names.{country_at, links_among, links_of}
+use Rattle.balise_layout.specs.Walks.{kept}
+use Rattle.balise_layout.specs.Linked.{link}
+use Rattle.balise_layout.proofs.Keys.{same_var_is, same_var_self, other_var, same_key_is, same_key_self, count_of-push_same, count_of-push_le}
+
+-- the country in force behind some fields
+abbrev country_after : ℕ → Fields → ℕ
+country_after c [] = c
+country_after c (f ∷ fs) = cond (is_of NidC f.0) (country_after f.1 fs) (country_after c fs)
+
+country_after-push : (c : ℕ) (fs : Fields) (f : Key × ℕ) → country_after c (fs ++ f ∷ []) ≡ cond (is_of NidC f.0) f.1 (country_after c fs)
+country_after-push c [] f = refl
+country_after-push c (g ∷ fs) f = at (is_of NidC g.0) (country_after-push g.1 fs f) (country_after-push c fs f)
+  where
+    at : (b : Bool) → country_after g.1 (fs ++ f ∷ []) ≡ cond (is_of NidC f.0) f.1 (country_after g.1 fs) → country_after c (fs ++ f ∷ []) ≡ cond (is_of NidC f.0) f.1 (country_after c fs) → cond b (country_after g.1 (fs ++ f ∷ [])) (country_after c (fs ++ f ∷ [])) ≡ cond (is_of NidC f.0) f.1 (cond b (country_after g.1 fs) (country_after c fs))
+    at true p q = p
+    at false p q = q
+
+-- none of these fields is the number of the group that element k names
+abbrev NoNumber : ℕ → Fields → Type 0
+NoNumber k [] = Unit {0}
+NoNumber k (f ∷ fs) = (same_key (NidBg, k) f.0 ≡ false) × NoNumber k fs
+
+NoNumber-push : (k : ℕ) (fs : Fields) (f : Key × ℕ) → NoNumber k fs → same_key (NidBg, k) f.0 ≡ false → NoNumber k (fs ++ f ∷ [])
+NoNumber-push k [] f m e = (e, tt)
+NoNumber-push k (g ∷ fs) f m e = (m.0, NoNumber-push k fs f m.1 e)
+
+-- the fields in front of element k put its country in force
+country_before : (c k : ℕ) (before : Fields) (f : Key × ℕ) (fs : Fields) → NoNumber k before → (NidBg, k) ≡ f.0 → country_at c k (before ++ f ∷ fs) ≡ country_after c before
+country_before c k [] f fs m e =
+    let other : is_of NidC f.0 ≡ false = ap (is_of NidC) (sym e) in
+    let here : same_key (NidBg, k) f.0 ≡ true = same_key_self (NidBg, k) f.0 e in
+    rw (other, here) refl
+country_before c k (g ∷ before) f fs m e = at (is_of NidC g.0) (country_before g.1 k before f fs m.1 e) (country_before c k before f fs m.1 e)
+  where
+    at : (b : Bool) → country_at g.1 k (before ++ f ∷ fs) ≡ country_after g.1 before → country_at c k (before ++ f ∷ fs) ≡ country_after c before → cond b (country_at g.1 k (before ++ f ∷ fs)) (cond (same_key (NidBg, k) g.0) c (country_at c k (before ++ f ∷ fs))) ≡ cond b (country_after g.1 before) (country_after c before)
+    at true p q = p
+    at false p q = rw m.0 q
+
+-- elements yet to come are none of those seen
+abbrev Later : Fields → Type 0
+Later seen = (k : ℕ) → count_of NidBg seen ≤ k → NoNumber k seen
+
+later-push : (seen : Fields) (f : Key × ℕ) → f.0.1 ≡ count_of f.0.0 seen → Later seen → Later (seen ++ f ∷ [])
+later-push seen f m later k h = NoNumber-push k seen f (later k (omega (arith, h, count_of-push_le NidBg seen f))) (at (same_key (NidBg, k) f.0) refl)
+  where
+    at : (b : Bool) → same_key (NidBg, k) f.0 ≡ b → b ≡ false
+    at false e = refl
+    at true e =
+        let key : (NidBg, k) ≡ f.0 = same_key_is (NidBg, k) f.0 e in
+        let k_is : k ≡ count_of NidBg seen = ap (λ (x : Key). x.1) key ∙ m ∙ ap (λ (x : Key). count_of x.0 seen) (sym key) in
+        let more : count_of NidBg (seen ++ f ∷ []) ≡ suc (count_of NidBg seen) = count_of-push_same NidBg seen f (same_var_self NidBg f.0.0 (ap (λ (x : Key). x.0) key)) in
+        absurd (omega (arith, h, k_is, more))
+
+same_var-swap : (a b : Var) (x : Bool) → same_var a b ≡ x → same_var b a ≡ x
+same_var-swap a b true e = same_var_self b a (sym (same_var_is a b e))
+same_var-swap a b false e = other_var b a (λ h. let bad : true ≡ false = sym (same_var_self a b (sym h)) ∙ e in absurd cc)
+
+abbrev an_id : ℕ → ℕ → Id
+an_id c n = record { country = c; number = n }
+
+links_from : (c n : ℕ) (seen fs : Fields) (ids : List Id) → NumberedFrom seen fs → Later seen → (kept link (country_after c seen, ids) n fs).1 ≡ ids ++ links_among c (seen ++ fs) fs
+links_from c n seen [] ids m later = sym (append-nil ids)
+links_from c n seen (f ∷ fs) ids m later = at (same_var f.0.0 NidC) (same_var f.0.0 NidBg) refl refl (λ (more : List Id). links_from c (n - width_of f.0.0) (seen ++ f ∷ []) fs more m.1 (later-push seen f m.0 later) ∙ ap (λ (x : Fields). more ++ links_among c x fs) (append_assoc seen (f ∷ []) fs))
+  where
+    at : (a b : Bool) → same_var f.0.0 NidC ≡ a → same_var f.0.0 NidBg ≡ b → ((more : List Id) → (kept link (country_after c (seen ++ f ∷ []), more) (n - width_of f.0.0) fs).1 ≡ more ++ links_among c (seen ++ f ∷ fs) fs) → (kept link (cond a (f.1, ids) (cond b (country_after c seen, ids ++ an_id (country_after c seen) f.1 ∷ []) (country_after c seen, ids))) (n - width_of f.0.0) fs).1 ≡ ids ++ cond (is_of NidBg f.0) (an_id (country_at c f.0.1 (seen ++ f ∷ fs)) f.1 ∷ links_among c (seen ++ f ∷ fs) fs) (links_among c (seen ++ f ∷ fs) fs)
+    at true b is is' rest =
+        let v : f.0.0 ≡ NidC = same_var_is f.0.0 NidC is in
+        let country : country_after c (seen ++ f ∷ []) ≡ f.1 = country_after-push c seen f ∙ ap (λ (x : Bool). cond x f.1 (country_after c seen)) (same_var-swap f.0.0 NidC true is) in
+        let other : is_of NidBg f.0 ≡ false = ap (same_var NidBg) v in
+        let P : ℕ → Type 0 = λ x. (kept link (x, ids) (n - width_of f.0.0) fs).1 ≡ ids ++ links_among c (seen ++ f ∷ fs) fs in
+        rw other (subst P country (rest ids))
+    at false true is is' rest =
+        let v : NidBg ≡ f.0.0 = sym (same_var_is f.0.0 NidBg is') in
+        let country : country_after c (seen ++ f ∷ []) ≡ country_after c seen = country_after-push c seen f ∙ ap (λ (x : Bool). cond x f.1 (country_after c seen)) (same_var-swap f.0.0 NidC false is) in
+        let own : is_of NidBg f.0 ≡ true = same_var-swap f.0.0 NidBg true is' in
+        let key : (NidBg, f.0.1) ≡ f.0 = ap (λ (x : Var). (x, f.0.1)) v in
+        let count : f.0.1 ≡ count_of NidBg seen = m.0 ∙ ap (λ (x : Var). count_of x seen) (sym v) in
+        let force : country_at c f.0.1 (seen ++ f ∷ fs) ≡ country_after c seen = country_before c f.0.1 seen f fs (later f.0.1 (omega (arith, count))) key in
+        let P : ℕ → Type 0 = λ x. (kept link (x, ids ++ an_id (country_after c seen) f.1 ∷ []) (n - width_of f.0.0) fs).1 ≡ ids ++ (an_id (country_after c seen) f.1 ∷ links_among c (seen ++ f ∷ fs) fs) in
+        rw (own, force) (subst P country (rest (ids ++ an_id (country_after c seen) f.1 ∷ []) ∙ append_assoc ids (an_id (country_after c seen) f.1 ∷ []) (links_among c (seen ++ f ∷ fs) fs)))
+    at false false is is' rest =
+        let country : country_after c (seen ++ f ∷ []) ≡ country_after c seen = country_after-push c seen f ∙ ap (λ (x : Bool). cond x f.1 (country_after c seen)) (same_var-swap f.0.0 NidC false is) in
+        let other : is_of NidBg f.0 ≡ false = same_var-swap f.0.0 NidBg false is' in
+        let P : ℕ → Type 0 = λ x. (kept link (x, ids) (n - width_of f.0.0) fs).1 ≡ ids ++ links_among c (seen ++ f ∷ fs) fs in
+        rw other (subst P country (rest ids))
+
+-- along a whole packet
+pub links_found : (c n : ℕ) (p : Packet) → Numbered p.fields → (kept link (c, []) n p.fields).1 ≡ links_of c p
+links_found c n p m = links_from c n [] p.fields [] m (λ k h. tt)

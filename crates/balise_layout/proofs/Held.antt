@@ -1,0 +1,93 @@
+-- What a type of packets does with its bits: it reads them, goes over them, and puts values into them.
+use Rattle.std.proofs.Common.{◌≡◌, ◌↔◌, ℕ, ◌+◌, ◌-◌, ◌^◌, ◌<◌, ◌≤◌, Bool, false, List, [], length, take, drop, Some, None, Ok, Err, refl, sym, ap, subst, ◌∙◌, arith}
+use Rattle.std.proofs.lemmas.List.{take_all}
+use Rattle.balise_rules.specs.declared.variable.Var.{Var}
+use Rattle.balise_rules.specs.Variables.{width_of, steers}
+use Rattle.balise_rules.specs.Bits.{num, bits, put_at}
+use Rattle.balise_rules.specs.Forms.{Form, Fields, Matches, read_form}
+use Rattle.balise_rules.specs.Packets.{packet, is_known, body}
+use Rattle.balise_rules.specs.Packet.{Packet, bits_of, width, length_said, IsSpelt}
+use Rattle.balise_layout.specs.declared.fault.LayoutFault.{LayoutFault}
+use Rattle.balise_layout.specs.declared.fault.LayoutFault.TheVariants.{LayoutMismatch}
+use Rattle.balise_layout.specs.Walks.{walk, kept, collect}
+use Rattle.balise_layout.specs.Held.{headed, held, Holds, IsHeld, Steady, before, with_field}
+use Rattle.balise_layout.specs.Versions.{SpeltWhere}
+use Rattle.balise_layout.proofs.Walks.{good, some_is, walk_again, walk_found, walk_fails, walk_fault, found_or_none, read_form_is}
+use Rattle.balise_layout.proofs.Spelt.{read_spelling, head_of, Front, front_alone, holds_read, read_holds, held_is, is_held}
+use Rattle.balise_layout.proofs.Setting.{Holds-put}
+use Rattle.balise_layout.proofs.Places.{standing}
+
+-- ---- reading
+
+-- bits that were gone over to the end are a packet's
+pub walked_held : {A : Type 0} (step : A → ℕ → Var → ℕ → A) (next : ℕ → Form) (a : A) (b : List Bool) (after : A × List Bool) → walk step (headed next) (a, b) ≡ Ok after → length_said b ≡ length b → IsHeld next b
+walked_held step next a b after e said =
+    let f = walk_found [] step (headed next) a b after e in
+    let read : read_form (headed next) [] b ≡ Some (f.fields, after.1) = ap (read_form (headed next) []) f.parts ∙ read_spelling (headed next) f.fields after.1 f.matches f.numbered in
+    is_held next b (record { fields = f.fields; rest = after.1 }) (holds_read next b f.fields after.1 read said)
+
+pub held_read : (next : ℕ → Form) (b : List Bool) (p : Packet) → IsHeld next b → p ≡ held next b → read_form (headed next) [] b ≡ Some (p.fields, p.rest)
+held_read next b p h e = read_holds next b (held next b) h ∙ ap (λ (q : Packet). Some (q.fields, q.rest)) (sym e)
+
+-- bits that could not be gone over are no packet
+pub walked_none : {A : Type 0} (step : A → ℕ → Var → ℕ → A) (form : Form) (a : A) (b : List Bool) (e : LayoutFault) → walk step form (a, b) ≡ Err e → (e ≡ LayoutMismatch) × (read_form form [] b ≡ None)
+walked_none step form a b e h =
+    (walk_fault step form a b e h, read_form_is form [] b ∙ ap found_or_none (walk_fails step collect form a [] b e h))
+
+-- ---- going over a packet
+
+whole_part : (b : List Bool) (n : ℕ) → n ≡ length b → take (n - 0) (drop 0 b) ≡ b
+whole_part b n e = take_all (n - 0) b (omega (arith, e))
+
+walk_is : {A : Type 0} (step : A → ℕ → Var → ℕ → A) (next : ℕ → Form) (a : A) (b : List Bool) (p : Packet) (n : ℕ) (old : A × List Bool) → Holds next b p → n ≡ length b → old ≡ (a, take (n - 0) (drop 0 b)) → walk step (headed next) old ≡ Ok (kept step a (width p) p.fields, p.rest)
+walk_is {A = A} step next a b p n old h all start =
+    let same : old ≡ (a, bits_of p) = start ∙ ap (λ (x : List Bool). (a, x)) (whole_part b n all ∙ h.spelt) in
+    ap (walk step (headed next)) same ∙ walk_again step (headed next) p.fields a p.rest h.form
+
+pub visited : {A : Type 0} (step : A → ℕ → Var → ℕ → A) (next : ℕ → Form) (a : A) (b : List Bool) (p : Packet) (n : ℕ) (old after : A × List Bool) → Holds next b p → n ≡ length b → old ≡ (a, take (n - 0) (drop 0 b)) → walk step (headed next) old ≡ Ok after → after.0 ≡ kept step a (width p) p.fields
+visited {A = A} step next a b p n old after h all start e =
+    ap (λ (x : A × List Bool). x.0) (some_is after (kept step a (width p) p.fields, p.rest) (sym e ∙ walk_is step next a b p n old h all start))
+
+pub not_stuck : {A : Type 0} (step : A → ℕ → Var → ℕ → A) (next : ℕ → Form) (a : A) (b : List Bool) (p : Packet) (n : ℕ) (old : A × List Bool) (e : LayoutFault) → Holds next b p → n ≡ length b → old ≡ (a, take (n - 0) (drop 0 b)) → walk step (headed next) old ≡ Err e → ⊥
+not_stuck {A = A} step next a b p n old e h all start is = differ (kept step a (width p) p.fields, p.rest) e (sym (walk_is step next a b p n old h all start) ∙ is)
+  where
+    differ : (x : A × List Bool) (e : LayoutFault) → good x ≡ Err e → ⊥
+    differ x e k = cc
+
+-- ---- putting a value
+
+pub holds_own : (next : ℕ → Form) (b : List Bool) (p : Packet) → Holds next b p → Holds next (bits_of p) p
+holds_own next b p h = subst (λ (x : List Bool). Holds next x p) h.spelt h
+
+pub placed_within : (next : ℕ → Form) (b : List Bool) (p : Packet) (v : Var) (k d : ℕ) → Holds next b p → before (v, k) p.fields ≡ Some d → d + width_of v ≤ length (bits_of p)
+placed_within next b p v k d h e = (standing v k p.fields p.rest d e).within
+
+pub put_held : (next : ℕ → Form) (b : List Bool) (p : Packet) (v : Var) (k n d : ℕ) → ((m : ℕ) → Steady (next m)) → steers v ≡ false → n < 2 ^ width_of v → Holds next b p → before (v, k) p.fields ≡ Some d → IsHeld next (put_at d (bits (width_of v) n) (bits_of p)) × (held next (put_at d (bits (width_of v) n) (bits_of p)) ≡ with_field v k n p)
+put_held next b p v k n d s free fit h e =
+    let new = Holds-put next (bits_of p) p v k n d s free fit (holds_own next b p h) e in
+    (is_held next _ (with_field v k n p) new, held_is next _ (with_field v k n p) new)
+
+-- ---- which versions spell it
+
+pub number_at : (next : ℕ → Form) (b : List Bool) (p : Packet) (h : Holds next b p) → Front b (head_of next p.fields p.rest h.form h.numbered).number (head_of next p.fields p.rest h.form h.numbered).size
+number_at next b p h =
+    let a = head_of next p.fields p.rest h.form h.numbered in
+    subst (λ (x : List Bool). Front x a.number a.size) (sym h.spelt) (front_alone next p.fields p.rest a)
+
+pub spelt_where : (next : ℕ → Form) (known : Bool) (version : ℕ) (b : List Bool) (p : Packet) → SpeltWhere next known → Holds next b p → (is_known version (num (take 8 b)) ≡ known) ↔ IsSpelt version p
+unfolding packet
+spelt_where next known version b p w h =
+    let a = head_of next p.fields p.rest h.form h.numbered in
+    let own = holds_own next b p h in
+    let n : num (take 8 b) ≡ a.number = (number_at next b p h).has_number in
+    let test : is_known version (num (take 8 b)) ≡ is_known version a.number = ap (is_known version) n in
+    let m = subst (λ (x : Fields). Matches (headed next) x p.rest) a.is h.form in
+    let iff = w version a.number a.more p.rest a.matches in (
+      λ e. record {
+        spelt = refl;
+        form = subst (λ (x : Fields). Matches (headed (body version)) x p.rest) (sym a.is) (refl, m.1, (refl, m.2.1, (refl, m.2.2.1, iff.1 (sym test ∙ e))));
+        numbered = h.numbered;
+        said = own.said;
+      },
+      λ s. test ∙ iff.0 ((subst (λ (x : Fields). Matches (headed (body version)) x p.rest) a.is s.form).2.2.2),
+    )

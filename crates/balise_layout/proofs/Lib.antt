@@ -1,0 +1,13 @@
+pub mod Walks
+pub mod Spelt
+pub mod First
+pub mod Keys
+pub mod Places
+pub mod Setting
+pub mod Held
+pub mod Bodies
+pub mod Counts
+pub mod Searches
+pub mod Elements
+pub mod Refused
+pub mod Values

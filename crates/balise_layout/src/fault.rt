@@ -1,0 +1,83 @@
+//! Why a packet isn't read, shown or changed.
+
+ghost use Rattle.std.specs.Prelude.{◌≡◌};
+ghost use Rattle.balise_layout.specs.Faults.{refusal_of};
+
+use balise_bits::BitsFault;
+use balise_rules::Refusal;
+use std::alloc::{AllocError, AllocFailed};
+use thiserror::Error;
+
+/// Why a packet isn't read, shown or changed.
+#[derive(Clone, Copy, Debug, Error, PartialEq, Eq)]
+pub enum LayoutFault {
+    /// The packet is shorter than its first three fields, or runs past the end.
+    #[error("the packet is shorter than its first three fields, or runs past the end")]
+    PacketCut,
+    /// The fields don't end with the packet, or have a spare value that isn't read.
+    #[error("the fields don't end with the packet, or have a spare value that isn't read")]
+    LayoutMismatch,
+    /// Packet 0 has no length.
+    #[error("packet 0 has no length")]
+    PacketZero,
+    /// The packet hasn't this variable, or not so often.
+    #[error("the packet hasn't this variable, or not so often")]
+    NoSuchVariable,
+    /// The variable says what follows it, or belongs to another edit.
+    #[error("the variable isn't set in place")]
+    Steering,
+    /// The value doesn't fit the width of the variable.
+    #[error("the value doesn't fit the width of the variable")]
+    ValueTooWide,
+    /// Memory ran out.
+    #[error("out of memory")]
+    OutOfMemory,
+}
+
+impl LayoutFault {
+    /// The refusal that is printed for it, with its number and its name.
+    pub fn refusal(self) -> Refusal
+        ensures { result ≡ refusal_of self }
+    {
+        match self {
+            LayoutFault::PacketCut => Refusal::PacketCut,
+            LayoutFault::LayoutMismatch => Refusal::LayoutMismatch,
+            LayoutFault::PacketZero => Refusal::PacketZero,
+            LayoutFault::NoSuchVariable => Refusal::NoSuchVariable,
+            LayoutFault::Steering => Refusal::Steering,
+            LayoutFault::ValueTooWide => Refusal::ValueTooWide,
+            LayoutFault::OutOfMemory => Refusal::OutOfMemory,
+        }
+    }
+}
+
+impl From<AllocError> for LayoutFault {
+    ghost use Rattle.balise_layout.specs.declared.fault.LayoutFault.TheVariants.{OutOfMemory};
+
+    ghost from_gives = { λ _ e. e ≡ OutOfMemory };
+
+    fn from(_e: AllocError) -> LayoutFault {
+        LayoutFault::OutOfMemory
+    }
+}
+
+impl<T: Drop> From<AllocFailed<T>> for LayoutFault {
+    ghost use Rattle.balise_layout.specs.declared.fault.LayoutFault.TheVariants.{OutOfMemory};
+
+    ghost from_gives = { λ _ e. e ≡ OutOfMemory };
+
+    fn from(_e: AllocFailed<T>) -> LayoutFault {
+        LayoutFault::OutOfMemory
+    }
+}
+
+/// The calls of bits that packets make lack nothing but memory.
+impl From<BitsFault> for LayoutFault {
+    ghost use Rattle.balise_layout.specs.declared.fault.LayoutFault.TheVariants.{OutOfMemory};
+
+    ghost from_gives = { λ _ e. e ≡ OutOfMemory };
+
+    fn from(_e: BitsFault) -> LayoutFault {
+        LayoutFault::OutOfMemory
+    }
+}

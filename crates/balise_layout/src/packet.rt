@@ -1,0 +1,206 @@
+//! A packet of a telegram.
+
+ghost use Rattle.std.specs.Prelude.{◌≡◌, ◌↔◌, ◌++◌, ◌<◌, ◌^◌, ℕ, IfOk, IsOkUnless, IsTrue, OnErr, OnOk};
+ghost use Rattle.balise_rules.specs.declared.variable.Var.TheVariants.{NidPacket, QDir};
+ghost use Rattle.balise_rules.specs.Packet.{bits_of, field_of, value, width, IsSpelt};
+ghost use Rattle.balise_rules.specs.Names.{links_of};
+ghost use Rattle.balise_layout.specs.Collected.{all_keyed};
+ghost use Rattle.balise_layout.specs.First.{LiesAt, ReadsFirst};
+ghost use Rattle.balise_layout.specs.Held.{before};
+ghost use Rattle.balise_layout.specs.Kinds.{shown_of};
+ghost use Rattle.balise_layout.specs.Setting.{flipped, renamed, turned, Sets};
+
+use crate::bounds::bounds;
+use crate::collect::Collect;
+use crate::fault::LayoutFault;
+use crate::kind::Kind;
+use crate::links::Links;
+use crate::search::Search;
+use balise_bits::Bits;
+use balise_rules::{Id, Var};
+use std::alloc::Global;
+use std::marker::Model;
+
+/// A packet: its fields in bit order and, where it isn't known, the rest of its bits.
+#[derive(Debug, Drop)]
+pub struct Packet {
+    kind: Kind,
+}
+
+impl Model for Packet {
+    ghost use Rattle.balise_rules.specs.Packet as rules;
+    ghost use Rattle.balise_layout.specs.Kinds.{shown_of};
+
+    ghost Value = { rules.Packet };
+
+    ghost view = { λ p. shown_of p.kind };
+}
+
+impl Packet {
+    /// Reads the packet at the place `at` of a telegram of this M_VERSION, and answers the place behind it too.
+    /// Nothing is read behind the length in L_PACKET.
+    pub fn read(bits: &Bits, at: usize, version: u32) -> Result<(Packet, usize), LayoutFault>
+        ensures first { ReadsFirst version bits.now at result }
+        ensures lies { LiesAt version bits.now at result }
+    {
+        let (number, end) = bounds(bits, at)?;
+        let kind = Kind::read(bits, at, end, version, number)?;
+        Ok((Packet { kind }, end))
+    }
+
+    /// What kind of packet it is.
+    pub fn kind(&self) -> &Kind
+        ensures { shown_of result.now ≡ self.now }
+    {
+        &self.kind
+    }
+
+    /// Adds the packet's bits at the end of others. On want of memory those stay.
+    pub fn write(&self, out: &mut Bits) -> Result<(), LayoutFault>
+        ensures ok { OnOk result (out.new ≡ out.old ++ bits_of self.now) }
+        ensures err { OnErr result (out.new ≡ out.old) }
+        ensures fault { IsOkUnless result LayoutFault.OutOfMemory }
+    {
+        out.append(self.kind.bits())?;
+        Ok(())
+    }
+
+    /// How many bits it has.
+    pub fn width(&self) -> usize
+        ensures { result ≡ width self.now }
+    {
+        self.kind.bits().len()
+    }
+
+    /// NID_PACKET.
+    pub fn number(&self) -> u32
+        ensures { result ≡ value NidPacket 0 self.now.fields }
+    {
+        self.kind.bits().number(0, 8)
+    }
+
+    /// Q_DIR.
+    pub fn q_dir(&self) -> u32
+        ensures { result ≡ value QDir 0 self.now.fields }
+    {
+        self.kind.bits().number(8, 2)
+    }
+
+    /// Whether a telegram of this M_VERSION may hold it.
+    pub fn is_spelt(&self, version: u32) -> bool
+        ensures { IsTrue result ↔ IsSpelt version self.now }
+    {
+        self.kind.is_spelt(version)
+    }
+
+    /// Its fields in bit order: variable, occurrence from 0, and value.
+    pub fn fields(&self, alloc: Global) -> Result<Vec<(Var, u32, u32)>, LayoutFault>
+        ensures ok { IfOk result (λ fields. all_keyed fields.items ≡ self.now.fields) }
+        ensures fault { IsOkUnless result LayoutFault.OutOfMemory }
+    {
+        Ok(self.kind.visit(Collect::new(alloc))?.into_fields())
+    }
+
+    /// The identities of its elements, one each in order, with number 16383 kept, in a telegram of this country.
+    pub fn links(&self, alloc: Global, country: u32) -> Result<Vec<Id>, LayoutFault>
+        ensures ok { IfOk result (λ links. links.items ≡ links_of country self.now) }
+        ensures fault { IsOkUnless result LayoutFault.OutOfMemory }
+    {
+        Ok(
+            self.kind
+                .visit(Links::new(alloc, country))?
+                .into_identities(),
+        )
+    }
+
+    /// The value of the occurrence `k`, from 0, of a variable.
+    pub fn field(&self, var: Var, k: u32) -> Option<u32>
+        ensures { result ≡ field_of var k self.now.fields }
+    {
+        let Some(at) = self.place_of(var, k) else {
+            return None;
+        };
+        Some(self.kind.bits().number(at, var.width()))
+    }
+
+    /// Sets an occurrence of a variable and answers the old value. Takes no memory.
+    pub fn set_field(&mut self, var: Var, k: u32, value: u32) -> Result<u32, LayoutFault>
+        ensures sets { Sets var k value self.old result self.new }
+        ensures spelt { (version : ℕ) → IsSpelt version self.old → IsSpelt version self.new }
+    {
+        let Some(at) = self.place_of(var, k) else {
+            return Err(LayoutFault::NoSuchVariable);
+        };
+        if var.steers() {
+            return Err(LayoutFault::Steering);
+        }
+        let width = var.width();
+        if value >> width != 0 {
+            return Err(LayoutFault::ValueTooWide);
+        }
+        let old = self.kind.bits().number(at, width);
+        self.kind.put_field(at, var, value);
+        Ok(old)
+    }
+
+    /// Exchanges the directions 0 and 1 in Q_DIR. Takes no memory.
+    pub fn flip_dir(&mut self)
+        ensures turned { self.new ≡ turned self.old }
+        ensures spelt { (version : ℕ) → IsSpelt version self.old → IsSpelt version self.new }
+    {
+        let dir = self.kind.bits().number(8, 2);
+        if dir < 2 {
+            self.kind.put_field(8, Var::QDir, 1 - dir);
+        }
+    }
+
+    /// Flips Q_LINKORIENTATION of element `k`, where it has one. Takes no memory.
+    pub fn flip_link(&mut self, k: u32)
+        ensures flipped { self.new ≡ flipped k self.old }
+        ensures spelt { (version : ℕ) → IsSpelt version self.old → IsSpelt version self.new }
+    {
+        if let Some(at) = self.place_of(Var::QLinkorientation, k) {
+            let old = self.kind.bits().number(at, 1);
+            self.kind.put_field(at, Var::QLinkorientation, 1 - old);
+        }
+    }
+
+    /// Sets NID_BG of element `k`, where it stands. Takes no memory.
+    pub fn name_link(&mut self, k: u32, number: u32)
+        requires { number < 2 ^ 14 }
+        ensures renamed { self.new ≡ renamed k number self.old }
+        ensures spelt { (version : ℕ) → IsSpelt version self.old → IsSpelt version self.new }
+    {
+        if let Some(at) = self.place_of(Var::NidBg, k) {
+            self.kind.put_field(at, Var::NidBg, number);
+        }
+    }
+
+    /// The same packet once more.
+    pub fn copy(&self) -> Result<Packet, LayoutFault>
+        ensures ok { IfOk result (λ packet. packet ≡ self.now) }
+        ensures fault { IsOkUnless result LayoutFault.OutOfMemory }
+    {
+        Ok(Packet {
+            kind: self.kind.copy()?,
+        })
+    }
+
+    // How many bits stand before an occurrence of a variable.
+    fn place_of(&self, var: Var, k: u32) -> Option<usize>
+        ensures { result ≡ before (var, k) self.now.fields }
+    {
+        let search = Search {
+            var,
+            skip: k,
+            found: None,
+        };
+        let Ok(search) = self.kind.visit(search) else {
+            return None;
+        };
+        match search.found {
+            Some(left) => Some(self.width() - left),
+            None => None,
+        }
+    }
+}

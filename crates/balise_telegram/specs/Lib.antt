@@ -1,0 +1,3 @@
+pub mod HeaderFields
+pub mod Reading
+pub mod Faults

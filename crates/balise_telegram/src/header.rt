@@ -1,0 +1,108 @@
+//! The header of a telegram.
+
+ghost use Rattle.std.specs.Prelude.{◌≡◌, ◌≤◌, ◌++◌, [], length, OnErr, OnOk, IsOkUnless};
+ghost use Rattle.balise_rules.specs.Forms.{spelling};
+ghost use Rattle.balise_rules.specs.Packet.{field_of, value};
+ghost use Rattle.balise_rules.specs.Telegram.{is_balise, read_header};
+ghost use Rattle.balise_rules.specs.declared.variable.Var.TheVariants.{MVersion};
+
+use balise_bits::{Bits, BitsFault};
+use balise_rules::Var;
+use std::marker::Model;
+
+/// The ten fields of a header, 50 bits (SUBSET-026, 8.4.2).
+#[derive(Debug, Drop)]
+pub struct Header {
+    q_updown: u32,
+    m_version: u32,
+    q_media: u32,
+    n_pig: u32,
+    n_total: u32,
+    m_dup: u32,
+    m_mcount: u32,
+    nid_c: u32,
+    nid_bg: u32,
+    q_link: u32,
+}
+
+impl Model for Header {
+    ghost use Rattle.balise_rules.specs.Forms.{Fields};
+    ghost use Rattle.balise_telegram.specs.HeaderFields.{fields_of, AreFitting};
+
+    ghost Value = { Fields };
+
+    ghost view = { λ h. fields_of h.q_updown h.m_version h.q_media h.n_pig h.n_total h.m_dup h.m_mcount h.nid_c h.nid_bg h.q_link };
+
+    ghost invariant = { λ h. AreFitting h.q_updown h.m_version h.q_media h.n_pig h.n_total h.m_dup h.m_mcount h.nid_c h.nid_bg h.q_link };
+}
+
+impl Header {
+    /// The header at the front of a telegram's bits.
+    pub fn read(bits: &Bits) -> Header
+        requires { 50 ≤ length bits.now }
+        ensures { result ≡ read_header bits.now }
+    {
+        Header {
+            q_updown: bits.number(0, 1),
+            m_version: bits.number(1, 7),
+            q_media: bits.number(8, 1),
+            n_pig: bits.number(9, 3),
+            n_total: bits.number(12, 3),
+            m_dup: bits.number(15, 2),
+            m_mcount: bits.number(17, 8),
+            nid_c: bits.number(25, 10),
+            nid_bg: bits.number(35, 14),
+            q_link: bits.number(49, 1),
+        }
+    }
+
+    /// Writes its 50 bits at the end of others.
+    pub fn write(&self, bits: &mut Bits) -> Result<(), BitsFault>
+        ensures ok { OnOk result (bits.new ≡ bits.old ++ spelling self.now) }
+        ensures fault { IsOkUnless result BitsFault.OutOfMemory }
+    {
+        bits.push(1, self.q_updown)?;
+        bits.push(7, self.m_version)?;
+        bits.push(1, self.q_media)?;
+        bits.push(3, self.n_pig)?;
+        bits.push(3, self.n_total)?;
+        bits.push(2, self.m_dup)?;
+        bits.push(8, self.m_mcount)?;
+        bits.push(10, self.nid_c)?;
+        bits.push(14, self.nid_bg)?;
+        bits.push(1, self.q_link)
+    }
+
+    /// M_VERSION.
+    pub fn version(&self) -> u32
+        ensures { result ≡ value MVersion 0 self.now }
+    {
+        self.m_version
+    }
+
+    /// Whether it is from track to train, and a balise's.
+    pub fn is_balise(&self) -> bool
+        ensures { result ≡ is_balise self.now }
+    {
+        (self.q_updown == 1) & (self.q_media == 0)
+    }
+
+    /// The value of a variable, where a header has it.
+    pub fn get(&self, var: Var) -> Option<u32>
+        ensures { result ≡ field_of var 0 self.now }
+    {
+        match var {
+            Var::QUpdown => Some(self.q_updown),
+            Var::MVersion => Some(self.m_version),
+            Var::QMedia => Some(self.q_media),
+            Var::NPig => Some(self.n_pig),
+            Var::NTotal => Some(self.n_total),
+            Var::MDup => Some(self.m_dup),
+            Var::MMcount => Some(self.m_mcount),
+            Var::NidC => Some(self.nid_c),
+            Var::NidBg => Some(self.nid_bg),
+            Var::QLink => Some(self.q_link),
+            _ => None,
+        }
+    }
+}

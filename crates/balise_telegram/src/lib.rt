@@ -1,0 +1,13 @@
+//! Telegrams (SUBSET-026, 8.4.2): header, tagged packets and padding.
+#![tactic(auto)]
+
+mod fault;
+mod header;
+mod telegram;
+
+pub use fault::TelegramFault;
+pub use header::Header;
+pub use telegram::Telegram;
+
+#[cfg(test)]
+mod tests;

@@ -4,6 +4,7 @@ set -eu
 cd "$(dirname "$0")/.."
 
 program=$PWD/crates/balise_bench/out/balise_bench
+mkdir -p crates/balise_bench/out
 (cd crates/balise_bench && rt run -- digits < stdin > out/digits.stdout 2> out/digits.log)
 
 for _ in 1 2 3; do

@@ -11,16 +11,12 @@ use thiserror::Error;
 /// Why bits aren't read or made.
 #[derive(Clone, Copy, Debug, Error, PartialEq, Eq)]
 pub enum BitsFault {
-    /// A digit isn't hexadecimal, or the number of digits is odd.
     #[error("a digit isn't hexadecimal, or their number is odd")]
     BadHex,
-    /// The number of digits isn't the one due.
     #[error("the number of digits isn't the one due")]
     BadLength,
-    /// A bit behind the last one isn't zero.
     #[error("a bit behind the last one isn't zero")]
     SpareBits,
-    /// Memory ran out.
     #[error("out of memory")]
     OutOfMemory,
 }

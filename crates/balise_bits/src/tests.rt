@@ -72,6 +72,25 @@ fn digits_of_both_cases_are_read(rt: HostRuntime) -> Result<(), Fail> {
     Ok(())
 }
 
+#[test]
+fn bytes_are_read_as_digits(rt: HostRuntime) -> Result<(), Fail> {
+    let bits = Bits::from_hex_bytes(rt.alloc(), SHORT.as_bytes(), 210)?;
+    assert_eq!(rt; bits.len(), 210);
+    check_hex(&rt, &bits, SHORT)?;
+    let bits = Bits::digits_in_bytes(rt.alloc(), b"A1007F80a0327f")?;
+    assert_eq!(rt; bits.len(), 56);
+    check_hex(&rt, &bits, "a1007f80a0327f")?;
+    assert_eq!(rt;
+        Bits::from_hex_bytes(rt.alloc(), b"a1\xff0", 16).err(),
+        Some(BitsFault::BadHex)
+    );
+    assert_eq!(rt;
+        Bits::digits_in_bytes(rt.alloc(), b"a1\xff0").err(),
+        Some(BitsFault::BadHex)
+    );
+    Ok(())
+}
+
 fn check_number<R: Abort>(rt: &R, bits: &Bits, at: usize, width: u32, number: u32) {
     let len = bits.len();
     assert!(rt; width <= 32);

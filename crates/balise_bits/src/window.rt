@@ -15,6 +15,7 @@ fn joined(a: u8, b: u8, c: u8, d: u8) -> u32
 }
 
 /// The number that at most eight bytes hold, the first byte highest.
+#[inline(always)]
 pub(crate) fn number_in(window: &[u8]) -> u64
     requires { length window.now ≤ 8 }
     ensures { result ≡ num (flat window.now) }
@@ -53,6 +54,7 @@ pub(crate) fn put_in(window: &mut [u8], number: u64)
 }
 
 /// The number in the `width` bits with `behind` bits behind them.
+#[inline(always)]
 pub(crate) fn number_before(window: &[u8], behind: usize, width: u32) -> u32
     requires few { length window.now ≤ 5 }
     requires within { behind + width ≤ 8 * length window.now }

@@ -8,28 +8,21 @@ use balise_rules::Refusal;
 use std::alloc::{AllocError, AllocFailed};
 use thiserror::Error;
 
-/// Why a packet isn't read, shown or changed.
+/// Why a packet isn't read, shown or changed, as the text of each says.
 #[derive(Clone, Copy, Debug, Error, PartialEq, Eq)]
 pub enum LayoutFault {
-    /// The packet is shorter than its first three fields, or runs past the end.
     #[error("the packet is shorter than its first three fields, or runs past the end")]
     PacketCut,
-    /// The fields don't end with the packet, or have a spare value that isn't read.
     #[error("the fields don't end with the packet, or have a spare value that isn't read")]
     LayoutMismatch,
-    /// Packet 0 has no length.
     #[error("packet 0 has no length")]
     PacketZero,
-    /// The packet hasn't this variable, or not so often.
     #[error("the packet hasn't this variable, or not so often")]
     NoSuchVariable,
-    /// The variable says what follows it, or belongs to another edit.
     #[error("the variable isn't set in place")]
     Steering,
-    /// The value doesn't fit the width of the variable.
     #[error("the value doesn't fit the width of the variable")]
     ValueTooWide,
-    /// Memory ran out.
     #[error("out of memory")]
     OutOfMemory,
 }

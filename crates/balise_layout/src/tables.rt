@@ -1,7 +1,8 @@
 //! The tables of the known packets (SUBSET-026, chapter 7), one field after another as the standard lists them.
 
 ghost use Rattle.std.specs.Prelude.{◌≡◌};
-ghost use Rattle.balise_rules.specs.Packets.{counted, difference, gradient, gradients, level, levels, link, linking, restriction, revocation, section, speeds};
+ghost use Rattle.balise_rules.specs.Forms.{Form};
+ghost use Rattle.balise_rules.specs.Packets.{counted, gradients, levels, linking, restriction, revocation, speeds};
 ghost use Rattle.balise_layout.specs.Reading.{Reads};
 
 use crate::fault::LayoutFault;
@@ -9,33 +10,49 @@ use crate::visit::Visit;
 use crate::walker::Walker;
 use balise_rules::Var;
 
-/// An element of packet 5.
-#[tactic(auto, unfolding(balise_rules::specs::Packets::link))]
-fn walk_link<V: Visit + Drop>(walker: &mut Walker<V>) -> Result<(), LayoutFault>
-    ensures { Reads V.allocates V.step link walker.old result walker.new }
-{
-    walker.take(Var::DLink)?;
-    let new_country = walker.take(Var::QNewcountry)?;
-    if new_country == 1 {
-        walker.take(Var::NidC)?;
-    }
-    walker.take(Var::NidBg)?;
-    walker.take(Var::QLinkorientation)?;
-    walker.take(Var::QLinkreaction)?;
-    walker.take(Var::QLocacc)?;
-    Ok(())
+/// A part of a packet that may stand several times.
+trait Part {
+    /// Its fields, before those that follow.
+    ghost form: { Form → Form };
+
+    /// Goes over one.
+    fn walk<V: Visit + Drop>(walker: &mut Walker<V>) -> Result<(), LayoutFault>
+        ensures { Reads V.allocates V.step form walker.old result walker.new };
 }
 
-/// N_ITER and as many elements.
+/// N_ITER and as many parts.
 #[tactic(auto, unfolding(balise_rules::specs::Packets::counted), using(crate::proofs::Walks::repeat_next, crate::proofs::Walks::repeat_last))]
-fn walk_links<V: Visit + Drop>(walker: &mut Walker<V>) -> Result<(), LayoutFault>
-    ensures { Reads V.allocates V.step (counted link) walker.old result walker.new }
+fn walk_counted<P: Part, V: Visit + Drop>(walker: &mut Walker<V>) -> Result<(), LayoutFault>
+    ensures { Reads V.allocates V.step (counted P.form) walker.old result walker.new }
 {
     let more = walker.take(Var::NIter)?;
     for _ in 0..more {
-        walk_link(walker)?;
+        P::walk(walker)?;
     }
     Ok(())
+}
+
+/// An element of packet 5.
+struct Link;
+
+impl Part for Link {
+    ghost use Rattle.balise_rules.specs.Packets.{link};
+
+    ghost form = { link };
+
+    #[tactic(auto, unfolding(balise_rules::specs::Packets::link))]
+    fn walk<V: Visit + Drop>(walker: &mut Walker<V>) -> Result<(), LayoutFault> {
+        walker.take(Var::DLink)?;
+        let new_country = walker.take(Var::QNewcountry)?;
+        if new_country == 1 {
+            walker.take(Var::NidC)?;
+        }
+        walker.take(Var::NidBg)?;
+        walker.take(Var::QLinkorientation)?;
+        walker.take(Var::QLinkreaction)?;
+        walker.take(Var::QLocacc)?;
+        Ok(())
+    }
 }
 
 /// Packet 5, linking, behind its first three fields.
@@ -44,32 +61,26 @@ pub fn walk_linking<V: Visit + Drop>(walker: &mut Walker<V>) -> Result<(), Layou
     ensures { Reads V.allocates V.step linking walker.old result walker.new }
 {
     walker.take(Var::QScale)?;
-    walk_link(walker)?;
-    walk_links(walker)?;
+    Link::walk(walker)?;
+    walk_counted::<Link, V>(walker)?;
     Ok(())
 }
 
 /// A gradient of packet 21.
-#[tactic(auto, unfolding(balise_rules::specs::Packets::gradient))]
-fn walk_gradient<V: Visit + Drop>(walker: &mut Walker<V>) -> Result<(), LayoutFault>
-    ensures { Reads V.allocates V.step gradient walker.old result walker.new }
-{
-    walker.take(Var::DGradient)?;
-    walker.take(Var::QGdir)?;
-    walker.take(Var::GA)?;
-    Ok(())
-}
+struct Gradient;
 
-/// N_ITER and as many gradients.
-#[tactic(auto, unfolding(balise_rules::specs::Packets::counted), using(crate::proofs::Walks::repeat_next, crate::proofs::Walks::repeat_last))]
-fn walk_gradients<V: Visit + Drop>(walker: &mut Walker<V>) -> Result<(), LayoutFault>
-    ensures { Reads V.allocates V.step (counted gradient) walker.old result walker.new }
-{
-    let more = walker.take(Var::NIter)?;
-    for _ in 0..more {
-        walk_gradient(walker)?;
+impl Part for Gradient {
+    ghost use Rattle.balise_rules.specs.Packets.{gradient};
+
+    ghost form = { gradient };
+
+    #[tactic(auto, unfolding(balise_rules::specs::Packets::gradient))]
+    fn walk<V: Visit + Drop>(walker: &mut Walker<V>) -> Result<(), LayoutFault> {
+        walker.take(Var::DGradient)?;
+        walker.take(Var::QGdir)?;
+        walker.take(Var::GA)?;
+        Ok(())
     }
-    Ok(())
 }
 
 /// Packet 21, gradient profile, behind its first three fields.
@@ -78,63 +89,51 @@ pub fn walk_gradient_profile<V: Visit + Drop>(walker: &mut Walker<V>) -> Result<
     ensures { Reads V.allocates V.step gradients walker.old result walker.new }
 {
     walker.take(Var::QScale)?;
-    walk_gradient(walker)?;
-    walk_gradients(walker)?;
+    Gradient::walk(walker)?;
+    walk_counted::<Gradient, V>(walker)?;
     Ok(())
 }
 
 /// A speed for one category of trains; Q_DIFF 3 is spare.
-#[tactic(auto, unfolding(balise_rules::specs::Packets::difference), using(crate::proofs::Walks::walk_never))]
-fn walk_difference<V: Visit + Drop>(walker: &mut Walker<V>) -> Result<(), LayoutFault>
-    ensures { Reads V.allocates V.step difference walker.old result walker.new }
-{
-    match walker.take(Var::QDiff)? {
-        0 => {
-            walker.take(Var::NcCddiff)?;
-        }
-        3 => return Err(LayoutFault::LayoutMismatch),
-        _ => {
-            walker.take(Var::NcDiff)?;
-        }
-    }
-    walker.take(Var::VDiff)?;
-    Ok(())
-}
+struct Difference;
 
-/// N_ITER and as many differences.
-#[tactic(auto, unfolding(balise_rules::specs::Packets::counted), using(crate::proofs::Walks::repeat_next, crate::proofs::Walks::repeat_last))]
-fn walk_differences<V: Visit + Drop>(walker: &mut Walker<V>) -> Result<(), LayoutFault>
-    ensures { Reads V.allocates V.step (counted difference) walker.old result walker.new }
-{
-    let more = walker.take(Var::NIter)?;
-    for _ in 0..more {
-        walk_difference(walker)?;
+impl Part for Difference {
+    ghost use Rattle.balise_rules.specs.Packets.{difference};
+
+    ghost form = { difference };
+
+    #[tactic(auto, unfolding(balise_rules::specs::Packets::difference), using(crate::proofs::Walks::walk_never))]
+    fn walk<V: Visit + Drop>(walker: &mut Walker<V>) -> Result<(), LayoutFault> {
+        match walker.take(Var::QDiff)? {
+            0 => {
+                walker.take(Var::NcCddiff)?;
+            }
+            3 => return Err(LayoutFault::LayoutMismatch),
+            _ => {
+                walker.take(Var::NcDiff)?;
+            }
+        }
+        walker.take(Var::VDiff)?;
+        Ok(())
     }
-    Ok(())
 }
 
 /// A section of packet 27.
-#[tactic(auto, unfolding(balise_rules::specs::Packets::section))]
-fn walk_section<V: Visit + Drop>(walker: &mut Walker<V>) -> Result<(), LayoutFault>
-    ensures { Reads V.allocates V.step section walker.old result walker.new }
-{
-    walker.take(Var::DStatic)?;
-    walker.take(Var::VStatic)?;
-    walker.take(Var::QFront)?;
-    walk_differences(walker)?;
-    Ok(())
-}
+struct Section;
 
-/// N_ITER and as many sections.
-#[tactic(auto, unfolding(balise_rules::specs::Packets::counted), using(crate::proofs::Walks::repeat_next, crate::proofs::Walks::repeat_last))]
-fn walk_sections<V: Visit + Drop>(walker: &mut Walker<V>) -> Result<(), LayoutFault>
-    ensures { Reads V.allocates V.step (counted section) walker.old result walker.new }
-{
-    let more = walker.take(Var::NIter)?;
-    for _ in 0..more {
-        walk_section(walker)?;
+impl Part for Section {
+    ghost use Rattle.balise_rules.specs.Packets.{section};
+
+    ghost form = { section };
+
+    #[tactic(auto, unfolding(balise_rules::specs::Packets::section))]
+    fn walk<V: Visit + Drop>(walker: &mut Walker<V>) -> Result<(), LayoutFault> {
+        walker.take(Var::DStatic)?;
+        walker.take(Var::VStatic)?;
+        walker.take(Var::QFront)?;
+        walk_counted::<Difference, V>(walker)?;
+        Ok(())
     }
-    Ok(())
 }
 
 /// Packet 27, static speed profile, behind its first three fields.
@@ -143,34 +142,28 @@ pub fn walk_speed_profile<V: Visit + Drop>(walker: &mut Walker<V>) -> Result<(),
     ensures { Reads V.allocates V.step speeds walker.old result walker.new }
 {
     walker.take(Var::QScale)?;
-    walk_section(walker)?;
-    walk_sections(walker)?;
+    Section::walk(walker)?;
+    walk_counted::<Section, V>(walker)?;
     Ok(())
 }
 
 /// A level; level 1 is followed by the national system.
-#[tactic(auto, unfolding(balise_rules::specs::Packets::level))]
-fn walk_level<V: Visit + Drop>(walker: &mut Walker<V>) -> Result<(), LayoutFault>
-    ensures { Reads V.allocates V.step level walker.old result walker.new }
-{
-    let level = walker.take(Var::MLeveltr)?;
-    if level == 1 {
-        walker.take(Var::NidNtc)?;
-    }
-    walker.take(Var::LAckleveltr)?;
-    Ok(())
-}
+struct Level;
 
-/// N_ITER and as many levels.
-#[tactic(auto, unfolding(balise_rules::specs::Packets::counted), using(crate::proofs::Walks::repeat_next, crate::proofs::Walks::repeat_last))]
-fn walk_levels<V: Visit + Drop>(walker: &mut Walker<V>) -> Result<(), LayoutFault>
-    ensures { Reads V.allocates V.step (counted level) walker.old result walker.new }
-{
-    let more = walker.take(Var::NIter)?;
-    for _ in 0..more {
-        walk_level(walker)?;
+impl Part for Level {
+    ghost use Rattle.balise_rules.specs.Packets.{level};
+
+    ghost form = { level };
+
+    #[tactic(auto, unfolding(balise_rules::specs::Packets::level))]
+    fn walk<V: Visit + Drop>(walker: &mut Walker<V>) -> Result<(), LayoutFault> {
+        let level = walker.take(Var::MLeveltr)?;
+        if level == 1 {
+            walker.take(Var::NidNtc)?;
+        }
+        walker.take(Var::LAckleveltr)?;
+        Ok(())
     }
-    Ok(())
 }
 
 /// Packet 41, level transition order, behind its first three fields.
@@ -180,8 +173,8 @@ pub fn walk_level_transition<V: Visit + Drop>(walker: &mut Walker<V>) -> Result<
 {
     walker.take(Var::QScale)?;
     walker.take(Var::DLeveltr)?;
-    walk_level(walker)?;
-    walk_levels(walker)?;
+    Level::walk(walker)?;
+    walk_counted::<Level, V>(walker)?;
     Ok(())
 }
 

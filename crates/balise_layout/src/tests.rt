@@ -1,6 +1,7 @@
 //! Packets of the known kinds and others read, listed, set and written, and bits that are no packet refused.
 
 mod bad;
+mod kinds;
 mod known;
 mod setting;
 

@@ -18,7 +18,16 @@ impl Bits {
         ensures len { IfOk result (λ b. length b ≡ len) }
         ensures fault { IfErr result (λ e. e ≢ BitsFault.OutOfMemory → read_hex len text.now ≡ Err (refusal_of e)) }
     {
-        let mut bits = Bits::digits(alloc, text)?;
+        Bits::from_hex_bytes(alloc, text.as_bytes(), len)
+    }
+
+    /// The same for the bytes of a text, which need not be characters.
+    pub fn from_hex_bytes(alloc: Global, text: &[u8], len: usize) -> Result<Bits, BitsFault>
+        ensures ok { IfOk result (λ b. read_hex len text.now ≡ Ok b) }
+        ensures len { IfOk result (λ b. length b ≡ len) }
+        ensures fault { IfErr result (λ e. e ≢ BitsFault.OutOfMemory → read_hex len text.now ≡ Err (refusal_of e)) }
+    {
+        let mut bits = Bits::digits_in_bytes(alloc, text)?;
         if bits.bytes.len() != len.div_ceil(8) {
             return Err(BitsFault::BadLength);
         }
@@ -31,6 +40,14 @@ impl Bits {
 
     /// The bits of hexadecimal digits of either case, four each, an even number of them.
     pub fn digits(alloc: Global, text: &str) -> Result<Bits, BitsFault>
+        ensures ok { IfOk result (λ b. read_digits text.now ≡ Ok b) }
+        ensures fault { IfErr result (λ e. e ≢ BitsFault.OutOfMemory → read_digits text.now ≡ Err (refusal_of e)) }
+    {
+        Bits::digits_in_bytes(alloc, text.as_bytes())
+    }
+
+    /// The same for the bytes of a text, which need not be characters.
+    pub fn digits_in_bytes(alloc: Global, text: &[u8]) -> Result<Bits, BitsFault>
         ensures ok { IfOk result (λ b. read_digits text.now ≡ Ok b) }
         ensures fault { IfErr result (λ e. e ≢ BitsFault.OutOfMemory → read_digits text.now ≡ Err (refusal_of e)) }
     {

@@ -9,6 +9,7 @@ use crate::window::{WINDOW, number_before, put_over};
 
 impl Bits {
     /// The number in the `width` bits from the place `at` on.
+    #[inline(always)]
     pub fn number(&self, at: usize, width: u32) -> u32
         requires width { width ≤ 32 }
         requires within { at + width ≤ length self.now }

@@ -100,6 +100,8 @@ fn settings_are_refused(rt: HostRuntime) -> Result<(), Fail> {
         check_refused(&rt, rt.alloc(), row)?;
     }
     assert!(rt; LayoutFault::Steering.refusal() == Refusal::Steering);
+    let words = LayoutFault::Steering.to_string(rt.alloc())?;
+    assert_eq!(rt; words.as_str(), "the variable isn't set in place");
     Ok(())
 }
 

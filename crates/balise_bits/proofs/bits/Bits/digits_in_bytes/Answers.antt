@@ -2,7 +2,7 @@ use Rattle.std.proofs.Common.{sym, ap, ◌∙◌, ◌≡◌, ◌*◌, length, ar
 use Rattle.std.proofs.lemmas.Result.{err_from_is_err_and}
 use Rattle.balise_bits.proofs.Digits.{read_digits-decoded, read_digits-refused, word_decoded}
 use Rattle.balise_bits.proofs.Packing.{packed_whole, view-whole}
-use Rattle.balise_bits.proofs.bits.Bits.digits.Goals as goal
+use Rattle.balise_bits.proofs.bits.Bits.digits_in_bytes.Goals as goal
 
 size : (c : goal.In-Some) → c.in-Some.len ≡ 8 * length c.in_ok-bytes.bytes.items
 size c =

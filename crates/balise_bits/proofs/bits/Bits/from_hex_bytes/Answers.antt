@@ -6,7 +6,7 @@ use Rattle.balise_rules.specs.Bits.{num, part}
 use Rattle.balise_rules.specs.Digits.{fill}
 use Rattle.balise_bits.proofs.Digits.{whole_bytes}
 use Rattle.balise_bits.proofs.Spare.{read_hex-long, read_hex-spare, read_hex-read, whole_len, packed_cut, view-cut}
-use Rattle.balise_bits.proofs.bits.Bits.from_hex.Goals as goal
+use Rattle.balise_bits.proofs.bits.Bits.from_hex_bytes.Goals as goal
 
 pub returns-then-len-div_ceil-clause-fault : goal.returns-then-len-div_ceil-clause-fault
 returns-then-len-div_ceil-clause-fault c =

@@ -14,16 +14,13 @@ use std::io::Read;
 /// The bytes of a longest line, 4,096, and of its end.
 const ROOM: usize = 4097;
 
-/// What stands at the front of the bytes.
+/// What stands at the front of the bytes: a line with its end, of so many bytes without it; the last line, which has no
+/// end and is all that is held; nothing, at the input's end; or a longer line than there may be.
 #[derive(Clone, Copy, Debug, PartialEq, Eq)]
 pub(crate) enum Look {
-    /// A line with its end, of so many bytes without it.
     Line(usize),
-    /// The last line, without an end: all that is held.
     Last,
-    /// Nothing, and the input is at its end.
     End,
-    /// A longer line than there may be.
     TooLong,
 }
 

@@ -13,12 +13,11 @@ use std::io::Read;
 /// The bytes that an input may have, line ends with them.
 const LONGEST_INPUT: u64 = 67_108_864;
 
-/// What the reading came to.
+/// What the reading came to: a line, which a line feed ends, or which is the last one and has no end; or the input's
+/// end, and no further line.
 #[derive(Clone, Copy, Debug, PartialEq, Eq)]
 pub enum Next {
-    /// A line was read: one that a line feed ends, or else the last one, which has no end.
     Line { is_ended: bool },
-    /// The input's end: there is no further line.
     End,
 }
 

@@ -1,13 +1,13 @@
 -- A header's bits are its fields' bits in order; and its fields are read where their bits stand.
 -- From reading by a form, one variable after another.
-use Rattle.std.proofs.Common.{◌≡◌, ◌∙◌, ℕ, ◌+◌, ◌-◌, ◌<◌, ◌≤◌, ◌^◌, Bool, true, false, cond, ltb, List, [], ◌∷◌, ◌++◌, length, take, drop, Option, Some, None, Result, OnOk, refl, sym, ap, subst, append_assoc, arith}
+use Rattle.std.proofs.Common.{◌≡◌, ◌∙◌, ℕ, ◌+◌, ◌-◌, ◌<◌, ◌≤◌, ◌^◌, Bool, false, ltb, List, [], ◌∷◌, ◌++◌, length, take, drop, Some, Result, OnOk, refl, ap, subst, append_assoc, arith}
 use Rattle.std.proofs.lemmas.Bool.{le-ltb}
 use Rattle.std.proofs.lemmas.List.{append-nil, drop-drop, length-drop, length-take, take-take, drop-take}
 use Rattle.balise_rules.specs.declared.variable.Var.{Var}
 use Rattle.balise_rules.specs.declared.variable.Var.TheVariants.{QUpdown, MVersion, QMedia, NPig, NTotal, MDup, MMcount, NidC, NidBg, QLink}
 use Rattle.balise_rules.specs.Variables.{width_of}
 use Rattle.balise_rules.specs.Bits.{num, bits, part}
-use Rattle.balise_rules.specs.Forms.{Form, done, plain, valued, Fields, count_of, spelling, read_form}
+use Rattle.balise_rules.specs.Forms.{Form, done, plain, Fields, count_of, spelling, read_form}
 use Rattle.balise_rules.specs.Telegram.{header, read_header, fields_or_none}
 use Rattle.balise_rules.proofs.Numbers.{num_below}
 use Rattle.balise_telegram.specs.HeaderFields.{fields_of, AreFitting}

@@ -3,3 +3,10 @@ pub mod PacketSteps
 pub mod PacketsRead
 pub mod Using
 pub mod TelegramsRead
+pub mod Tagging
+pub mod Settings
+pub mod HeaderSet
+pub mod Passing
+pub mod Placing
+pub mod Shifting
+pub mod Changing

@@ -1,6 +1,6 @@
 -- The loop that reads packets: what stands read at a place of the bits, and how it ends.
 -- From what one more packet does to the reading of them all.
-use Rattle.std.proofs.Common.{◌≡◌, ◌≢◌, ◌∙◌, ℕ, zero, suc, ◌+◌, ◌-◌, ◌*◌, ◌<◌, ◌≤◌, Bool, true, false, eqb, List, [], ◌∷◌, ◌++◌, length, take, drop, Result, Ok, Err, refl, sym, ap, subst, append_assoc, length-append, arith}
+use Rattle.std.proofs.Common.{◌≡◌, ◌≢◌, ◌∙◌, ℕ, suc, ◌+◌, ◌-◌, ◌*◌, ◌<◌, ◌≤◌, Bool, true, false, eqb, List, [], ◌∷◌, ◌++◌, length, drop, Ok, Err, refl, sym, ap, subst, length-append, arith}
 use Rattle.std.proofs.lemmas.Bool.{eqb-true}
 use Rattle.std.proofs.lemmas.List.{length-drop, drop-drop}
 use Rattle.balise_rules.specs.declared.refusal.Refusal.{Refusal}
@@ -16,6 +16,7 @@ use Rattle.balise_layout.specs.Faults.{refusal_of as layout_refusal}
 use Rattle.balise_telegram.specs.declared.fault.TelegramFault.TheVariants.{OutOfMemory}
 use Rattle.balise_telegram.specs.Faults.{of_layout, refusal_of}
 use Rattle.balise_rules.specs.Telegram.{read_packets, used}
+use Rattle.balise_telegram.proofs.Passing.{same_refusal}
 use Rattle.balise_telegram.proofs.PacketSteps.{Leads, Front, nothing_read, packet_read, packet_fails, end_read, zero_read, short_read}
 
 -- so many packets stand read up to a place
@@ -90,12 +91,3 @@ one_stands b version at count number read now p end s h e n z f l is =
 pub one_fails : (b : List Bool) (version at count number : ℕ) (read : List (Tag × Packet)) (fault : LayoutFault) → Stands b version at count read → at + 8 ≤ length b → number ≡ num (part at 8 b) → (number ≡ 255 → ⊥) → (number ≡ 0 → ⊥) → (fault ≢ layout.OutOfMemory → read_first version (drop at b) ≡ Err (layout_refusal fault)) → of_layout fault ≢ OutOfMemory → read_packets (length b) version 0 (drop 50 b) ≡ Err (refusal_of (of_layout fault))
 one_fails b version at count number read fault s h e n z f m =
     fault_ends b version at count number read (refusal_of (of_layout fault)) s h e (differs number 255 n) (differs number 0 z) (f (λ k. m (ap of_layout k)) ∙ ap (λ (r : Refusal). Err r) (same_refusal fault))
-  where
-    same_refusal : (x : LayoutFault) → layout_refusal x ≡ refusal_of (of_layout x)
-    same_refusal layout.PacketCut = refl
-    same_refusal layout.LayoutMismatch = refl
-    same_refusal layout.PacketZero = refl
-    same_refusal layout.NoSuchVariable = refl
-    same_refusal layout.Steering = refl
-    same_refusal layout.ValueTooWide = refl
-    same_refusal layout.OutOfMemory = refl

@@ -1,7 +1,6 @@
 -- How reading a telegram ends: its length, its header, and its packets.
 -- From the definition, one test after another.
-use Rattle.std.proofs.Common.{◌≡◌, ◌∙◌, ℕ, ◌+◌, ◌-◌, ◌<◌, ◌≤◌, ◌⊎◌, inl, inr, Bool, true, false, cond, not, ◌&&◌, ◌||◌, eqb, List, [], ◌∷◌, ◌++◌, length, take, drop, Result, Ok, Err, refl, sym, ap, subst, arith}
-use Rattle.std.proofs.lemmas.Bool.{eqb-true}
+use Rattle.std.proofs.Common.{◌≡◌, ◌∙◌, ℕ, ◌+◌, Bool, true, false, not, ◌&&◌, ◌||◌, eqb, List, ◌++◌, length, drop, Ok, Err, refl, sym, ap, arith}
 use Rattle.std.proofs.lemmas.List.{length-replicate}
 use Rattle.balise_rules.specs.declared.variable.Var.TheVariants.{MVersion}
 use Rattle.balise_rules.specs.declared.refusal.Refusal.{Refusal}
@@ -10,8 +9,7 @@ use Rattle.balise_rules.specs.declared.tag.Tag.{Tag}
 use Rattle.balise_rules.specs.Bits.{ones}
 use Rattle.balise_rules.specs.Forms.{Fields}
 use Rattle.balise_rules.specs.Packet.{Packet, value}
-use Rattle.balise_rules.specs.Telegram.{Telegram, IsLength, is_balise, used, read_header, read_packets, read_telegram, with_header}
-use Rattle.balise_telegram.specs.Reading.{IsHeld}
+use Rattle.balise_rules.specs.Telegram.{is_balise, used, read_header, read_packets, read_telegram, with_header}
 
 -- neither length, as the code tests it
 wrong : (m n k : ℕ) (v : Bool) → m ≡ k → n ≡ k → (not (eqb m 210) && not (eqb n 830)) ≡ v → not (eqb k 210 || eqb k 830) ≡ v

@@ -1,10 +1,10 @@
 -- The bits that packets take, one packet after another.
-use Rattle.std.proofs.Common.{◌≡◌, ◌∙◌, ℕ, zero, suc, ◌+◌, ◌<◌, ◌≤◌, ◌-◌, List, [], ◌∷◌, ◌++◌, length, take, drop, get_or, refl, sym, ap, subst, append_assoc, arith}
+use Rattle.std.proofs.Common.{◌≡◌, ◌∙◌, ℕ, zero, suc, ◌+◌, ◌<◌, ◌≤◌, ◌-◌, List, [], ◌∷◌, ◌++◌, length, take, drop, get_or, refl, sym, ap, append_assoc, arith}
 use Rattle.std.proofs.lemmas.List.{take_more, take_all, append-nil, length-drop}
 use Rattle.balise_rules.specs.declared.tag.Tag.{Tag}
 use Rattle.balise_rules.specs.Bits.{bits, ones, part}
 use Rattle.balise_rules.specs.Packet.{Packet, bits_of, width}
-use Rattle.std.proofs.Common.{◌⊎◌, inl, inr, Bool, ◌^◌}
+use Rattle.std.proofs.Common.{inl, inr, Bool}
 use Rattle.balise_rules.specs.Telegram.{used, packets_bits, IsLength}
 use Rattle.balise_telegram.specs.Reading.{IsHeld}
 use Rattle.balise_telegram.proofs.PacketsRead.{used-more}

@@ -12,37 +12,30 @@ use thiserror::Error;
 /// Why a telegram isn't read, shown or changed.
 #[derive(Clone, Copy, Debug, Error, PartialEq, Eq)]
 pub enum TelegramFault {
-    /// A telegram has 210 or 830 bits.
     #[error("a telegram has 210 or 830 bits")]
     BadLength,
-    /// The telegram isn't from track to train, or isn't a balise's.
     #[error("the telegram isn't from track to train, or isn't a balise's")]
     NotABalise,
-    /// The telegram ends before its packet 255.
     #[error("the telegram ends before its packet 255")]
     NoEnd,
-    /// A packet is shorter than its first three fields, or runs past the end.
     #[error("a packet is shorter than its first three fields, or runs past the end")]
     PacketCut,
-    /// A packet's fields don't end with it, or have a spare value that isn't read.
     #[error("a packet's fields don't end with it, or have a spare value that isn't read")]
     LayoutMismatch,
-    /// Packet 0 has no length.
     #[error("packet 0 has no length")]
     PacketZero,
-    /// The telegram has no such packet.
     #[error("the telegram has no such packet")]
     NoSuchPacket,
-    /// The packet or the header hasn't this variable, or not so often.
     #[error("the packet or the header hasn't this variable, or not so often")]
     NoSuchVariable,
-    /// The variable isn't set in place.
     #[error("the variable isn't set in place")]
     Steering,
-    /// The value doesn't fit the width of the variable.
     #[error("the value doesn't fit the width of the variable")]
     ValueTooWide,
-    /// Out of memory.
+    #[error("the packet is longer than the room")]
+    NoRoom,
+    #[error("the packet stands there")]
+    SamePlace,
     #[error("out of memory")]
     OutOfMemory,
 }
@@ -63,6 +56,8 @@ impl TelegramFault {
             TelegramFault::NoSuchVariable => Refusal::NoSuchVariable,
             TelegramFault::Steering => Refusal::Steering,
             TelegramFault::ValueTooWide => Refusal::ValueTooWide,
+            TelegramFault::NoRoom => Refusal::NoRoom,
+            TelegramFault::SamePlace => Refusal::SamePlace,
             TelegramFault::OutOfMemory => Refusal::OutOfMemory,
         }
     }

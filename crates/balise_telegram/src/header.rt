@@ -1,11 +1,14 @@
 //! The header of a telegram.
 
-ghost use Rattle.std.specs.Prelude.{◌≡◌, ◌≤◌, ◌++◌, [], length, OnErr, OnOk, IsOkUnless};
+ghost use Rattle.std.specs.Prelude.{◌≡◌, ◌⊎◌, ◌<◌, ◌≤◌, ◌^◌, ◌++◌, [], length, OnErr, OnOk, IsOkUnless};
 ghost use Rattle.balise_rules.specs.Forms.{spelling};
-ghost use Rattle.balise_rules.specs.Packet.{field_of, value};
+ghost use Rattle.balise_rules.specs.Packet.{field_of, value, with_value};
 ghost use Rattle.balise_rules.specs.Telegram.{is_balise, read_header};
-ghost use Rattle.balise_rules.specs.declared.variable.Var.TheVariants.{MVersion};
+ghost use Rattle.balise_rules.specs.Variables.{is_free_in_header, width_of};
+ghost use Rattle.balise_rules.specs.declared.variable.Var.TheVariants.{MVersion, NidBg, NPig};
+ghost use Rattle.balise_telegram.specs.Setting.{SetsFields};
 
+use crate::fault::TelegramFault;
 use balise_bits::{Bits, BitsFault};
 use balise_rules::Var;
 use std::marker::Model;
@@ -105,4 +108,52 @@ impl Header {
             _ => None,
         }
     }
+
+    /// Sets M_DUP, M_MCOUNT or Q_LINK and answers the old value. Takes no memory.
+    pub fn set(&mut self, var: Var, value: u32) -> Result<u32, TelegramFault>
+        ensures { SetsFields var value self.old result self.new }
+    {
+        let Some(old) = self.get(var) else {
+            return Err(TelegramFault::NoSuchVariable);
+        };
+        if !is_free(var) {
+            return Err(TelegramFault::Steering);
+        }
+        if value >> var.width() != 0 {
+            return Err(TelegramFault::ValueTooWide);
+        }
+        match var {
+            Var::MDup => self.m_dup = value,
+            Var::MMcount => self.m_mcount = value,
+            _ => self.q_link = value,
+        }
+        Ok(old)
+    }
+
+    /// Sets N_PIG or NID_BG. Takes no memory.
+    pub fn put(&mut self, var: Var, value: u32)
+        requires var { (var ≡ NPig) ⊎ (var ≡ NidBg) }
+        requires fits { value < 2 ^ width_of var }
+        ensures { self.new ≡ with_value var 0 value self.old }
+    {
+        match var {
+            Var::NPig => self.n_pig = value,
+            _ => self.nid_bg = value,
+        }
+    }
+
+    /// The same header once more.
+    pub fn copy(&self) -> Header
+        ensures { result ≡ self.now }
+    {
+        Header { ..*self }
+    }
+}
+
+// Whether a header's variable is set in place.
+#[tactic(auto, unfolding(balise_rules::specs::Variables::is_free_in_header))]
+fn is_free(var: Var) -> bool
+    ensures { result ≡ is_free_in_header var }
+{
+    matches!(var, Var::MDup | Var::MMcount | Var::QLink)
 }

@@ -1,14 +1,22 @@
 //! A telegram: header, tagged packets and padding.
 
-ghost use Rattle.std.specs.Prelude.{◌≡◌, ◌≢◌, ◌≤◌, drop, IfErr, IfOk, IsOkUnless, length, Ok, Err};
-ghost use Rattle.balise_rules.specs.Telegram.{read_packets, read_telegram, shown, used};
+mod changes;
+mod packets;
+
+ghost use Rattle.std.specs.Prelude.{◌≡◌, ◌≢◌, ◌≤◌, ◌<◌, ◌+◌, ◌^◌, drop, IfErr, IfOk, IfSome, IsOkUnless, length, Ok, Err, option_map, slice_get};
+ghost use Rattle.std.specs.List.{position};
+ghost use Rattle.balise_rules.specs.Packet.{field_of};
+ghost use Rattle.balise_rules.specs.Tagged.{find, Distinct};
+ghost use Rattle.balise_rules.specs.Tags.{same_tag};
+ghost use Rattle.balise_rules.specs.Telegram.{read_packets, read_telegram, room, shown, used, version_of};
 ghost use Rattle.balise_telegram.specs.Faults.{refusal_of};
+ghost use Rattle.balise_telegram.specs.Setting.{SetsField, SetsHead};
 
 use crate::fault::TelegramFault;
 use crate::header::Header;
 use balise_bits::Bits;
 use balise_layout::Packet;
-use balise_rules::Tag;
+use balise_rules::{Tag, Var};
 use std::alloc::Global;
 use std::marker::Model;
 
@@ -44,10 +52,7 @@ impl Telegram {
         if !header.is_balise() {
             return Err(TelegramFault::NotABalise);
         }
-        let (packets, end) = match read_packets(alloc, bits, header.version()) {
-            Ok(read) => read,
-            Err(fault) => return Err(fault),
-        };
+        let (packets, end) = read_packets(alloc, bits, header.version())?;
         let mut padding = bits.copy()?;
         padding.put_ones(0, end);
         Ok(Telegram {
@@ -82,6 +87,88 @@ impl Telegram {
         let used = self.used();
         bits.append_part(&self.padding, used, self.padding.len() - used)?;
         Ok(bits)
+    }
+
+    /// How many packets it has. No tag stands twice among them.
+    pub fn count(&self) -> usize
+        ensures count { result ≡ length self.now.packets }
+        ensures tags { Distinct same_tag self.now.packets }
+    {
+        self.packets.len()
+    }
+
+    /// The packet at a place, from 0, with its tag.
+    pub fn at(&self, i: usize) -> Option<(Tag, &Packet)>
+        ensures { option_map (λ p. (p.0, p.1.now)) result ≡ slice_get self.now.packets i }
+    {
+        match self.packets.get(i) {
+            Some((tag, packet)) => Some((*tag, packet)),
+            None => None,
+        }
+    }
+
+    /// The packet with this tag.
+    pub fn packet(&self, tag: Tag) -> Option<&Packet>
+        ensures { option_map (λ p. p.now) result ≡ find same_tag tag self.now.packets }
+    {
+        match self.place_of(tag) {
+            Some(i) => Some(&self.packets[i].1),
+            None => None,
+        }
+    }
+
+    /// The value of a variable of the header.
+    pub fn head(&self, var: Var) -> Option<u32>
+        ensures { result ≡ field_of var 0 self.now.head }
+    {
+        self.header.get(var)
+    }
+
+    /// How many bits of padding it shows.
+    pub fn room(&self) -> usize
+        ensures room { result ≡ room self.now }
+        ensures fits { used self.now.packets ≤ length self.now.padding }
+    {
+        self.padding.len() - self.used()
+    }
+
+    /// M_VERSION.
+    pub fn version(&self) -> u32
+        ensures { result ≡ version_of self.now }
+    {
+        self.header.version()
+    }
+
+    /// Sets an occurrence of a variable of the packet with this tag, and answers the old value. Takes no memory.
+    pub fn set_field(
+        &mut self,
+        tag: Tag,
+        var: Var,
+        k: u32,
+        value: u32,
+    ) -> Result<u32, TelegramFault>
+        ensures { SetsField tag var k value self.old result self.new }
+    {
+        let Some(i) = self.place_of(tag) else {
+            return Err(TelegramFault::NoSuchPacket);
+        };
+        let old = self.packets[i].1.set_field(var, k, value)?;
+        Ok(old)
+    }
+
+    /// Sets a variable of the header and answers the old value. Takes no memory.
+    pub fn set_head(&mut self, var: Var, value: u32) -> Result<u32, TelegramFault>
+        ensures { SetsHead var value self.old result self.new }
+    {
+        self.header.set(var, value)
+    }
+
+    // The place of the packet with this tag.
+    fn place_of(&self, tag: Tag) -> Option<usize>
+        ensures place { result ≡ position (λ q. same_tag tag q.0) self.now.packets }
+        ensures small { IfSome result (λ i. i + 1 < 2 ^ 64) }
+    {
+        self.packets.iter().position(|q| tag == q.0)
     }
 }
 

@@ -1,8 +1,11 @@
 //! Telegrams of known digits, each read and shown again.
 
+mod changes;
+mod packets;
+
 use crate::{Header, Telegram, TelegramFault};
 use balise_bits::Bits;
-use balise_rules::Var;
+use balise_rules::{Tag, Var};
 use std::alloc::Global;
 use std::process::Abort;
 
@@ -85,4 +88,119 @@ fn reads_a_header(rt: HostRuntime) {
     let mut again = Bits::new(alloc);
     header.write(&mut again).expect(&rt, "memory");
     assert!(rt; again == bits);
+}
+
+// Two packets 66, which take back restrictions 5 and 7.
+const TWO_PACKETS: &str = "a1007f80a03250900f82a1201f07ffffffffffffffffffffffffc0";
+
+fn telegram(rt: &impl Abort, alloc: Global, text: &str) -> Telegram {
+    let bits = Bits::from_hex(alloc, text, 210).expect(rt, "digits");
+    Telegram::read(alloc, &bits).expect(rt, "a telegram")
+}
+
+/// Whether the telegram shows these digits.
+fn shows(rt: &impl Abort, alloc: Global, telegram: &Telegram, text: &str) -> bool {
+    let bits = Bits::from_hex(alloc, text, 210).expect(rt, "digits");
+    telegram.shown(alloc).expect(rt, "memory") == bits
+}
+
+#[test]
+fn finds_packets(rt: HostRuntime) {
+    let telegram = telegram(&rt, rt.alloc(), TWO_PACKETS);
+    assert_eq!(rt; telegram.count(), 2);
+    assert_eq!(rt; telegram.room(), 90);
+    assert_eq!(rt; telegram.version(), 33);
+    for (i, restriction) in [(0, 5), (1, 7)] {
+        let (tag, packet) = telegram.at(i as usize).expect(&rt, "a packet");
+        assert!(rt; tag == Tag::Base(i));
+        assert!(rt; packet.field(Var::NidTsr, 0) == Some(restriction));
+        let packet = telegram.packet(tag).expect(&rt, "a packet");
+        assert!(rt; packet.field(Var::NidTsr, 0) == Some(restriction));
+    }
+    assert!(rt; telegram.at(2).is_none());
+    for tag in [Tag::Base(2), Tag::Fresh(0)] {
+        assert!(rt; telegram.packet(tag).is_none());
+    }
+    for (var, value) in [(Var::MMcount, Some(255)), (Var::NidTsr, None)] {
+        assert!(rt; telegram.head(var) == value);
+    }
+}
+
+#[test]
+fn sets_a_field_of_a_packet(rt: HostRuntime) {
+    let alloc = rt.alloc();
+    let mut telegram = telegram(&rt, alloc, TWO_PACKETS);
+    for (tag, var, k, value, fault) in [
+        (
+            Tag::Base(2),
+            Var::LPacket,
+            0,
+            9000,
+            TelegramFault::NoSuchPacket,
+        ),
+        (
+            Tag::Fresh(1),
+            Var::NidTsr,
+            0,
+            9,
+            TelegramFault::NoSuchPacket,
+        ),
+        (
+            Tag::Base(1),
+            Var::NidC,
+            0,
+            9000,
+            TelegramFault::NoSuchVariable,
+        ),
+        (
+            Tag::Base(1),
+            Var::NidTsr,
+            1,
+            9,
+            TelegramFault::NoSuchVariable,
+        ),
+        (Tag::Base(1), Var::LPacket, 0, 9000, TelegramFault::Steering),
+        (
+            Tag::Base(1),
+            Var::NidTsr,
+            0,
+            256,
+            TelegramFault::ValueTooWide,
+        ),
+    ] {
+        assert!(rt; telegram.set_field(tag, var, k, value) == Err(fault));
+        assert!(rt; shows(&rt, alloc, &telegram, TWO_PACKETS));
+    }
+    let set = "a1007f80a03250900f82a1201f09ffffffffffffffffffffffffc0";
+    assert!(rt; telegram.set_field(Tag::Base(1), Var::NidTsr, 0, 9) == Ok(7));
+    assert!(rt; shows(&rt, alloc, &telegram, set));
+    assert!(rt; telegram.set_field(Tag::Base(1), Var::NidTsr, 0, 7) == Ok(9));
+    assert!(rt; shows(&rt, alloc, &telegram, TWO_PACKETS));
+}
+
+#[test]
+fn sets_a_variable_of_the_header(rt: HostRuntime) {
+    let alloc = rt.alloc();
+    let mut telegram = telegram(&rt, alloc, TWO_PACKETS);
+    for (var, value, fault) in [
+        (Var::NidTsr, 256, TelegramFault::NoSuchVariable),
+        (Var::NidBg, 20000, TelegramFault::Steering),
+        (Var::MVersion, 32, TelegramFault::Steering),
+        (Var::MDup, 4, TelegramFault::ValueTooWide),
+        (Var::MMcount, 256, TelegramFault::ValueTooWide),
+        (Var::QLink, 2, TelegramFault::ValueTooWide),
+    ] {
+        assert!(rt; telegram.set_head(var, value) == Err(fault));
+        assert!(rt; shows(&rt, alloc, &telegram, TWO_PACKETS));
+    }
+    for (var, value, old) in [
+        (Var::MDup, 2, 0),
+        (Var::MMcount, 7, 255),
+        (Var::QLink, 0, 1),
+    ] {
+        assert!(rt; telegram.set_head(var, value) == Ok(old));
+        assert!(rt; telegram.head(var) == Some(value));
+    }
+    let set = "a1010380a03210900f82a1201f07ffffffffffffffffffffffffc0";
+    assert!(rt; shows(&rt, alloc, &telegram, set));
 }

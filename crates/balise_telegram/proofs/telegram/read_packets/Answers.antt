@@ -1,6 +1,6 @@
-use Rattle.std.proofs.Common.{◌≡◌, ◌∙◌, ◌+◌, ◌-◌, ◌<◌, ◌≤◌, length, ap, Err, sym, rules, arith}
+use Rattle.std.proofs.Common.{◌∙◌, ap, Err, sym, arith}
 use Rattle.balise_telegram.specs.Faults.{refusal_of}
-use Rattle.balise_telegram.proofs.PacketsRead.{Stands, short_ends, zero_ends, end_ends, one_fails, one_stands}
+use Rattle.balise_telegram.proofs.PacketsRead.{short_ends, zero_ends, end_ends, one_fails, one_stands}
 use Rattle.balise_rules.proofs.PacketAgain.{front_of}
 use Rattle.balise_telegram.proofs.telegram.read_packets.Goals as goal
 

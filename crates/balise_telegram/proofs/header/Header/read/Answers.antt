@@ -1,4 +1,4 @@
-use Rattle.std.proofs.Common.{◌≡◌, ◌∙◌, sym}
+use Rattle.std.proofs.Common.{sym}
 use Rattle.balise_telegram.proofs.HeaderBits.{header_is, fitting}
 use Rattle.balise_telegram.proofs.header.Header.read.Goals as goal
 

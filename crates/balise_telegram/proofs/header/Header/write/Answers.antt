@@ -1,4 +1,4 @@
-use Rattle.std.proofs.Common.{◌≡◌, ◌∙◌, ◌++◌, ap, sym}
+use Rattle.std.proofs.Common.{◌≡◌, ◌∙◌, ◌++◌, ap}
 use Rattle.balise_rules.specs.Forms.{Fields, spelling}
 use Rattle.balise_rules.specs.Bits.{bits}
 use Rattle.balise_telegram.proofs.HeaderBits.{all_written, on_ok}

@@ -1,4 +1,4 @@
-use Rattle.std.proofs.Common.{◌≡◌, ◌∙◌, ◌+◌, ◌<◌, ◌≤◌, sym, ap, subst, take, rules, arith}
+use Rattle.std.proofs.Common.{◌+◌, ap, take, arith}
 use Rattle.balise_rules.specs.Telegram.{used}
 use Rattle.balise_telegram.proofs.Using.{used_step, used_small}
 use Rattle.balise_telegram.proofs.telegram.Telegram.used.Goals as goal

@@ -1,0 +1,60 @@
+//! What turning and renumbering change, and copies, with digits made by hand.
+
+use crate::tests::{TWO_PACKETS, shows, telegram};
+use balise_rules::{Tag, Var};
+
+// One packet 5 with one element.
+const LINKING: &str = "a1007f80a032c15022a07d00326301ffffffffffffffffffffffc0";
+
+#[test]
+fn turns_a_packet(rt: HostRuntime) {
+    let alloc = rt.alloc();
+    let mut telegram = telegram(&rt, alloc, TWO_PACKETS);
+    telegram.flip_dir(Tag::Base(2));
+    assert!(rt; shows(&rt, alloc, &telegram, TWO_PACKETS));
+    telegram.flip_dir(Tag::Base(0));
+    let turned = "a1007f80a03250800f82a1201f07ffffffffffffffffffffffffc0";
+    assert!(rt; shows(&rt, alloc, &telegram, turned));
+    telegram.flip_dir(Tag::Base(0));
+    assert!(rt; shows(&rt, alloc, &telegram, TWO_PACKETS));
+}
+
+#[test]
+fn changes_an_element(rt: HostRuntime) {
+    let alloc = rt.alloc();
+    let mut telegram = telegram(&rt, alloc, LINKING);
+    telegram.flip_link(Tag::Base(0), 1);
+    telegram.flip_link(Tag::Base(1), 0);
+    telegram.name_link(Tag::Base(0), 1, 777);
+    telegram.name_link(Tag::Base(1), 0, 777);
+    assert!(rt; shows(&rt, alloc, &telegram, LINKING));
+    telegram.flip_link(Tag::Base(0), 0);
+    let flipped = "a1007f80a032c15022a07d00322301ffffffffffffffffffffffc0";
+    assert!(rt; shows(&rt, alloc, &telegram, flipped));
+    telegram.flip_link(Tag::Base(0), 0);
+    telegram.name_link(Tag::Base(0), 0, 777);
+    let renamed = "a1007f80a032c15022a07d0184e301ffffffffffffffffffffffc0";
+    assert!(rt; shows(&rt, alloc, &telegram, renamed));
+}
+
+#[test]
+#[tactic(auto, unfolding(balise_rules::specs::Variables::width_of))]
+fn puts_variables_of_the_header(rt: HostRuntime) {
+    let alloc = rt.alloc();
+    let mut telegram = telegram(&rt, alloc, TWO_PACKETS);
+    telegram.put_head(Var::NPig, 3);
+    telegram.put_head(Var::NidBg, 777);
+    let put = "a1307f80a184d0900f82a1201f07ffffffffffffffffffffffffc0";
+    assert!(rt; shows(&rt, alloc, &telegram, put));
+}
+
+#[test]
+fn copies_a_telegram(rt: HostRuntime) {
+    let alloc = rt.alloc();
+    let mut telegram = telegram(&rt, alloc, TWO_PACKETS);
+    let copy = telegram.copy().expect(&rt, "memory");
+    assert!(rt; telegram.take(Tag::Base(0)).is_ok());
+    assert_eq!(rt; copy.count(), 2);
+    assert!(rt; copy.packet(Tag::Base(1)).is_some());
+    assert!(rt; shows(&rt, alloc, &copy, TWO_PACKETS));
+}

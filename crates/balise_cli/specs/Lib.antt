@@ -1,8 +1,16 @@
 pub mod Words
 pub mod Left
 pub mod Commands
+pub mod Held
+pub mod Finding
+pub mod Sessions
 pub mod Requests
 pub mod Replies
 pub mod Statuses
+pub mod PlanLines
 pub mod Output
 pub mod Answers
+pub mod Faults
+pub mod Machine
+pub mod Ends
+pub mod Laws

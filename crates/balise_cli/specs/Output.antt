@@ -1,17 +1,18 @@
 -- What a run prints for the lines of its input, and how it ends.
-use Rattle.std.specs.Prelude.{◌≡◌, ◌⊎◌, ◌==◌, ◌||◌, ◌≤◌, ◌+◌, ℕ, Bool, true, false, IsTrue, List, [], ◌∷◌, ◌++◌, length, Option, Some, None, Result, Ok, Err, codes, if◌then◌else◌, bytes_eq, take}
+use Rattle.std.specs.Prelude.{◌≡◌, ◌⊎◌, ◌||◌, ◌+◌, ℕ, Bool, true, false, IsTrue, List, [], ◌∷◌, ◌++◌, length, Option, Some, None, Result, Ok, Err}
 use Rattle.balise_rules.specs.declared.refusal.Refusal.{Refusal}
-use Rattle.balise_rules.specs.declared.refusal.Refusal.TheVariants.{BadLine, GroupSize, OutOfMemory}
-use Rattle.balise_rules.specs.Refusals.{and_then}
-use Rattle.balise_rules.specs.Digits.{read_hex}
-use Rattle.balise_rules.specs.Telegram.{Telegram, read_telegram}
-use Rattle.balise_rules.specs.Plan.{Group, Plan, checked_group, with_group}
+use Rattle.balise_rules.specs.declared.refusal.Refusal.TheVariants.{BadLine, OutOfMemory}
+use Rattle.balise_rules.specs.Plan.{Group, Plan}
 use Rattle.balise_rules.specs.Session.{State, Call, Reply, Refused, answer, opened, held, takes_memory}
 use Rattle.balise_lines.specs.Lines.{Line, Fits, whole}
 use Rattle.balise_cli.specs.Commands.{call_of}
+use Rattle.balise_cli.specs.PlanLines.{kind_of, with_read, with_telegram}
+use Rattle.balise_cli.specs.declared.kind.Kind.{Kind}
+use Rattle.balise_cli.specs.declared.kind.Kind.TheVariants.{FirstLine, GroupLine, EditsLine, TelegramLine}
 use Rattle.balise_cli.specs.Replies.{Text, reply_line, bad_line, plan_text}
 use Rattle.balise_cli.specs.declared.status.Status.{Status}
-use Rattle.balise_cli.specs.declared.status.Status.TheVariants.{Accepted, SomeRefused, BadInput}
+use Rattle.balise_cli.specs.declared.status.Status.TheVariants.{BadInput}
+use Rattle.balise_cli.specs.Statuses.{status_of}
 
 -- Where a run stands between two lines: before the plan's first line; between groups; in a group, whose own line has this number, with the telegrams read so far; at the commands, with whether one was refused.
 pub data Phase : Type 0 where
@@ -21,23 +22,6 @@ pub data Phase : Type 0 where
   Commands : State → Bool → Phase
 
 -- The plan's lines.
-
--- what a line of the plan is by its words
-pub data Kind : Type 0 where
-  FirstLine : Kind
-  GroupLine : Kind
-  EditsLine : Kind
-  NoLine : Kind
-  TelegramLine : Kind
-
--- a line that begins with `journal ` isn't a telegram's, nor is an empty one
-abbrev pub kind_of : Text → Kind
-kind_of line =
-    if bytes_eq line (codes "plan 1") then FirstLine
-    else if bytes_eq line (codes "group") then GroupLine
-    else if bytes_eq line (codes "edits") then EditsLine
-    else if bytes_eq line [] || bytes_eq (take 8 line) (codes "journal ") then NoLine
-    else TelegramLine
 
 -- a line taken, or refused as line n
 pub data Read : Type 0 where
@@ -56,24 +40,15 @@ closed_as g (Ok plan) next = next plan
 
 -- the group ends, and is refused with its own line's number, or what follows is looked at
 abbrev pub closed : Plan → ℕ → Group → (Plan → Read) → Read
-closed plan g [] next = Bad g GroupSize
-closed plan g (y ∷ ys) next = closed_as g (with_group plan (checked_group (Ok (y ∷ ys)))) next
+closed plan g ys next = closed_as g (with_read plan ys) next
 
--- the telegram of a line: 208 digits are 830 bits
-abbrev pub telegram_of : Text → Result Telegram Refusal
-telegram_of line = and_then (read_hex (if length line == 208 then 830 else 210) line) read_telegram
+-- one more telegram, or why the line isn't one
+abbrev pub one_more : Plan → ℕ → ℕ → Result Group Refusal → Read
+one_more plan g n (Err r) = Bad n r
+one_more plan g n (Ok ys) = Good (InGroup plan g ys)
 
-abbrev pub one_more : Plan → ℕ → Group → ℕ → Result Telegram Refusal → Read
-one_more plan g ys n (Err r) = Bad n r
-one_more plan g ys n (Ok y) = Good (InGroup plan g (ys ++ (length ys, y) ∷ []))
-
--- how many telegrams a group has at the most, for now
-abbrev pub most_telegrams : ℕ
-most_telegrams = 1
-
--- a telegram's line; one too many isn't read
 abbrev pub telegram_line : Plan → ℕ → Group → ℕ → Text → Read
-telegram_line plan g ys n line = if length ys == most_telegrams then Bad n GroupSize else one_more plan g ys n (telegram_of line)
+telegram_line plan g ys n line = one_more plan g n (with_telegram ys line)
 
 abbrev pub in_group : Plan → ℕ → Group → ℕ → Kind → Text → Read
 in_group plan g ys n FirstLine line = telegram_line plan g ys n line
@@ -118,10 +93,6 @@ abbrev pub IsStep : Bool → Phase → ℕ → Text → Text → Next → Type 0
 IsStep scarce (Commands s refused) n line out next =
     (r : Reply) × ((s' : State) × (MayAnswer scarce (call_of line) s r s' × (out ≡ reply_line r) × (next ≡ On (Commands s' (refused || is_refused r)))))
 IsStep scarce p n line out next = (out ≡ []) × (next ≡ after_read (read_line p n line))
-
-abbrev pub status_of : Bool → Status
-status_of true = SomeRefused
-status_of false = Accepted
 
 -- what the end of the input prints, where line n would come
 abbrev pub at_end : Phase → ℕ → Next

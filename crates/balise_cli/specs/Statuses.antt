@@ -1,5 +1,5 @@
 -- The exit statuses of a run that came to its end.
-use Rattle.std.specs.Prelude.{ℕ}
+use Rattle.std.specs.Prelude.{ℕ, Bool, true, false}
 use Rattle.balise_cli.specs.declared.status.Status.{Status}
 use Rattle.balise_cli.specs.declared.status.Status.TheVariants.{Accepted, SomeRefused, BadInput}
 
@@ -7,3 +7,8 @@ abbrev pub code_of : Status → ℕ
 code_of Accepted = 0
 code_of SomeRefused = 1
 code_of BadInput = 2
+
+-- the status behind commands, by whether one was refused
+abbrev pub status_of : Bool → Status
+status_of true = SomeRefused
+status_of false = Accepted

@@ -14,7 +14,10 @@ use itoa::Buffer;
 use std::io::Write;
 
 /// Writes texts one after another.
-fn put_texts<W: Write>(writer: &mut Counted<W>, texts: &[&[u8]]) -> Result<(), WriteFault>
+pub(crate) fn put_texts<W: Write>(
+    writer: &mut Counted<W>,
+    texts: &[&[u8]],
+) -> Result<(), WriteFault>
     ensures ok { OnOk result (Appends (W.contents writer.old.inner) (W.contents writer.new.inner) (text_of (map (λ t. t.now) texts.now))) }
     ensures unfailed { OnOk result (writer.new.failed ≡ writer.old.failed) }
     ensures cause { OnErr result (writer.new.failed ≡ one_more writer.old.failed) }

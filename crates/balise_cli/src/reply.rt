@@ -1,13 +1,24 @@
 //! What a command is answered.
 
+ghost use Rattle.std.specs.Prelude.{◌≡◌};
+ghost use Rattle.balise_cli.specs.Answers.{reply_of};
+ghost use Rattle.balise_cli.specs.Output.{is_refused};
+
 use balise_rules::Refusal;
 
-/// What a command is answered.
+/// What a command is answered: the serial of the edit that was done or taken back, or why none was.
 #[derive(Clone, Copy, Debug, PartialEq, Eq)]
 pub(crate) enum Reply {
-    /// The edit with this serial was done.
     Done(u32),
-    /// The edit with this serial was taken back.
     Undone(u32),
     Refused(Refusal),
+}
+
+impl Reply {
+    /// Whether the command was refused.
+    pub(crate) fn is_refused(self) -> bool
+        ensures { result ≡ is_refused (reply_of self) }
+    {
+        matches!(self, Reply::Refused(_))
+    }
 }

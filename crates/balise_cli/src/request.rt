@@ -7,16 +7,13 @@ ghost use Rattle.balise_cli.specs.Requests.{call};
 ghost use Rattle.balise_cli.specs.Words.{no_more};
 ghost use Rattle.balise_rules.specs.Session.{Undo};
 
+use crate::command::Command;
 use crate::words::Parts;
-use balise_rules::{Id, Var};
 
-/// A command, by identity and place.
+/// What a command asks of a session.
 #[derive(Clone, Copy, Debug, PartialEq, Eq)]
 pub(crate) enum Request {
-    /// Group, N_PIG, place of the packet, variable, occurrence, value.
-    Set(Id, u32, u32, Var, u32, u32),
-    /// Group, N_PIG, variable, value.
-    SetHead(Id, u32, Var, u32),
+    Edit(Command),
     Undo,
 }
 
@@ -42,7 +39,7 @@ fn read_set(words: Parts) -> Option<Request>
         return None;
     };
     if words.is_over() {
-        return Some(Request::Set(id, pig, pkt, var, k, value));
+        return Some(Request::Edit(Command::Set(id, pig, pkt, var, k, value)));
     }
     None
 }
@@ -63,7 +60,7 @@ fn read_set_head(words: Parts) -> Option<Request>
         return None;
     };
     if words.is_over() {
-        return Some(Request::SetHead(id, pig, var, value));
+        return Some(Request::Edit(Command::SetHead(id, pig, var, value)));
     }
     None
 }
@@ -81,9 +78,7 @@ fn read_undo(words: Parts) -> Option<Request>
 pub(crate) fn read_request(line: &[u8]) -> Option<Request>
     ensures { option_map call result ≡ call_of line.now }
 {
-    let Some((name, words)) = Parts::words(line).next() else {
-        return None;
-    };
+    let (name, words) = Parts::words(line).next()?;
     if name == b"set".as_slice() {
         return read_set(words);
     }

@@ -1,21 +1,28 @@
 //! How a run that came to its end ended.
 
 ghost use Rattle.std.specs.Prelude.{◌≡◌};
-ghost use Rattle.balise_cli.specs.Statuses.{code_of};
+ghost use Rattle.balise_cli.specs.Statuses.{code_of, status_of};
 
-/// How a run ended: the exit status of the program.
+/// How a run ended: all commands were accepted, some command was refused, or the plan was refused.
 #[derive(Clone, Copy, Debug, PartialEq, Eq)]
 pub enum Status {
-    /// All commands were accepted: 0.
     Accepted,
-    /// Some command was refused: 1.
     SomeRefused,
-    /// The plan was refused: 2.
     BadInput,
 }
 
 impl Status {
-    /// The exit status.
+    /// The status behind commands, by whether one was refused.
+    pub(crate) fn of_commands(refused: bool) -> Status
+        ensures { result ≡ status_of refused }
+    {
+        if refused {
+            return Status::SomeRefused;
+        }
+        Status::Accepted
+    }
+
+    /// The exit status: 0, 1 and 2.
     pub fn code(self) -> u8
         ensures { result ≡ code_of self }
     {

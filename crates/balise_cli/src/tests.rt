@@ -1,5 +1,8 @@
 //! Command lines and replies of known texts.
 
+mod session;
+
+use crate::command::Command;
 use crate::replies::{put_bad, put_reply};
 use crate::reply::Reply;
 use crate::request::{Request, read_request};
@@ -17,11 +20,11 @@ fn reads_commands(rt: HostRuntime) {
         ("undo", Some(Request::Undo)),
         (
             "set 5.100 0 1 NID_TSR 2 9",
-            Some(Request::Set(group, 0, 1, Var::NidTsr, 2, 9)),
+            Some(Request::Edit(Command::Set(group, 0, 1, Var::NidTsr, 2, 9))),
         ),
         (
             "seth 5.100 0 M_MCOUNT 4294967295",
-            Some(Request::SetHead(group, 0, Var::MMcount, 4_294_967_295)),
+            Some(Request::Edit(Command::SetHead(group, 0, Var::MMcount, 4_294_967_295))),
         ),
         ("seth 5.100 0 M_MCOUNT 4294967296", None),
         ("seth 5.100 0 M_MCOUNT 01", None),

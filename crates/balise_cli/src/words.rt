@@ -80,12 +80,8 @@ impl<'a> Parts<'a> {
     pub(crate) fn number(self) -> Option<(u32, Parts<'a>)>
         ensures { Takes number_of (left self.entry) result }
     {
-        let Some((word, rest)) = self.next() else {
-            return None;
-        };
-        let Some(number) = read_number(word) else {
-            return None;
-        };
+        let (word, rest) = self.next()?;
+        let number = read_number(word)?;
         Some((number, rest))
     }
 
@@ -93,12 +89,8 @@ impl<'a> Parts<'a> {
     pub(crate) fn id(self) -> Option<(Id, Parts<'a>)>
         ensures { Takes id_of (left self.entry) result }
     {
-        let Some((word, rest)) = self.next() else {
-            return None;
-        };
-        let Some(id) = read_id(word) else {
-            return None;
-        };
+        let (word, rest) = self.next()?;
+        let id = read_id(word)?;
         Some((id, rest))
     }
 
@@ -106,12 +98,8 @@ impl<'a> Parts<'a> {
     pub(crate) fn var(self) -> Option<(Var, Parts<'a>)>
         ensures { Takes var_named (left self.entry) result }
     {
-        let Some((word, rest)) = self.next() else {
-            return None;
-        };
-        let Some(var) = Var::from_bytes(word) else {
-            return None;
-        };
+        let (word, rest) = self.next()?;
+        let var = Var::from_bytes(word)?;
         Some((var, rest))
     }
 }
@@ -148,12 +136,8 @@ fn read_number(word: &[u8]) -> Option<u32>
 fn read_id(word: &[u8]) -> Option<Id>
     ensures { result ≡ id_of word.now }
 {
-    let Some((country, rest)) = Parts::new(word, b'.').number() else {
-        return None;
-    };
-    let Some((number, rest)) = rest.number() else {
-        return None;
-    };
+    let (country, rest) = Parts::new(word, b'.').number()?;
+    let (number, rest) = rest.number()?;
     if rest.is_over() {
         return Some(Id { country, number });
     }

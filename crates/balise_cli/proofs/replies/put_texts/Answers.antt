@@ -1,6 +1,6 @@
-use Rattle.std.proofs.Common.{◌∙◌, refl, rules, get_or, [], ℕ, List}
+use Rattle.std.proofs.Common.{◌∙◌, refl, get_or, [], ℕ, List}
 use denote.Bor.{Bor}
-use Rattle.balise_cli.proofs.Texts.{wrote_none, wrote_more, wrote_some, wrote_all}
+use Rattle.balise_cli.proofs.Texts.{wrote_none, wrote_more, wrote_some}
 use Rattle.balise_cli.proofs.replies.put_texts.Goals as goal
 
 abbrev no_text : Bor (List ℕ)

@@ -1,0 +1,5 @@
+use Rattle.balise_cli.proofs.PrintedPlans.{standing_printed}
+use Rattle.balise_cli.proofs.laws.prints_standing_edits.Goals as goal
+
+pub returns : goal.returns
+returns c = standing_printed

@@ -1,0 +1,96 @@
+use Rattle.std.proofs.Common.{◌∙◌, ℕ, Err, ap, subst, refl}
+use Rattle.balise_lines.specs.Reading.{Took, ahead, is_over, line_of, number_of, place_of}
+use Rattle.balise_lines.specs.declared.lines.Next.TheVariants.{End}
+use Rattle.balise_lines.specs.Writing.{AppendsSome}
+use Rattle.balise_cli.specs.Ends.{WritesOutput}
+use Rattle.balise_cli.specs.declared.machine.After.TheVariants as after
+use Rattle.balise_lines.proofs.InputsLeft.{left_at_first}
+use Rattle.balise_cli.specs.Machine.{DidEnd, DidSome, DidStep, last_text, phase_of}
+use Rattle.balise_cli.specs.Output.{at_end, Ended}
+use Rattle.balise_cli.proofs.LineByLine.{begins, ended, fault_before, fault_ending, at_line, fault_in, on_err, on_ok, over_at, stepped, too_long, took_it}
+use Rattle.balise_cli.proofs.running.run.Goals as goal
+
+pub lines-init : goal.lines-init
+lines-init g c =
+    let new = c.new-lines.ensures in
+    let remaining = g.R.Read.remaining c.args.reader.now.inner in
+    (refl, refl, λ o. absurd cc, begins _ _ _ _ _ _ _ (left_at_first c.new-lines.result remaining new.ahead) c.new-machine.ensures new.number new.place)
+
+pub returns-in-Err-TooLong-clause-long : goal.returns-in-Err-TooLong-clause-long
+returns-in-Err-TooLong-clause-long g c = λ _. too_long _ _ _ _ _ _ _ _ (c.in-Err-TooLong.ensures.long (ap Err c.in-Err-TooLong.field-0-is)) c.in-Err-TooLong.ensures.first c.lines.invariant.3
+
+pub returns-in-Err-TooLong-clause-some : goal.returns-in-Err-TooLong-clause-some
+returns-in-Err-TooLong-clause-some g c =
+    let inv = c.lines.invariant in
+    fault_before _ _ _ _ _ (ahead c.next.new.self) (is_over c.lines.lines) (phase_of c.lines.machine) (number_of c.lines.lines) (place_of c.lines.lines) c.in-Err-TooLong.ensures.kept inv.2 inv.3
+
+pub returns-in-Err-Read-clause-some : goal.returns-in-Err-Read-clause-some
+returns-in-Err-Read-clause-some g c =
+    let inv = c.lines.invariant in
+    fault_before _ _ _ _ _ (ahead c.next.new.self) (is_over c.lines.lines) (phase_of c.lines.machine) (number_of c.lines.lines) (place_of c.lines.lines) c.in-Err-Read.ensures.kept inv.2 inv.3
+
+pub returns-in-Ok-End-clause-ok : goal.returns-in-Ok-End-clause-ok
+returns-in-Ok-End-clause-ok g c =
+    let inv = c.lines.invariant in
+    let p = phase_of c.lines.machine in
+    let now = g.W.Write.contents c.lines.writer.inner in
+    let new = g.W.Write.contents c.finish.new.writer.inner in
+    let took : Took End c.lines.lines (g.R.Read.remaining c.lines.reader.inner) c.next.new.self (g.R.Read.remaining c.next.new.reader.inner) = subst (λ x. Took x c.lines.lines (g.R.Read.remaining c.lines.reader.inner) c.next.new.self (g.R.Read.remaining c.next.new.reader.inner)) c.in-Ok-End.field-0-is c.in-Ok-End.ensures.took in
+    on_ok c.finish.result (λ status. DidEnd p c.number-number.result now new status) (λ status. WritesOutput (g.R.Read.remaining c.args.reader.now.inner) (g.W.Write.contents c.args.writer.now.inner) new (Ended status))
+    (λ status did. ended _ _ _ now new (is_over c.lines.lines) p (number_of c.lines.lines) (place_of c.lines.lines) status took.at_end (subst (λ (k : ℕ). DidEnd p k now new status) c.number-number.ensures did) inv.3)
+    c.finish.ensures.ok
+
+pub returns-in-Ok-End-clause-some : goal.returns-in-Ok-End-clause-some
+returns-in-Ok-End-clause-some g c =
+    let inv = c.lines.invariant in
+    let p = phase_of c.lines.machine in
+    let now = g.W.Write.contents c.lines.writer.inner in
+    let new = g.W.Write.contents c.finish.new.writer.inner in
+    let took : Took End c.lines.lines (g.R.Read.remaining c.lines.reader.inner) c.next.new.self (g.R.Read.remaining c.next.new.reader.inner) = subst (λ x. Took x c.lines.lines (g.R.Read.remaining c.lines.reader.inner) c.next.new.self (g.R.Read.remaining c.next.new.reader.inner)) c.in-Ok-End.field-0-is c.in-Ok-End.ensures.took in
+    on_err c.finish.result (AppendsSome now new (last_text (at_end p c.number-number.result))) _
+    (λ w. fault_ending _ _ _ _ now new (ahead c.next.new.self) (is_over c.lines.lines) p (number_of c.lines.lines) (place_of c.lines.lines) took.kept took.at_end (subst (λ (k : ℕ). AppendsSome now new (last_text (at_end p k))) c.number-number.ensures w) inv.3)
+    c.finish.ensures.written
+
+pub returns-in-Err-clause-some : goal.returns-in-Err-clause-some
+returns-in-Err-clause-some g c =
+    let inv = c.lines.invariant in
+    let p = phase_of c.lines.machine in
+    let n = number_of c.lines.lines in
+    let now = g.W.Write.contents c.lines.writer.inner in
+    let new = g.W.Write.contents c.step.new.writer.inner in
+    let line_took = subst (λ x. Took x c.lines.lines (g.R.Read.remaining c.lines.reader.inner) c.next.new.self (g.R.Read.remaining c.next.new.reader.inner)) c.in-Ok-Line.field-0-is c.in-Ok-Line.ensures.took in
+    let took = took_it _ c.lines.lines c.next.new.self (g.R.Read.remaining c.lines.reader.inner) (g.R.Read.remaining c.next.new.reader.inner) line_took in
+    let did : DidSome p n (line_of c.next.new.self) now new = at_line (λ k xs. DidSome p k xs now new) c.number-number.result n c.line.result.now (line_of c.next.new.self) c.number-number.ensures c.line.ensures c.in-Err.ensures.written in
+    fault_in _ _ _ _ now new (ahead c.next.new.self) (is_over c.lines.lines) (is_over c.next.new.self) p n (place_of c.lines.lines) _ line_took.before took c.in-Ok-Line.ensures.over did inv.3
+
+pub returns-in-Ok-Over-clause-ok : goal.returns-in-Ok-Over-clause-ok
+returns-in-Ok-Over-clause-ok g c =
+    let inv = c.lines.invariant in
+    let p = phase_of c.lines.machine in
+    let n = number_of c.lines.lines in
+    let now = g.W.Write.contents c.lines.writer.inner in
+    let new = g.W.Write.contents c.step.new.writer.inner in
+    let line_took = subst (λ x. Took x c.lines.lines (g.R.Read.remaining c.lines.reader.inner) c.next.new.self (g.R.Read.remaining c.next.new.reader.inner)) c.in-Ok-Line.field-0-is c.in-Ok-Line.ensures.took in
+    let took = took_it _ c.lines.lines c.next.new.self (g.R.Read.remaining c.lines.reader.inner) (g.R.Read.remaining c.next.new.reader.inner) line_took in
+    let status = c.in-Ok-Over.status in
+    let is : DidStep p c.number-number.result c.line.result.now now new (after.Over status) = subst (DidStep p c.number-number.result c.line.result.now now new) c.in-Ok-Over.field-0-is c.in-Ok-Over.ensures.ok in
+    let did : DidStep p n (line_of c.next.new.self) now new (after.Over status) = at_line (λ k xs. DidStep p k xs now new (after.Over status)) c.number-number.result n c.line.result.now (line_of c.next.new.self) c.number-number.ensures c.line.ensures is in
+    over_at _ _ _ _ now new (is_over c.lines.lines) (is_over c.next.new.self) p n (place_of c.lines.lines) _ status line_took.before took c.in-Ok-Line.ensures.over did inv.3
+
+pub lines-preserved : goal.lines-preserved
+lines-preserved g c =
+    let inv = c.lines.invariant in
+    let p = phase_of c.lines.machine in
+    let n = number_of c.lines.lines in
+    let now = g.W.Write.contents c.lines.writer.inner in
+    let new = g.W.Write.contents c.step.new.writer.inner in
+    let line_took = subst (λ x. Took x c.lines.lines (g.R.Read.remaining c.lines.reader.inner) c.next.new.self (g.R.Read.remaining c.next.new.reader.inner)) c.in-Ok-Line.field-0-is c.in-Ok-Line.ensures.took in
+    let took = took_it _ c.lines.lines c.next.new.self (g.R.Read.remaining c.lines.reader.inner) (g.R.Read.remaining c.next.new.reader.inner) line_took in
+    let m = c.in-Ok-On.next in
+    let is : DidStep p c.number-number.result c.line.result.now now new (after.On m) = subst (DidStep p c.number-number.result c.line.result.now now new) c.in-Ok-On.field-0-is c.in-Ok-On.ensures.ok in
+    let did : DidStep p n (line_of c.next.new.self) now new (after.On m) = at_line (λ k xs. DidStep p k xs now new (after.On m)) c.number-number.result n c.line.result.now (line_of c.next.new.self) c.number-number.ensures c.line.ensures is in (
+      c.in-Ok-Line.ensures.unfailed ∙ inv.0,
+      c.in-Ok-On.ensures.unfailed ∙ inv.1,
+      c.in-Ok-Line.ensures.over,
+      stepped _ _ _ _ now new (is_over c.lines.lines) (is_over c.next.new.self) p m n _ (place_of c.lines.lines) _ _ line_took.before took did line_took.numbered line_took.placed inv.3,
+    )

@@ -1,0 +1,54 @@
+//! The longest line, the longest input, and the most commands.
+
+use crate::devices::{Repeated, Tally};
+use balise_cli::{Counted, Flags, RunFault, Status, run};
+use std::test::Fail;
+
+const FRONT: &str = "plan 1\nedits\n";
+
+const GROUP: &[u8] =
+    b"plan 1\ngroup\na1007f80a0327fffffffffffffffffffffffffffffffffffffffc0\nedits\n";
+
+/// A command line of 4,096 letters, behind a plan without groups, and one of 4,097.
+#[test]
+fn longest_line(rt: HostRuntime) -> Result<(), Fail> {
+    for (letters, ended, output) in [
+        (
+            4_096,
+            Ok(Status::SomeRefused),
+            "refused 1 BadLine\nplan 1\n",
+        ),
+        (4_097, Err(RunFault::InputTooLong), ""),
+    ] {
+        let mut reader = Repeated::new(FRONT.as_bytes(), b"x", letters);
+        let mut writer = Counted::new(Vec::new(rt.alloc()));
+        let answer = run(rt.alloc(), &mut reader, &mut writer, Flags::default());
+        assert_eq!(rt; answer, ended);
+        assert_eq!(rt; writer.inner().as_slice(), output.as_bytes());
+    }
+    Ok(())
+}
+
+/// After 1,000,000 accepted commands each further one is refused.
+#[test]
+fn most_commands(rt: HostRuntime) {
+    let part = b"seth 5.100 0 M_MCOUNT 7\nundo\n";
+    for (times, status) in [(500_000, Status::Accepted), (500_001, Status::SomeRefused)] {
+        let mut reader = Repeated::new(GROUP, part, times);
+        let mut writer = Tally::new();
+        let answer = run(rt.alloc(), &mut reader, &mut writer, Flags::default());
+        assert_eq!(rt; answer, Ok(status));
+        assert_eq!(rt; writer.inner().lines, 2 * times + 3);
+    }
+}
+
+/// An input without end is too long at last.
+#[test]
+fn longest_input(rt: HostRuntime) {
+    let mut reader = Repeated::new(GROUP, b"undo\n", u64::MAX);
+    let mut writer = Tally::new();
+    let answer = run(rt.alloc(), &mut reader, &mut writer, Flags::default());
+    assert_eq!(rt; answer, Err(RunFault::InputTooLong));
+    assert_eq!(rt; reader.failed(), 0);
+    assert_eq!(rt; writer.failed(), 0);
+}

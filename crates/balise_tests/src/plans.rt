@@ -1,0 +1,94 @@
+//! Plans: read and printed, or refused on a line.
+
+use balise_cli::{Counted, Flags, Status, run};
+use std::alloc::Global;
+use std::process::Abort;
+
+const LONG_INPUT: &str =
+    "plan 1\ngroup\na1007f80a0327ffffffffffffffffffffffffffffffffffffffffffffffffffffffffffffffffffffffffffffffffffffffffffffffffffffffffffffffffffffffffffffffffffffffffffffffffffffffffffffffffffffffffffffffffffffffffffffffffffc\nedits";
+
+const LONG_OUTPUT: &str =
+    "plan 1\ngroup\na1007f80a0327ffffffffffffffffffffffffffffffffffffffffffffffffffffffffffffffffffffffffffffffffffffffffffffffffffffffffffffffffffffffffffffffffffffffffffffffffffffffffffffffffffffffffffffffffffffffffffffffffffc\n";
+
+const REFUSED: [(&str, &str); 17] = [
+    ("", "bad 1 1 BadLine\n"),
+    ("plan 2\n", "bad 1 1 BadLine\n"),
+    ("plan 1", "bad 2 1 BadLine\n"),
+    ("plan 1\ngroup\nedits\n", "bad 2 10 GroupSize\n"),
+    ("plan 1\njournal 1 2\n", "bad 2 1 BadLine\n"),
+    (
+        "plan 1\ngroup\na1007f80a0327fffffffffffffffffffffffffffffffffffffffc1\nedits\n",
+        "bad 3 4 SpareBits\n",
+    ),
+    (
+        "plan 1\ngroup\na1007f80a0327fffffffffffffffffffffffffffffffffffffff\nedits\n",
+        "bad 3 3 BadLength\n",
+    ),
+    (
+        "plan 1\ngroup\na1007f80a0327fffffffffffffffffffffffffffffffffffffffc\nedits\n",
+        "bad 3 2 BadHex\n",
+    ),
+    (
+        "plan 1\ngroup\na1807f80a0327fffffffffffffffffffffffffffffffffffffffc0\nedits\n",
+        "bad 3 5 NotABalise\n",
+    ),
+    (
+        "plan 1\ngroup\na1007f80a0324b2050000000000000000000000000000000000000\nedits\n",
+        "bad 3 6 NoEnd\n",
+    ),
+    (
+        "plan 1\ngroup\na1007f80a0324b200b3fffffffffffffffffffffffffffffffffc0\nedits\n",
+        "bad 3 7 PacketCut\n",
+    ),
+    (
+        "plan 1\ngroup\na1007f80a03250901002bfffffffffffffffffffffffffffffffc0\nedits\n",
+        "bad 3 8 LayoutMismatch\n",
+    ),
+    (
+        "plan 1\ngroup\na1007f80a032403fffffffffffffffffffffffffffffffffffffc0\nedits\n",
+        "bad 3 9 PacketZero\n",
+    ),
+    (
+        "plan 1\ngroup\na1047f80a0327fffffffffffffffffffffffffffffffffffffffc0\nedits\n",
+        "bad 2 11 HeaderDisagrees\n",
+    ),
+    (
+        "plan 1\ngroup\na1007f80bfffffffffffffffffffffffffffffffffffffffffffc0\n",
+        "bad 2 12 NumberReserved\n",
+    ),
+    (
+        "plan 1\ngroup\na1007f80a0327fffffffffffffffffffffffffffffffffffffffc0\njournal 1 2\n",
+        "bad 4 1 BadLine\n",
+    ),
+    (
+        "plan 1\ngroup\na1007f80a0327fffffffffffffffffffffffffffffffffffffffc0\na1007f80a0327fffffffffffffffffffffffffffffffffffffffc0\n",
+        "bad 4 10 GroupSize\n",
+    ),
+];
+
+fn check<R: Abort>(rt: &R, alloc: Global, input: &str, output: &str, status: Status) {
+    let mut reader = Counted::new(input.as_bytes());
+    let mut writer = Counted::new(Vec::new(alloc));
+    let ended = run(alloc, &mut reader, &mut writer, Flags::default());
+    assert_eq!(rt; ended, Ok(status), "{input}");
+    assert_eq!(rt; writer.inner().as_slice(), output.as_bytes(), "{input}");
+}
+
+#[test]
+fn prints_what_was_read(rt: HostRuntime) {
+    check(
+        &rt,
+        rt.alloc(),
+        "plan 1\nedits\n",
+        "plan 1\n",
+        Status::Accepted,
+    );
+    check(&rt, rt.alloc(), LONG_INPUT, LONG_OUTPUT, Status::Accepted);
+}
+
+#[test]
+fn refuses_plans(rt: HostRuntime) {
+    for (input, output) in REFUSED {
+        check(&rt, rt.alloc(), input, output, Status::BadInput);
+    }
+}

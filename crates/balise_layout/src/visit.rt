@@ -7,7 +7,7 @@ ghost use Rattle.balise_layout.specs.declared.fault.LayoutFault.TheVariants.{Out
 use crate::fault::LayoutFault;
 use balise_rules::Var;
 
-/// Goes along a packet and is told of each field.
+/// Goes along a packet and is told of each field. After an error it is asked no more.
 pub trait Visit: Sized {
     /// Whether it takes memory, and so may lack it.
     ghost allocates: { Bool };

@@ -13,7 +13,8 @@ use Rattle.balise_rules.proofs.Tests.{split_on, flip_no, tag_test}
 use Rattle.balise_rules.proofs.Lists.{without-absent}
 use Rattle.balise_rules.proofs.Distincts.{distinct-without}
 use Rattle.balise_telegram.specs.Reading.{IsHeld}
-use Rattle.balise_telegram.specs.Moving.{inserted, with_packets, Takes}
+use Rattle.balise_rules.specs.Back.{with_packets}
+use Rattle.balise_telegram.specs.Moving.{inserted, Takes}
 use Rattle.balise_telegram.proofs.Settings.{telegram}
 use Rattle.balise_telegram.proofs.Tagging.{Packets, is_tagged, StandsAt, stands_at, stands_behind, found, not_found}
 
@@ -108,7 +109,7 @@ taken head ps now padding y tag i x next view u s e is =
     let same : ps ≡ y.packets = ap (λ (t : Telegram). t.packets) view in (
       ap (find same_tag tag) (sym same) ∙ found tag ps i x s,
       ap (behind same_tag tag) (sym same) ∙ neighbour tag ps i x s ∙ ap (λ (l : Packets). option_map (λ (q : Tag × Packet). q.0) (slice_get l (suc i))) same ∙ sym e,
-      ap (λ (l : Packets). telegram head l padding) (is ∙ sym (removed tag ps i x u s)) ∙ ap (λ (t : Telegram). with_packets (without same_tag tag t.packets) t) view,
+      ap (λ (l : Packets). telegram head l padding) (is ∙ sym (removed tag ps i x u s)) ∙ ap (λ (t : Telegram). with_packets t (without same_tag tag t.packets)) view,
     )
 
 -- ---- places that were looked for

@@ -9,17 +9,14 @@ use Rattle.balise_rules.specs.Tags.{same_tag}
 use Rattle.balise_rules.specs.Packet.{Packet, width}
 use Rattle.balise_rules.specs.Telegram.{Telegram, room}
 use Rattle.balise_rules.specs.Doing.{when, first_of, same_place}
+use Rattle.balise_rules.specs.Back.{with_packets}
 use Rattle.balise_telegram.specs.declared.fault.TelegramFault.{TelegramFault}
 use Rattle.balise_telegram.specs.declared.fault.TelegramFault.TheVariants.{NoSuchPacket}
 use Rattle.balise_telegram.specs.Faults.{refusal_of}
 
--- the telegram with other packets
-abbrev pub with_packets : List (Tag × Packet) → Telegram → Telegram
-with_packets ps y = record { head = y.head; packets = ps; padding = y.padding }
-
 -- The packet is gone and answered, with the tag of its old next neighbour; or no packet has this tag, and all stays.
 abbrev pub Takes : Tag → Telegram → Result (Packet × Option Tag) TelegramFault → Telegram → Type 0
-Takes tag old (Ok r) new = (find same_tag tag old.packets ≡ Some r.0) × (behind same_tag tag old.packets ≡ r.1) × (new ≡ with_packets (without same_tag tag old.packets) old)
+Takes tag old (Ok r) new = (find same_tag tag old.packets ≡ Some r.0) × (behind same_tag tag old.packets ≡ r.1) × (new ≡ with_packets old (without same_tag tag old.packets))
 Takes tag old (Err e) new = (find same_tag tag old.packets ≡ None) × (e ≡ NoSuchPacket) × (new ≡ old)
 
 -- the first reason why a packet isn't put in; `there` is whether its neighbour stands
@@ -28,7 +25,7 @@ insert_refusal there x y = first_of (when (not there) refusal.NoSuchPacket ∷ w
 
 -- The packets are the new ones; or the first refusal is answered, want of memory last, the packet is handed back and all stays.
 abbrev pub Inserts : Bool → Packet → List (Tag × Packet) → Telegram → Result Unit (TelegramFault × Packet) → Telegram → Type 0
-Inserts there x ps old (Ok u) new = (insert_refusal there x old ≡ None) × (new ≡ with_packets ps old)
+Inserts there x ps old (Ok u) new = (insert_refusal there x old ≡ None) × (new ≡ with_packets old ps)
 Inserts there x ps old (Err e) new = (refusal_of e.0 ≡ unwrap_or (insert_refusal there x old) refusal.OutOfMemory) × (e.1 ≡ x) × (new ≡ old)
 
 -- with a packet at a place, where there is one
@@ -48,5 +45,5 @@ shift_refusal tag a y = first_of (when (is_none (find same_tag tag y.packets)) r
 
 -- The packet stands after the anchor, and the tag of its old next neighbour is answered; or the first refusal is, and all stays.
 abbrev pub Shifts : Tag → Option Tag → Telegram → Result (Option Tag) TelegramFault → Telegram → Type 0
-Shifts tag a old (Ok was) new = (shift_refusal tag a old ≡ None) × (behind same_tag tag old.packets ≡ was) × (new ≡ with_packets (move same_tag tag a old.packets) old)
+Shifts tag a old (Ok was) new = (shift_refusal tag a old ≡ None) × (behind same_tag tag old.packets ≡ was) × (new ≡ with_packets old (move same_tag tag a old.packets))
 Shifts tag a old (Err e) new = (shift_refusal tag a old ≡ Some (refusal_of e)) × (new ≡ old)

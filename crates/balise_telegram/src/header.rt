@@ -59,8 +59,8 @@ impl Header {
         }
     }
 
-    /// Writes its 50 bits at the end of others.
-    pub fn write(&self, bits: &mut Bits) -> Result<(), BitsFault>
+    /// Writes its 50 bits at the end of others. On want of memory some of them stand there.
+    pub(crate) fn write(&self, bits: &mut Bits) -> Result<(), BitsFault>
         ensures ok { OnOk result (bits.new ≡ bits.old ++ spelling self.now) }
         ensures fault { IsOkUnless result BitsFault.OutOfMemory }
     {

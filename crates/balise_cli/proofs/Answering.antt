@@ -6,7 +6,7 @@ use Rattle.balise_rules.specs.Doing.{refusal}
 use Rattle.balise_rules.specs.Addresses.{edit_of}
 use Rattle.balise_rules.specs.Edits.{Edit, Item}
 use Rattle.balise_rules.specs.Paths.{Entry}
-use Rattle.balise_rules.specs.Session.{Ask, Call, Redo, Refused, Reply, State, Strike, Undo, answer, answer_accepted, answer_dependent, answer_edit, answer_in_time, answer_redo, answer_strike, answer_undo, entries, first_dependent, held, last, later, most_commands}
+use Rattle.balise_rules.specs.Session.{Ask, Call, Redo, Refused, Removed, Reply, State, Strike, Undo, answer, answer_accepted, answer_dependent, answer_edit, answer_in_time, answer_redo, answer_strike, answer_undo, entries, first_dependent, held, last, later, most_commands}
 use Rattle.balise_cli.specs.Commands.{call_of}
 use Rattle.balise_cli.specs.Replies.{Text}
 use Rattle.balise_cli.specs.Output.{MayAnswer, is_refused}
@@ -28,17 +28,17 @@ undo_leaves : (s : State) (e : Option Item) → Leaves s (answer_undo s e)
 undo_leaves s None = (λ _. refl, refl)
 undo_leaves s (Some e) = (λ h. absurd cc, refl)
 
-redo_leaves : (s : State) (es : List Item) → Leaves s (answer_redo s es)
+redo_leaves : (s : State) (rs : List Removed) → Leaves s (answer_redo s rs)
 redo_leaves s [] = (λ _. refl, refl)
-redo_leaves s (e ∷ es) = (λ h. absurd cc, refl)
+redo_leaves s (r ∷ rs) = (λ h. absurd cc, refl)
 
-dependent_leaves : (s : State) (e : Item) (d : Option ℕ) → Leaves s (answer_dependent s e d)
-dependent_leaves s e (Some serial) = (λ _. refl, refl)
-dependent_leaves s e None = (λ h. absurd cc, refl)
+dependent_leaves : (s : State) (e : Entry) (fs : List Entry) (d : Option ℕ) → Leaves s (answer_dependent s e fs d)
+dependent_leaves s e fs (Some serial) = (λ _. refl, refl)
+dependent_leaves s e fs None = (λ h. absurd cc, refl)
 
 strike_leaves : (s : State) (e : Option Entry) → Leaves s (answer_strike s e)
 strike_leaves s None = (λ _. refl, refl)
-strike_leaves s (Some e) = dependent_leaves s e.0 (first_dependent e (later e.0.0 (entries s.base s.standing)))
+strike_leaves s (Some e) = dependent_leaves s e (later e.0.0 (entries s.base s.standing)) (first_dependent e (later e.0.0 (entries s.base s.standing)))
 
 in_time_leaves : (c : Call) (s : State) → Leaves s (answer_in_time c s)
 in_time_leaves (Ask c) s = edit_leaves s (edit_of c (held s))

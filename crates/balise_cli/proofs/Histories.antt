@@ -5,7 +5,7 @@ use Rattle.balise_rules.specs.Plan.{Plan}
 use Rattle.balise_rules.specs.Notes.{noted}
 use Rattle.balise_rules.specs.Doing.{done, refusal}
 use Rattle.balise_rules.specs.Session.{made}
-use Rattle.balise_keeping.proofs.Refusing.{refused_exactly}
+use Rattle.balise_edit_laws.proofs.Refusing.{refused_exactly}
 use Rattle.balise_cli.specs.declared.edit.Entry.{Entry}
 use Rattle.balise_cli.specs.Held.{IsHeld, edit_of, item_of, setting}
 use Rattle.balise_cli.specs.Sessions.{Stands, before}

@@ -4,10 +4,10 @@ use Rattle.std.proofs.Common.{◌≡◌, ◌≢◌, ℕ, suc, None, refl, subst,
 use Rattle.balise_rules.specs.Plan.{Plan}
 use Rattle.balise_rules.specs.Doing.{refusal, done}
 use Rattle.balise_rules.specs.Accepting.{Spelt, Unused}
-use Rattle.balise_keeping.specs.TakenBack.{IsReady}
-use Rattle.balise_keeping.proofs.Refusing.{refused_exactly}
-use Rattle.balise_keeping.proofs.SoundKept.{sound_kept}
-use Rattle.balise_keeping.proofs.UnusedKept.{unused_kept}
+use Rattle.balise_edit_laws.specs.TakenBack.{IsReady}
+use Rattle.balise_edit_laws.proofs.Refusing.{refused_exactly}
+use Rattle.balise_edit_laws.proofs.SoundKept.{sound_kept}
+use Rattle.balise_edit_laws.proofs.UnusedKept.{unused_kept}
 use Rattle.balise_cli.specs.declared.edit.Edit.{Edit}
 use Rattle.balise_cli.specs.declared.edit.Edit.TheVariants.{SetVar, SetHead}
 use Rattle.balise_cli.specs.Held.{IsHeld, edit_of}

@@ -1,5 +1,5 @@
 -- The serials of a session's edits are below its next one.
-use Rattle.std.proofs.Common.{◌≡◌, ◌∙◌, ◌<◌, ◌≤◌, inl, inr, ℕ, suc, nat_le, nat_lt, not, eqb, Bool, true, false, cond, List, [], ◌∷◌, ◌++◌, find, Option, Some, None, Result, Ok, Err, refl, sym, ap, subst, arith}
+use Rattle.std.proofs.Common.{◌≡◌, ◌∙◌, ◌<◌, ◌≤◌, inl, inr, ℕ, suc, nat_le, nat_lt, not, eqb, Bool, true, false, cond, List, [], ◌∷◌, ◌++◌, find, is_some, Option, Some, None, Result, Ok, Err, refl, sym, ap, subst, arith}
 use Rattle.std.proofs.lemmas.Bool.{ne_eqb}
 use Rattle.balise_rules.specs.declared.refusal.Refusal.{Refusal}
 use Rattle.balise_rules.specs.declared.refusal.Refusal.TheVariants.{Worn}
@@ -8,9 +8,12 @@ use Rattle.balise_rules.specs.Doing.{done, refusal}
 use Rattle.balise_rules.specs.Addresses.{edit_of}
 use Rattle.balise_rules.specs.Edits.{Edit, Item}
 use Rattle.balise_rules.specs.Notes.{noted}
+use Rattle.balise_rules.specs.declared.tag.Tag.{Tag}
+use Rattle.balise_rules.specs.declared.tag.Tag.TheVariants.{Fresh}
 use Rattle.balise_rules.specs.Paths.{Entry}
+use Rattle.balise_rules.specs.Behind.{anchor_of, anchored, hung, serials_behind}
 use Rattle.balise_rules.proofs.Tests.{nat_test}
-use Rattle.balise_rules.specs.Session.{Ask, Call, Redo, Refused, Reply, State, Strike, Undo, answer, answer_accepted, answer_dependent, answer_edit, answer_in_time, answer_redo, answer_strike, answer_undo, entries, first_dependent, held, last, later, most_commands, opened, others, put_by_serial, taken_out}
+use Rattle.balise_rules.specs.Session.{Ask, Call, Redo, Refused, Removed, Reply, State, Strike, Undo, answer, answer_accepted, answer_dependent, answer_edit, answer_in_time, answer_redo, answer_strike, answer_undo, entries, first_dependent, held, last, later, lone, most_commands, opened, others, put_by_serial, taken_out}
 use Rattle.balise_lines.specs.Lines.{Line}
 use Rattle.balise_cli.specs.Commands.{call_of}
 use Rattle.balise_cli.specs.Output.{MayAnswer}
@@ -58,12 +61,25 @@ found n s base (x ∷ es) e f b = by (eqb s x.0) (λ g. found n s (done x base) 
     by true more g = let is : (x, noted x.1 base) ≡ e = cc in subst (λ (y : Entry). y.0.0 < n) is b.0
     by false more g = more g
 
+-- another anchor is no other serial
+hung_too : (n : ℕ) (a : Option Tag) (serials : List ℕ) (es : List Item) → Below n es → Below n (hung a serials es)
+hung_too n a serials [] b = tt
+hung_too n a serials (e ∷ es) b = by (is_some (find (λ m. eqb m e.0) serials)) (hung_too n a serials es b.1)
+  where
+    by : (k : Bool) → Below n (hung a serials es) → Below n (cond k (e.0, anchored a e.1) e ∷ hung a serials es)
+    by true more = (b.0, more)
+    by false more = (b.0, more)
+
+abbrev pub BelowRemoved : ℕ → List Removed → Type 0
+BelowRemoved n [] = Unit {0}
+BelowRemoved n (r ∷ rs) = (r.item.0 < n) × BelowRemoved n rs
+
 pub record IsBelow (s : State) : Type 0 where
   pub standing : Below s.serial s.standing
-  pub stack : Below s.serial s.stack
+  pub stack : BelowRemoved s.serial s.stack
 
-taken : (s : State) (e : Item) → e.0 < s.serial → IsBelow s → IsBelow (taken_out s e)
-taken s e h b = record { standing = without s.serial e.0 s.standing b.standing; stack = (h, b.stack) }
+taken : (s : State) (es : List Item) (r : Removed) → r.item.0 < s.serial → Below s.serial es → IsBelow s → IsBelow (taken_out s es r)
+taken s es r h l b = record { standing = l; stack = (h, b.stack) }
 
 accepted : (s : State) (e : Edit) (r : Option Refusal) → IsBelow s → IsBelow (answer_accepted s e r).1
 accepted s e (Some r) b = b
@@ -75,19 +91,23 @@ edited s (Ok e) b = accepted s e (refusal e (held s)) b
 
 undone : (s : State) (e : Option Item) → last s.standing ≡ e → IsBelow s → IsBelow (answer_undo s e).1
 undone s None l b = b
-undone s (Some e) l b = taken s e (of_last s.serial s.standing e l b.standing) b
+undone s (Some e) l b = taken s (others e.0 s.standing) (lone e) (of_last s.serial s.standing e l b.standing) (without s.serial e.0 s.standing b.standing) b
 
-redone : (s : State) (es : List Item) → s.stack ≡ es → IsBelow s → IsBelow (answer_redo s es).1
+redone : (s : State) (rs : List Removed) → s.stack ≡ rs → IsBelow s → IsBelow (answer_redo s rs).1
 redone s [] l b = b
-redone s (e ∷ es) l b = let all : Below s.serial (e ∷ es) = subst (Below s.serial) l b.stack in record { standing = put_in s.serial e s.standing all.0 b.standing; stack = all.1 }
+redone s (r ∷ rs) l b =
+    let all : BelowRemoved s.serial (r ∷ rs) = subst (BelowRemoved s.serial) l b.stack in
+    record { standing = put_in s.serial r.item (hung (Some (Fresh r.item.0)) r.behind s.standing) all.0 (hung_too s.serial (Some (Fresh r.item.0)) r.behind s.standing b.standing); stack = all.1 }
 
-depended : (s : State) (e : Item) (d : Option ℕ) → e.0 < s.serial → IsBelow s → IsBelow (answer_dependent s e d).1
-depended s e (Some n) h b = b
-depended s e None h b = taken s e h b
+depended : (s : State) (e : Entry) (fs : List Entry) (d : Option ℕ) → e.0.0 < s.serial → IsBelow s → IsBelow (answer_dependent s e fs d).1
+depended s e fs (Some n) h b = b
+depended s e fs None h b =
+    taken s (hung (anchor_of e.0.1) (serials_behind e fs) (others e.0.0 s.standing)) (record { item = e.0; behind = serials_behind e fs }) h
+    (hung_too s.serial (anchor_of e.0.1) (serials_behind e fs) (others e.0.0 s.standing) (without s.serial e.0.0 s.standing b.standing)) b
 
 struck : (s : State) (n : ℕ) (e : Option Entry) → find (λ (x : Entry). eqb n x.0.0) (entries s.base s.standing) ≡ e → IsBelow s → IsBelow (answer_strike s e).1
 struck s n None f b = b
-struck s n (Some e) f b = depended s e.0 (first_dependent e (later e.0.0 (entries s.base s.standing))) (found s.serial n s.base s.standing e f b.standing) b
+struck s n (Some e) f b = depended s e (later e.0.0 (entries s.base s.standing)) (first_dependent e (later e.0.0 (entries s.base s.standing))) (found s.serial n s.base s.standing e f b.standing) b
 
 answered_in_time : (c : Call) (s : State) → IsBelow s → IsBelow (answer_in_time c s).1
 answered_in_time (Ask c) s b = edited s (edit_of c (held s)) b

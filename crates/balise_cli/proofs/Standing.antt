@@ -9,7 +9,7 @@ use Rattle.balise_rules.specs.Accepting.{Accepted}
 use Rattle.balise_rules.specs.Back.{back}
 use Rattle.balise_rules.specs.Session.{made, last, others}
 use Rattle.balise_rules.proofs.Tests.{nat_test}
-use Rattle.balise_keeping.proofs.Refusing.{refused_exactly}
+use Rattle.balise_edit_laws.proofs.Refusing.{refused_exactly}
 use Rattle.balise_cli.specs.declared.edit.Entry.{Entry}
 use Rattle.balise_cli.specs.Held.{IsHeld, edit_of, item_of, entry_of}
 use Rattle.balise_cli.specs.Sessions.{AllStand, Rise, before}

@@ -9,10 +9,10 @@ use Rattle.balise_rules.specs.Edits.{Edit, Item}
 use Rattle.balise_rules.specs.Doing.{done, refusal}
 use Rattle.balise_rules.specs.Addresses.{Command}
 use Rattle.balise_rules.specs.Addresses as rules
-use Rattle.balise_rules.specs.Session.{State, Reply, Ask, Undo, Done, Undone, Refused, answer, answer_edit, answer_accepted, answer_undo, answer_in_time, held, last, others, taken_out, most_commands}
+use Rattle.balise_rules.specs.Session.{State, Removed, lone, Reply, Ask, Undo, Done, Undone, Refused, answer, answer_edit, answer_accepted, answer_undo, answer_in_time, held, last, others, taken_out, most_commands}
 use Rattle.balise_cli.specs.declared.edit.Entry.{Entry}
 use Rattle.balise_cli.specs.Held.{edit_of, item_of, setting}
-use Rattle.balise_cli.specs.Sessions.{IsSession, Rise, Stands, before, state_of}
+use Rattle.balise_cli.specs.Sessions.{IsSession, Rise, Stands, before, removed_of, state_of}
 use Rattle.balise_cli.proofs.Standing.{last_with, others_with, rose_with}
 use Rattle.balise_cli.proofs.Histories.{IsNew, Without, base_with, held_now, one_more, one_less}
 
@@ -27,14 +27,14 @@ edit_answered s c e plan h m o n =
     ∙ ap (λ p. answer_edit s (rules.edit_of c p)) m ∙ ap (answer_edit s) o
     ∙ ap (λ p. answer_accepted s e (refusal e p)) m ∙ ap (answer_accepted s e) n
 
-pub undo_answered : (s : State) → (e : Item) → s.count < most_commands → last s.standing ≡ Some e → ◌≡◌ {A = Reply × State} (answer Undo s) (Undone e.0, taken_out s e)
+pub undo_answered : (s : State) → (e : Item) → s.count < most_commands → last s.standing ≡ Some e → ◌≡◌ {A = Reply × State} (answer Undo s) (Undone e.0, taken_out s (others e.0 s.standing) (lone e))
 undo_answered s e h l = ap (λ b. cond b (Refused Worn, s) (answer_in_time Undo s)) (in_time s.count h) ∙ ap (answer_undo s) l
 
 -- a state of equal parts
-abbrev state : Plan → List Item → List Item → ℕ → ℕ → State
+abbrev state : Plan → List Item → List Removed → ℕ → ℕ → State
 state base standing stack serial count = record { base = base; standing = standing; stack = stack; serial = serial; count = count }
 
-same_state : (a b : Plan) → (s t : List Item) → (u v : List Item) → (m n : ℕ) → (i j : ℕ) → a ≡ b → s ≡ t → u ≡ v → m ≡ n → i ≡ j → state a s u m i ≡ state b t v n j
+same_state : (a b : Plan) → (s t : List Item) → (u v : List Removed) → (m n : ℕ) → (i j : ℕ) → a ≡ b → s ≡ t → u ≡ v → m ≡ n → i ≡ j → state a s u m i ≡ state b t v n j
 same_state a b s t u v m n i j p q r w x = ap (λ z. state z s u m i) p ∙ ap (λ z. state b z u m i) q ∙ ap (λ z. state b t z m i) r ∙ ap (λ z. state b t v z i) w ∙ ap (state b t v n) x
 
 same_stands : (a b : Plan) → (xs ys : List Entry) → (m n : ℕ) → (p q : Plan) → a ≡ b → xs ≡ ys → m ≡ n → p ≡ q → Stands a xs m p → Stands b ys n q
@@ -79,7 +79,7 @@ edit_state plan es n serial count e after all s =
     let w = whole plan es n serial count e after all s in
     same_state _ _ _ _ _ _ _ _ _ _ (same_base plan es n serial count e after all s)
     (ap (map item_of) (take_all (n + 1) all (omega (arith, w)) ∙ s.items) ∙ map_push item_of (take n es) e ∙ ap (λ m. map item_of (take n es) ++ (m, edit_of e.edit) ∷ []) s.serial_is)
-    (ap (map item_of) (drop_all (n + 1) all (omega (arith, w)))) (add-one serial) (add-one count)
+    (ap (map removed_of) (drop_all (n + 1) all (omega (arith, w)))) (add-one serial) (add-one count)
 
 -- The step of an undo: from the session before it to the plan after it.
 pub record UndoStep (plan : Plan) (es : List Entry) (n serial count : ℕ) (e : Entry) : Type 0 where
@@ -115,14 +115,14 @@ undo_kept plan es n serial count e after s m = record {
 }
 
 pub undo_state : (plan : Plan) → (es : List Entry) → (n serial count : ℕ) → (e : Entry) → (after : Plan) → UndoStep plan es n serial count e → after ≡ done (e.serial, edit_of (setting e.old e.edit)) plan →
-    state_of after es (n - 1) serial (count + 1) ≡ taken_out (state_of plan es n serial count) (item_of e)
+    state_of after es (n - 1) serial (count + 1) ≡ taken_out (state_of plan es n serial count) (others e.serial (map item_of (take n es))) (lone (item_of e))
 undo_state plan es n serial count e after s m =
     let c = cut plan es n serial count e s in
     let one : n - 1 + 1 ≡ n = omega (arith, s.some) in
     let rise = rose_with 1 (take (n - 1) es) e serial (subst (λ l. Rise 1 l serial) c s.session.stands.serials) in
     same_state _ _ _ _ _ _ _ _ _ _ (undo_base plan es n serial count e after s m)
     (sym (ap (λ l. others e.serial (map item_of l)) c ∙ others_with 1 (take (n - 1) es) e rise.0))
-    (ap (map item_of) (drop_more es (n - 1) e (omega (arith, s.some, s.session.within)) ∙ ap (λ x. x ∷ drop (n - 1 + 1) es) (sym s.is) ∙ ap (λ k. e ∷ drop k es) one))
+    (ap (map removed_of) (drop_more es (n - 1) e (omega (arith, s.some, s.session.within)) ∙ ap (λ x. x ∷ drop (n - 1 + 1) es) (sym s.is) ∙ ap (λ k. e ∷ drop k es) one))
     refl (add-one count)
 
 pub undo_last : (plan : Plan) → (es : List Entry) → (n serial count : ℕ) → (e : Entry) → UndoStep plan es n serial count e → last (map item_of (take n es)) ≡ Some (item_of e)

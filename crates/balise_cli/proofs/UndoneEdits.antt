@@ -6,7 +6,7 @@ use Rattle.balise_rules.specs.declared.refusal.Refusal.TheVariants.{Worn}
 use Rattle.balise_rules.specs.Doing.{refusal}
 use Rattle.balise_rules.specs.Addresses.{Command, edit_of}
 use Rattle.balise_rules.specs.Edits.{Edit}
-use Rattle.balise_rules.specs.Session.{Ask, Done, Refused, Reply, State, Undo, Undone, answer, answer_accepted, answer_edit, answer_in_time, answer_undo, held, made, most_commands, taken_out}
+use Rattle.balise_rules.specs.Session.{Ask, Done, Refused, Reply, State, Undo, Undone, answer, answer_accepted, answer_edit, answer_in_time, answer_undo, held, lone, made, most_commands, others, taken_out}
 use Rattle.balise_cli.specs.Laws.{UndoTakesBack, IsTakenBack}
 use Rattle.balise_cli.proofs.Serials.{IsBelow, below_along, below_at_first, last_is, others_last}
 
@@ -17,7 +17,7 @@ with_edit s e = record { base = s.base; standing = s.standing ++ (s.serial, e) �
 undone : (s : State) (e : Edit) → IsBelow s → suc s.count < most_commands → IsTakenBack s s.serial (with_edit s e)
 undone s e b h =
     let t = with_edit s e in
-    let u = taken_out t (s.serial, e) in
+    let u = taken_out t (others s.serial t.standing) (lone (s.serial, e)) in
     let is : ◌≡◌ {A = Reply × State} (answer Undo t) (Undone s.serial, u) =
     ap (λ (k : Bool). cond k (Refused Worn, t) (answer_in_time Undo t)) (lt-leb most_commands (suc s.count) h) ∙ ap (answer_undo t) (last_is s.standing (s.serial, e)) in
     let same : u.standing ≡ s.standing = others_last s.serial s.standing e b.standing in

@@ -5,8 +5,8 @@ use Rattle.balise_rules.specs.Plan.{Plan}
 use Rattle.balise_rules.specs.Notes.{noted}
 use Rattle.balise_rules.specs.Doing.{done}
 use Rattle.balise_rules.specs.Accepting.{Accepted}
-use Rattle.balise_rules.specs.Session.{State, Reply, Done, Undone, Refused, made, most_commands}
-use Rattle.balise_keeping.specs.Along.{back_along}
+use Rattle.balise_rules.specs.Session.{State, Removed, lone, Reply, Done, Undone, Refused, made, most_commands}
+use Rattle.balise_edit_laws.specs.Along.{back_along}
 use Rattle.balise_cli.specs.declared.edit.Entry.{Entry}
 use Rattle.balise_cli.specs.Held.{IsHeld, edit_of, item_of, entry_of}
 
@@ -22,9 +22,12 @@ undo_reply (Err r) = Refused r
 abbrev pub before : List Entry → Plan → Plan
 before es plan = back_along (map entry_of es) plan
 
+abbrev pub removed_of : Entry → Removed
+removed_of e = lone (item_of e)
+
 -- the first n entries stand; the others were taken back, the first of them last
 abbrev pub state_of : Plan → List Entry → ℕ → ℕ → ℕ → State
-state_of plan es n serial count = record { base = before (take n es) plan; standing = map item_of (take n es); stack = map item_of (drop n es); serial = serial; count = count }
+state_of plan es n serial count = record { base = before (take n es) plan; standing = map item_of (take n es); stack = map removed_of (drop n es); serial = serial; count = count }
 
 -- each edit is accepted on what those before it make, and its entry has the old value
 abbrev pub AllStand : Plan → List Entry → Type 0

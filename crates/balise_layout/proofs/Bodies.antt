@@ -5,7 +5,7 @@ use Rattle.balise_rules.specs.declared.variable.Var.TheVariants.{NidPacket, QDir
 use Rattle.balise_rules.specs.Variables.{width_of}
 use Rattle.balise_rules.specs.Bits.{num}
 use Rattle.balise_rules.specs.Forms.{Form, shut, plain, read_form}
-use Rattle.balise_rules.specs.Packets.{linking, gradients, speeds, levels, restriction, revocation, is_known, known_body, body, packet, major}
+use Rattle.balise_rules.specs.Packets.{linking, gradients, speeds, levels, restriction, revocation, infill, is_known, known_body, body, packet, major}
 use Rattle.balise_layout.specs.Held.{headed, only, unknown}
 
 -- what follows the first three fields is read by the form for the number alone
@@ -41,19 +41,23 @@ pub next_restriction : (version n : ℕ) → is_known version n ≡ true → n �
 unfolding known_body
 next_restriction = known_next 65 (restriction shut) refl refl refl
 
+pub next_revocation : (version n : ℕ) → is_known version n ≡ true → n ≡ 66 → only 66 (revocation shut) n ≡ body version n
+unfolding known_body
+next_revocation = known_next 66 (revocation shut) refl refl refl
+
 -- the one number left
-last_number : (version n : ℕ) → is_known version n ≡ true → n ≢ 5 → n ≢ 21 → n ≢ 27 → n ≢ 41 → n ≢ 65 → n ≡ 66
+last_number : (version n : ℕ) → is_known version n ≡ true → n ≢ 5 → n ≢ 21 → n ≢ 27 → n ≢ 41 → n ≢ 65 → n ≢ 66 → n ≡ 136
 unfolding is_known
-last_number version n known a b c d e = at (eqb n 66) refl (eqb (major version) 2) (rw (ne_eqb n 5 a, ne_eqb n 21 b, ne_eqb n 27 c, ne_eqb n 41 d, ne_eqb n 65 e) at known)
+last_number version n known a b c d e f = at (eqb n 136) refl (eqb (major version) 2) (rw (ne_eqb n 5 a, ne_eqb n 21 b, ne_eqb n 27 c, ne_eqb n 41 d, ne_eqb n 65 e, ne_eqb n 66 f) at known)
   where
-    at : (x : Bool) → eqb n 66 ≡ x → (y : Bool) → (x || y && false) ≡ true → n ≡ 66
-    at true is y h = eqb-true n 66 is
+    at : (x : Bool) → eqb n 136 ≡ x → (y : Bool) → (x || y && false) ≡ true → n ≡ 136
+    at true is y h = eqb-true n 136 is
     at false is true h = absurd cc
     at false is false h = absurd cc
 
-pub next_revocation : (version n : ℕ) → is_known version n ≡ true → n ≢ 5 → n ≢ 21 → n ≢ 27 → n ≢ 41 → n ≢ 65 → only 66 (revocation shut) n ≡ body version n
+pub next_infill : (version n : ℕ) → is_known version n ≡ true → n ≢ 5 → n ≢ 21 → n ≢ 27 → n ≢ 41 → n ≢ 65 → n ≢ 66 → only 136 (infill shut) n ≡ body version n
 unfolding known_body
-next_revocation version n known a b c d e = known_next 66 (revocation shut) refl refl refl version n known (last_number version n known a b c d e)
+next_infill version n known a b c d e f = known_next 136 (infill shut) refl refl refl version n known (last_number version n known a b c d e f)
 
 pub next_unknown : (version n : ℕ) → is_known version n ≡ false → unknown n ≡ body version n
 unfolding body

@@ -1,7 +1,7 @@
 -- A packet of any kind: what it shows, and what follows its first three fields.
 use Rattle.std.specs.Prelude.{ℕ}
 use Rattle.balise_rules.specs.Forms.{Form, shut}
-use Rattle.balise_rules.specs.Packets.{linking, gradients, speeds, levels, restriction, revocation}
+use Rattle.balise_rules.specs.Packets.{linking, gradients, speeds, levels, restriction, revocation, infill}
 use Rattle.balise_rules.specs.Packet.{Packet}
 use Rattle.balise_layout.specs.declared.kind.Kind.{Kind}
 use Rattle.balise_layout.specs.declared.kind.Kind.TheVariants as kind
@@ -14,6 +14,7 @@ shown_of (kind.SpeedProfile p) = p
 shown_of (kind.LevelTransition p) = p
 shown_of (kind.SpeedRestriction p) = p
 shown_of (kind.Revocation p) = p
+shown_of (kind.InfillLocation p) = p
 shown_of (kind.Opaque p) = p
 
 abbrev pub next_of : Kind → ℕ → Form
@@ -23,4 +24,5 @@ next_of (kind.SpeedProfile p) = only 27 (speeds shut)
 next_of (kind.LevelTransition p) = only 41 (levels shut)
 next_of (kind.SpeedRestriction p) = only 65 (restriction shut)
 next_of (kind.Revocation p) = only 66 (revocation shut)
+next_of (kind.InfillLocation p) = only 136 (infill shut)
 next_of (kind.Opaque p) = unknown

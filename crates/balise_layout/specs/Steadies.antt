@@ -4,7 +4,7 @@ use Rattle.balise_rules.specs.declared.variable.Var.{Var}
 use Rattle.balise_rules.specs.declared.variable.Var.TheVariants.{NidC}
 use Rattle.balise_rules.specs.Variables.{steers}
 use Rattle.balise_rules.specs.Forms.{Form, done, shut, never, plain, repeat}
-use Rattle.balise_rules.specs.Packets.{country, counted, link, linking, gradient, gradients, difference, section, speeds, level, levels, restriction, revocation, is_known, known_body, body}
+use Rattle.balise_rules.specs.Packets.{country, counted, link, linking, gradient, gradients, difference, section, speeds, level, levels, restriction, revocation, infill, is_known, known_body, body}
 use Rattle.balise_layout.specs.Held.{Steady, only, unknown}
 
 Steady-if : (b : Bool) (x y : Form) → Steady x → Steady y → Steady (cond b x y)
@@ -69,6 +69,10 @@ Steady-revocation : (rest : Form) → Steady rest → Steady (revocation rest)
 unfolding revocation
 Steady-revocation rest s = (λ _ x y. refl, λ _. s)
 
+Steady-infill : (rest : Form) → Steady rest → Steady (infill rest)
+unfolding infill steers
+Steady-infill rest s = (λ e. absurd cc, λ new. Steady-country new _ (λ _ x y. refl, λ _. s))
+
 -- ---- what the packets of each type have behind their first three fields
 
 Steady-only : (number : ℕ) (rest : Form) → Steady rest → (n : ℕ) → Steady (only number rest n)
@@ -92,12 +96,15 @@ steady_restriction = Steady-only 65 (restriction shut) (Steady-restriction shut 
 pub steady_revocation : (n : ℕ) → Steady (only 66 (revocation shut) n)
 steady_revocation = Steady-only 66 (revocation shut) (Steady-revocation shut tt)
 
+pub steady_infill : (n : ℕ) → Steady (only 136 (infill shut) n)
+steady_infill = Steady-only 136 (infill shut) (Steady-infill shut tt)
+
 pub steady_unknown : (n : ℕ) → Steady (unknown n)
 steady_unknown n = Steady-if (eqb n 0 || eqb n 255) never done tt tt
 
 Steady-known : (n : ℕ) → Steady (known_body n)
 unfolding known_body
-Steady-known n = Steady-if (eqb n 5) _ _ (Steady-linking shut tt) (Steady-if (eqb n 21) _ _ (Steady-gradients shut tt) (Steady-if (eqb n 27) _ _ (Steady-speeds shut tt) (Steady-if (eqb n 41) _ _ (Steady-levels shut tt) (Steady-if (eqb n 65) _ _ (Steady-restriction shut tt) (Steady-revocation shut tt)))))
+Steady-known n = Steady-if (eqb n 5) _ _ (Steady-linking shut tt) (Steady-if (eqb n 21) _ _ (Steady-gradients shut tt) (Steady-if (eqb n 27) _ _ (Steady-speeds shut tt) (Steady-if (eqb n 41) _ _ (Steady-levels shut tt) (Steady-if (eqb n 65) _ _ (Steady-restriction shut tt) (Steady-if (eqb n 66) _ _ (Steady-revocation shut tt) (Steady-infill shut tt))))))
 
 pub steady_body : (version n : ℕ) → Steady (body version n)
 unfolding body

@@ -2,7 +2,7 @@
 use Rattle.std.proofs.Common.{◌≡◌, ◌↔◌, ℕ, Bool, true, false, ◌||◌, eqb, cond, List, [], ◌∷◌, refl, sym, subst}
 use Rattle.std.proofs.lemmas.Bool.{eqb-true}
 use Rattle.balise_rules.specs.Forms.{Form, done, shut, never, Fields, Matches}
-use Rattle.balise_rules.specs.Packets.{linking, gradients, speeds, levels, restriction, revocation, is_known, known_body, body}
+use Rattle.balise_rules.specs.Packets.{linking, gradients, speeds, levels, restriction, revocation, infill, is_known, known_body, body}
 use Rattle.balise_layout.specs.Held.{only, unknown}
 
 -- The version spells what is of this form exactly where it knows the number, or exactly where it doesn't.
@@ -55,18 +55,23 @@ pub spelt_revocation : SpeltWhere (only 66 (revocation shut)) true
 unfolding known_body revocation
 spelt_revocation = known_where 66 (revocation shut) refl refl (λ rest m. m)
 
+pub spelt_infill : SpeltWhere (only 136 (infill shut)) true
+unfolding known_body infill
+spelt_infill = known_where 136 (infill shut) refl refl (λ rest m. m)
+
 -- no known packet ends with its first three fields
 fields_known : (n : ℕ) → HasFields (known_body n)
-unfolding known_body linking gradients speeds levels restriction revocation
-fields_known n rest m = at (eqb n 5) (eqb n 21) (eqb n 27) (eqb n 41) (eqb n 65) m
+unfolding known_body linking gradients speeds levels restriction revocation infill
+fields_known n rest m = at (eqb n 5) (eqb n 21) (eqb n 27) (eqb n 41) (eqb n 65) (eqb n 66) m
   where
-    at : (a b c d e : Bool) → Matches (cond a (linking shut) (cond b (gradients shut) (cond c (speeds shut) (cond d (levels shut) (cond e (restriction shut) (revocation shut)))))) [] rest → ⊥
-    at true b c d e h = h
-    at false true c d e h = h
-    at false false true d e h = h
-    at false false false true e h = h
-    at false false false false true h = h
-    at false false false false false h = h
+    at : (a b c d e f : Bool) → Matches (cond a (linking shut) (cond b (gradients shut) (cond c (speeds shut) (cond d (levels shut) (cond e (restriction shut) (cond f (revocation shut) (infill shut))))))) [] rest → ⊥
+    at true b c d e f h = h
+    at false true c d e f h = h
+    at false false true d e f h = h
+    at false false false true e f h = h
+    at false false false false true f h = h
+    at false false false false false true h = h
+    at false false false false false false h = h
 
 pub spelt_unknown : SpeltWhere unknown false
 unfolding body

@@ -13,6 +13,7 @@ ghost use Rattle.balise_layout.specs.Kinds.{next_of, shown_of};
 use crate::fault::LayoutFault;
 use crate::layout::Layout;
 use crate::packets::gradient_profile::GradientProfile;
+use crate::packets::infill_location::InfillLocation;
 use crate::packets::level_transition::LevelTransition;
 use crate::packets::linking::Linking;
 use crate::packets::opaque::Opaque;
@@ -39,6 +40,8 @@ pub enum Kind {
     SpeedRestriction(SpeedRestriction),
     /// Packet 66.
     Revocation(Revocation),
+    /// Packet 136.
+    InfillLocation(InfillLocation),
     /// Any other packet.
     Opaque(Opaque),
 }
@@ -67,7 +70,8 @@ impl Kind {
             27 => Ok(Kind::SpeedProfile(SpeedProfile::read(bits, at, end)?)),
             41 => Ok(Kind::LevelTransition(LevelTransition::read(bits, at, end)?)),
             65 => Ok(Kind::SpeedRestriction(SpeedRestriction::read(bits, at, end)?)),
-            _ => Ok(Kind::Revocation(Revocation::read(bits, at, end)?)),
+            66 => Ok(Kind::Revocation(Revocation::read(bits, at, end)?)),
+            _ => Ok(Kind::InfillLocation(InfillLocation::read(bits, at, end)?)),
         }
     }
 
@@ -82,6 +86,7 @@ impl Kind {
             Kind::LevelTransition(packet) => packet.bits(),
             Kind::SpeedRestriction(packet) => packet.bits(),
             Kind::Revocation(packet) => packet.bits(),
+            Kind::InfillLocation(packet) => packet.bits(),
             Kind::Opaque(packet) => packet.bits(),
         }
     }
@@ -98,6 +103,7 @@ impl Kind {
             Kind::LevelTransition(packet) => packet.visit(visitor),
             Kind::SpeedRestriction(packet) => packet.visit(visitor),
             Kind::Revocation(packet) => packet.visit(visitor),
+            Kind::InfillLocation(packet) => packet.visit(visitor),
             Kind::Opaque(packet) => packet.visit(visitor),
         }
     }
@@ -113,6 +119,7 @@ impl Kind {
             Kind::LevelTransition(packet) => packet.is_spelt(version),
             Kind::SpeedRestriction(packet) => packet.is_spelt(version),
             Kind::Revocation(packet) => packet.is_spelt(version),
+            Kind::InfillLocation(packet) => packet.is_spelt(version),
             Kind::Opaque(packet) => packet.is_spelt(version),
         }
     }
@@ -129,6 +136,7 @@ impl Kind {
             Kind::LevelTransition(packet) => Ok(Kind::LevelTransition(packet.copy()?)),
             Kind::SpeedRestriction(packet) => Ok(Kind::SpeedRestriction(packet.copy()?)),
             Kind::Revocation(packet) => Ok(Kind::Revocation(packet.copy()?)),
+            Kind::InfillLocation(packet) => Ok(Kind::InfillLocation(packet.copy()?)),
             Kind::Opaque(packet) => Ok(Kind::Opaque(packet.copy()?)),
         }
     }
@@ -147,6 +155,7 @@ impl Kind {
             Kind::LevelTransition(packet) => packet.put_field(at, var, value),
             Kind::SpeedRestriction(packet) => packet.put_field(at, var, value),
             Kind::Revocation(packet) => packet.put_field(at, var, value),
+            Kind::InfillLocation(packet) => packet.put_field(at, var, value),
             Kind::Opaque(packet) => packet.put_field(at, var, value),
         }
     }

@@ -25,6 +25,7 @@ pub use kind::Kind;
 pub use layout::Layout;
 pub use packet::Packet;
 pub use packets::gradient_profile::GradientProfile;
+pub use packets::infill_location::InfillLocation;
 pub use packets::level_transition::LevelTransition;
 pub use packets::linking::Linking;
 pub use packets::opaque::Opaque;

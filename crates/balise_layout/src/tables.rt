@@ -2,7 +2,7 @@
 
 ghost use Rattle.std.specs.Prelude.{◌≡◌};
 ghost use Rattle.balise_rules.specs.Forms.{Form};
-ghost use Rattle.balise_rules.specs.Packets.{counted, gradients, levels, linking, restriction, revocation, speeds};
+ghost use Rattle.balise_rules.specs.Packets.{counted, gradients, infill, levels, linking, restriction, revocation, speeds};
 ghost use Rattle.balise_layout.specs.Reading.{Reads};
 
 use crate::fault::LayoutFault;
@@ -198,5 +198,17 @@ pub fn walk_revocation<V: Visit + Drop>(walker: &mut Walker<V>) -> Result<(), La
     ensures { Reads V.allocates V.step revocation walker.old result walker.new }
 {
     walker.take(Var::NidTsr)?;
+    Ok(())
+}
+
+/// Packet 136, infill location reference, behind its first three fields.
+#[tactic(auto, unfolding(balise_rules::specs::Packets::infill))]
+pub fn walk_infill<V: Visit + Drop>(walker: &mut Walker<V>) -> Result<(), LayoutFault>
+    ensures { Reads V.allocates V.step infill walker.old result walker.new }
+{
+    if walker.take(Var::QNewcountry)? == 1 {
+        walker.take(Var::NidC)?;
+    }
+    walker.take(Var::NidBg)?;
     Ok(())
 }

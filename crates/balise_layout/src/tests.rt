@@ -25,6 +25,8 @@ const LEVELS: &str = "2940b2806421200c82000a00";
 const RESTRICTION: &str = "41408e8280c8025810";
 // 31 bits.
 const REVOCATION: &str = "42403e0a";
+// An infill location reference without a country: 38 bits.
+const INFILL: &str = "88404c0190";
 // A packet 44, which isn't known: 32 bits.
 const OPAQUE: &str = "2c0041a5";
 

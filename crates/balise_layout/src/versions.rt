@@ -12,5 +12,6 @@ pub fn is_known(version: u32, number: u32) -> bool
         || number == 21
         || number == 65
         || number == 66
+        || number == 136
         || version / 16 == 2 && (number == 27 || number == 41)
 }

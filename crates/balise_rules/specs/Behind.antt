@@ -1,9 +1,9 @@
 -- A later edit that is anchored on what an earlier one put in: it can stand on the earlier one's own anchor instead (this project's own).
-use Rattle.std.specs.Prelude.{Bool, true, false, ◌&&◌, not, List, [], ◌∷◌, ◌++◌, filter, Option, Some, None}
+use Rattle.std.specs.Prelude.{ℕ, Bool, true, false, cond, ◌&&◌, ◌||◌, not, eqb, List, [], ◌∷◌, ◌++◌, map, filter, find, Option, Some, None, is_some}
 use Rattle.balise_rules.specs.declared.tag.Tag.{Tag}
 use Rattle.balise_rules.specs.declared.tag.Tag.TheVariants.{Fresh}
 use Rattle.balise_rules.specs.Edits.{Edit, Item, InsertPacket, MovePacket, AddGroup}
-use Rattle.balise_rules.specs.Paths.{At, Nth, After, Path, Entry, same_part, changes, needs, any_meets, room_apart}
+use Rattle.balise_rules.specs.Paths.{At, Nth, After, Path, Entry, same_part, changes, needs, any_meets, room_apart, independent}
 
 -- the path of what an edit puts in
 abbrev pub put_in : Item → Option Path
@@ -58,3 +58,19 @@ anchored a e = e
 -- f with the anchor of e
 abbrev pub re_anchored : Item → Item → Item
 re_anchored e f = (f.0, anchored (anchor_of e.1) f.1)
+
+-- a later edit f outlives a strike of e: it is independent of e, or stands behind it
+abbrev pub outlives : Entry → Entry → Bool
+outlives e f = independent e f || stands_behind e f
+
+-- what a later edit becomes where e is struck: itself, where it is independent of e; with the anchor of e, where it stands behind e
+abbrev pub becomes : Entry → Entry → Option Item
+becomes e f = cond (independent e f) (Some f.0) (cond (stands_behind e f) (Some (re_anchored e.0 f.0)) None)
+
+-- the serials of the entries that aren't independent of e; where all outlive a strike of it, they stand behind it
+abbrev pub serials_behind : Entry → List Entry → List ℕ
+serials_behind e fs = map (λ (f : Entry). f.0.0) (filter (λ (f : Entry). not (independent e f)) fs)
+
+-- the edits of these serials with this anchor
+abbrev pub hung : Option Tag → List ℕ → List Item → List Item
+hung a serials es = map (λ (e : Item). cond (is_some (find (λ n. eqb n e.0) serials)) (e.0, anchored a e.1) e) es

@@ -93,12 +93,6 @@ LinkStruck =
     (Done 1 ∷ Done 2 ∷ Done 3 ∷ Struck 1 ∷ [])
     ((empty ∷ []) ∷ ((codes "a1007f80a09650900f8282a04540fa0064c603" ++ (padded 7 ++ codes "c0")) ∷ []) ∷ [])
 
--- A packet inserted after another that was inserted depends on it.
-abbrev pub TwoInserted : Type 0
-TwoInserted =
-    Gives (alone empty) (insert 0 (codes "42403e0a") ∷ insert 1 (codes "42403e0c") ∷ Strike 1 ∷ []) (Done 1 ∷ Done 2 ∷ Refused (DependsOn 2) ∷ [])
-    (alone (codes "a1007f80a03250900f82a1201f06" ++ (padded 12 ++ codes "c0")))
-
 -- Nothing to undo, to redo or to strike.
 abbrev pub NothingDone : Type 0
 NothingDone = Gives (alone empty) (Undo ∷ Redo ∷ Strike 9 ∷ []) (Refused NothingToUndo ∷ Refused NothingToRedo ∷ Refused NoSuchEdit ∷ []) (alone empty)

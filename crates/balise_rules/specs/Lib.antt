@@ -17,11 +17,14 @@ pub mod Accepting
 pub mod Back
 pub mod Paths
 pub mod Addresses
+pub mod Behind
 pub mod Session
 pub mod Review
-pub mod Behind
 pub mod Examples
 pub mod Rows
 pub mod GroupRows
+pub mod InfillRows
+pub mod StrikeRows
 pub mod Laws
 pub mod Opening
+pub mod JournalRows

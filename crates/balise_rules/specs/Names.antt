@@ -1,4 +1,4 @@
--- Names: which identities the elements of links name (SUBSET-026, 3.4, and packet 5 in chapter 7).
+-- Names: which identities the elements of links and of infill location references name (SUBSET-026, 3.4, and packets 5 and 136 in chapter 7).
 use Rattle.std.specs.Prelude.{◌≡◌, ℕ, ◌&&◌, not, Bool, true, false, cond, List, [], ◌∷◌, ◌++◌, length, map, filter, flat_map, Option, Some, None, eqb}
 use Rattle.balise_rules.specs.declared.variable.Var.TheVariants.{NidC, NidBg}
 use Rattle.balise_rules.specs.declared.identity.Id.{Id}

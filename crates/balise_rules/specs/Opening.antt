@@ -1,17 +1,20 @@
 -- A session read from a journal: its lines are edits with their serials and what they noted (this project's own).
-use Rattle.std.specs.Prelude.{ℕ, zero, suc, ◌+◌, ◌==◌, ◌&&◌, ◌||◌, not, nat_le, nat_lt, Bool, true, false, cond, eqb, List, [], ◌∷◌, ◌++◌, Option, Some, None, Result, Ok, Err, option_and_then, is_none, is_some}
+use Rattle.std.specs.Prelude.{ℕ, suc, ◌&&◌, nat_le, nat_lt, Bool, true, false, cond, eqb, List, [], ◌∷◌, ◌++◌, length, map, reverse, Option, Some, None, Result, Ok, Err, option_and_then, is_none}
 use Rattle.balise_rules.specs.declared.refusal.Refusal.{Refusal}
 use Rattle.balise_rules.specs.declared.tag.Tag.{Tag}
 use Rattle.balise_rules.specs.Tagged.{same_spot}
 use Rattle.balise_rules.specs.Tags.{same_tag}
-use Rattle.balise_rules.specs.Packet.{Packet}
+use Rattle.balise_rules.specs.Bits.{zeros}
+use Rattle.balise_rules.specs.Digits.{fill}
+use Rattle.balise_rules.specs.Packet.{Packet, bits_of, width}
 use Rattle.balise_rules.specs.Telegram.{Telegram, version_of}
 use Rattle.balise_rules.specs.Plan.{Plan, telegram_at}
-use Rattle.balise_rules.specs.Edits.{Edit, Item, SetVar, SetHead, InsertPacket, DeletePacket, MovePacket, AddGroup, DropGroup, Renumber, TurnGroup}
+use Rattle.balise_rules.specs.Edits.{Edit, Item, SetVar, SetHead, InsertPacket, DeletePacket, MovePacket, DropGroup, Renumber}
 use Rattle.balise_rules.specs.Notes.{Note, noted}
 use Rattle.balise_rules.specs.Doing.{refusal, done}
 use Rattle.balise_rules.specs.Addresses.{packet_in}
-use Rattle.balise_rules.specs.Session.{State}
+use Rattle.balise_rules.specs.Paths.{Entry}
+use Rattle.balise_rules.specs.Session.{State, Removed, Reply, Struck, Strike, entries, held, put_back, answer_in_time, top}
 
 -- what a line says of the plan before its edit: nothing, an old value, an old number, or the old next neighbour of a packet or of a group (none: the end)
 pub data Said : Type 0 where
@@ -98,3 +101,63 @@ most_serial = 4000000000
 -- The session of a journal's next serial and lines, or where it doesn't fit: at its next serial, or at a line.
 abbrev pub from_entries : Plan → ℕ → List Line → Result State (Option ℕ)
 from_entries plan next ls = cond (nat_le 1 next && nat_le next most_serial) (opened_with plan next (items_of 0 0 next ls plan)) (Err None)
+
+-- What a journal says: the edits that would stand if the whole stack were put back, and the serials of the stack.
+
+-- the line of an entry: of a packet its bits, and zeros up to a whole byte
+abbrev pub line_of : Entry → Line
+line_of ((s, InsertPacket g t a x), m) = record { serial = s; edit = Inserting g t a (bits_of x ++ zeros (fill (width x))); said = Nothing }
+line_of ((s, e), m) = record { serial = s; edit = Plain e; said = said_of e m }
+
+-- the standing edits with all of the stack put back, its top first
+abbrev pub all_back : List Removed → List Item → List Item
+all_back [] es = es
+all_back (r ∷ rs) es = all_back rs (put_back r es)
+
+-- the lines of those edits, with the anchors and notes that they would have
+abbrev pub lines : State → List Line
+lines s = map line_of (entries s.base (all_back s.stack s.standing))
+
+-- the serials of the stack, the last one of it first
+abbrev pub undone : State → List ℕ
+undone s = reverse (map (λ (r : Removed). r.item.0) s.stack)
+
+-- the serial of the last edit; 0 where there is none
+abbrev pub last_serial : List Item → ℕ
+last_serial [] = 0
+last_serial (e ∷ []) = e.0
+last_serial (e ∷ f ∷ es) = last_serial (f ∷ es)
+
+abbrev pub with_item : State → Option Item → Option State
+with_item s None = None
+with_item s (Some e) = Some (record s { standing = s.standing ++ e ∷ [] })
+
+-- the session of a journal with one more edit done, where none was struck yet
+abbrev pub with_entry : State → Line → Option State
+with_entry s l = cond (is_none (top s.stack)) (with_item s (item_of (last_serial s.standing) s.serial l (held s))) None
+
+-- what a strike that isn't counted leaves, where it is done
+abbrev pub uncounted : ℕ → Reply × State → Option State
+uncounted n (Struck serial, s) = Some (record s { count = n })
+uncounted n (r, s) = None
+
+-- the session of a journal with one more edit struck
+abbrev pub with_undone : State → ℕ → Option State
+with_undone s serial = uncounted s.count (answer_in_time (Strike serial) s)
+
+-- with more of them struck, or the place of the first that isn't, counted on from n
+abbrev pub or_place : ℕ → Option State → (State → Result State (Option ℕ)) → Result State (Option ℕ)
+or_place n None next = Err (Some n)
+or_place n (Some s) next = next s
+
+abbrev pub with_all_undone : ℕ → List ℕ → State → Result State (Option ℕ)
+with_all_undone n [] s = Ok s
+with_all_undone n (u ∷ us) s = or_place n (with_undone s u) (with_all_undone (suc n) us)
+
+abbrev pub and_undone : ℕ → List ℕ → Result State (Option ℕ) → Result State (Option ℕ)
+and_undone n us (Err at) = Err at
+and_undone n us (Ok s) = with_all_undone n us s
+
+-- The session of a journal's next serial, lines and stack, or where it doesn't fit: at its next serial, or at a line, those of the stack counted on from the others.
+abbrev pub from_journal : Plan → ℕ → List Line → List ℕ → Result State (Option ℕ)
+from_journal plan next ls us = and_undone (length ls) us (from_entries plan next ls)

@@ -53,19 +53,24 @@ restriction rest = plain QScale (plain NidTsr (plain DTsr (plain LTsr (plain QFr
 unfoldable pub revocation : Form → Form
 revocation rest = plain NidTsr rest
 
+-- packet 136, infill location reference: the group where the infill information belongs, an element without orientation
+unfoldable pub infill : Form → Form
+infill rest = valued QNewcountry (λ new. country new (plain NidBg rest))
+
 -- the first three bits of M_VERSION
 abbrev pub major : ℕ → ℕ
 major version = version / 16
 
 -- whether a packet is known in a version: 27 and 41 where the first part of the version is 2, the others in each (this project's choice)
 unfoldable pub is_known : ℕ → ℕ → Bool
-is_known version n = n == 5 || n == 21 || n == 65 || n == 66 || major version == 2 && (n == 27 || n == 41)
+is_known version n = n == 5 || n == 21 || n == 65 || n == 66 || n == 136 || major version == 2 && (n == 27 || n == 41)
 
 -- what follows the first three fields of a known packet
 unfoldable pub known_body : ℕ → Form
 known_body n =
     if n == 5 then linking shut else if n == 21 then gradients shut else if n == 27 then speeds shut
-    else if n == 41 then levels shut else if n == 65 then restriction shut else revocation shut
+    else if n == 41 then levels shut else if n == 65 then restriction shut
+    else if n == 66 then revocation shut else infill shut
 
 -- what follows the first three fields: packet 0 and packet 255 are none that have them, and an unknown packet is kept bit for bit
 unfoldable pub body : ℕ → ℕ → Form

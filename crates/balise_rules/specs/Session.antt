@@ -3,13 +3,15 @@ use Rattle.std.specs.Prelude.{◌≡◌, ℕ, suc, not, nat_le, nat_lt, eqb, Boo
 use Rattle.balise_rules.specs.declared.variable.Var.TheVariants.{NidBg}
 use Rattle.balise_rules.specs.declared.refusal.Refusal.{Refusal}
 use Rattle.balise_rules.specs.declared.refusal.Refusal.TheVariants.{NothingToUndo, NothingToRedo, NoSuchEdit, DependsOn, Worn, OutOfMemory}
+use Rattle.balise_rules.specs.declared.tag.Tag.TheVariants.{Fresh}
 use Rattle.balise_rules.specs.Tags.{same_var}
 use Rattle.balise_rules.specs.Plan.{Plan}
 use Rattle.balise_rules.specs.Edits.{Edit, Item, SetVar, SetHead, TurnGroup}
 use Rattle.balise_rules.specs.Notes.{noted}
 use Rattle.balise_rules.specs.Doing.{refusal, done}
 use Rattle.balise_rules.specs.Accepting.{Accepted}
-use Rattle.balise_rules.specs.Paths.{Entry, independent}
+use Rattle.balise_rules.specs.Paths.{Entry}
+use Rattle.balise_rules.specs.Behind.{anchor_of, outlives, serials_behind, hung}
 use Rattle.balise_rules.specs.Addresses.{Command, edit_of}
 
 -- what edits make of a plan, one after another
@@ -27,11 +29,20 @@ abbrev pub entries : Plan → List Item → List Entry
 entries plan [] = []
 entries plan (e ∷ es) = (e, noted e.1 plan) ∷ entries (done e plan) es
 
+-- An edit that was undone or struck, and the serials of the later edits that stood behind it: they stand on its own anchor meanwhile.
+pub record Removed : Type 0 where
+  pub item : Item
+  pub behind : List ℕ
+
+-- an edit behind which none stands
+abbrev pub lone : Item → Removed
+lone e = record { item = e; behind = [] }
+
 -- The plan first read; the standing edits, by rising serial; those undone or struck, the last one first; the next serial; how many commands were accepted.
 pub record State : Type 0 where
   pub base : Plan
   pub standing : List Item
-  pub stack : List Item
+  pub stack : List Removed
   pub serial : ℕ
   pub count : ℕ
 
@@ -83,35 +94,47 @@ abbrev pub put_by_serial : Item → List Item → List Item
 put_by_serial e [] = e ∷ []
 put_by_serial e (f ∷ fs) = cond (nat_lt e.0 f.0) (e ∷ f ∷ fs) (f ∷ put_by_serial e fs)
 
--- an item taken out of the standing edits and put on the stack
-abbrev pub taken_out : State → Item → State
-taken_out s e = record { base = s.base; standing = others e.0 s.standing; stack = e ∷ s.stack; serial = s.serial; count = suc s.count }
+-- the standing edits without one, which goes to the stack
+abbrev pub taken_out : State → List Item → Removed → State
+taken_out s es r = record { base = s.base; standing = es; stack = r ∷ s.stack; serial = s.serial; count = suc s.count }
 
 abbrev pub answer_undo : State → Option Item → Reply × State
 answer_undo s None = (Refused NothingToUndo, s)
-answer_undo s (Some e) = (Undone e.0, taken_out s e)
+answer_undo s (Some e) = (Undone e.0, taken_out s (others e.0 s.standing) (lone e))
 
-abbrev pub answer_redo : State → List Item → Reply × State
+-- the standing edits with one put back at its own place; those that stood behind it are anchored on what it puts in, as before
+abbrev pub put_back : Removed → List Item → List Item
+put_back r es = put_by_serial r.item (hung (Some (Fresh r.item.0)) r.behind es)
+
+abbrev pub answer_redo : State → List Removed → Reply × State
 answer_redo s [] = (Refused NothingToRedo, s)
-answer_redo s (e ∷ es) = (Redone e.0, record { base = s.base; standing = put_by_serial e s.standing; stack = es; serial = s.serial; count = suc s.count })
+answer_redo s (r ∷ rs) = (Redone r.item.0, record { base = s.base; standing = put_back r s.standing; stack = rs; serial = s.serial; count = suc s.count })
 
 -- the entries behind that of a serial
 abbrev pub later : ℕ → List Entry → List Entry
 later serial [] = []
 later serial (e ∷ es) = cond (eqb serial e.0.0) es (later serial es)
 
--- the serial of the first entry that isn't independent of e
+-- the serial of the first entry that is neither independent of e nor stands behind it
 abbrev pub first_dependent : Entry → List Entry → Option ℕ
 first_dependent e [] = None
-first_dependent e (f ∷ fs) = cond (independent e f) (first_dependent e fs) (Some f.0.0)
+first_dependent e (f ∷ fs) = cond (outlives e f) (first_dependent e fs) (Some f.0.0)
 
-abbrev pub answer_dependent : State → Item → Option ℕ → Reply × State
-answer_dependent s e (Some serial) = (Refused (DependsOn serial), s)
-answer_dependent s e None = (Struck e.0, taken_out s e)
+-- the state where e was struck, and these serials stood behind it
+abbrev pub struck_out : State → Item → List ℕ → State
+struck_out s e behind = taken_out s (hung (anchor_of e.1) behind (others e.0 s.standing)) (record { item = e; behind = behind })
+
+-- a strike of e, which has these entries behind it, of which this is the first that depends on it
+abbrev pub answer_dependent : State → Entry → List Entry → Option ℕ → Reply × State
+answer_dependent s e fs (Some serial) = (Refused (DependsOn serial), s)
+answer_dependent s e fs None = (Struck e.0.0, struck_out s e.0 (serials_behind e fs))
+
+abbrev pub answer_among : State → Entry → List Entry → Reply × State
+answer_among s e fs = answer_dependent s e fs (first_dependent e fs)
 
 abbrev pub answer_strike : State → Option Entry → Reply × State
 answer_strike s None = (Refused NoSuchEdit, s)
-answer_strike s (Some e) = answer_dependent s e.0 (first_dependent e (later e.0.0 (entries s.base s.standing)))
+answer_strike s (Some e) = answer_among s e (later e.0.0 (entries s.base s.standing))
 
 abbrev pub answer_in_time : Call → State → Reply × State
 answer_in_time (Ask c) s = answer_edit s (edit_of c (held s))
@@ -131,9 +154,9 @@ needs_no_memory (Some (s, SetHead g t v n)) = true
 needs_no_memory (Some (s, TurnGroup g)) = true
 needs_no_memory (Some e) = false
 
-abbrev pub top : List Item → Option Item
+abbrev pub top : List Removed → Option Item
 top [] = None
-top (e ∷ es) = Some e
+top (r ∷ rs) = Some r.item
 
 -- whether a command may be refused for want of memory
 abbrev pub takes_memory : Call → State → Bool

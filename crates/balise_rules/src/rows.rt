@@ -1,6 +1,9 @@
 //! Worked rows of the rules, which the checker computes, each a clause of a function that does nothing.
 
-ghost use Rattle.balise_rules.specs.GroupRows.{DroppedAndAdded, EditedAfterUndo, FourPackets, LinkStruck, NothingDone, PlansRefused, Refilled, RenumberRefused, Renumbered, TurnReviewed, Turned, TwoInserted};
+ghost use Rattle.balise_rules.specs.GroupRows.{DroppedAndAdded, EditedAfterUndo, FourPackets, LinkStruck, NothingDone, PlansRefused, Refilled, RenumberRefused, Renumbered, TurnReviewed, Turned};
+ghost use Rattle.balise_rules.specs.InfillRows.{InfillCut, InfillRenumbered, InfillReviewed, InfillSet, InfillTaken};
+ghost use Rattle.balise_rules.specs.JournalRows.{EntryFollows, JournalsRefused, SetSaid, StruckSaid};
+ghost use Rattle.balise_rules.specs.StrikeRows.{MovedBehind, TwoAdded, TwoInserted};
 ghost use Rattle.balise_rules.specs.Rows.{DigitsRefused, Filled, InsertedAndUndone, LinkSet, OthersSet, PaddingKept, ProfileSet, SetAndUndone, SpareRefused, Unchanged};
 
 /// Rows of packets and of one telegram.
@@ -26,9 +29,28 @@ pub fn plan_rows()
     ensures four_packets { FourPackets }
     ensures refilled { Refilled }
     ensures link_struck { LinkStruck }
-    ensures two_inserted { TwoInserted }
     ensures nothing_done { NothingDone }
     ensures dropped_and_added { DroppedAndAdded }
     ensures plans_refused { PlansRefused }
     ensures edited_after_undo { EditedAfterUndo }
+{}
+
+/// Rows of packet 136.
+pub fn infill_rows()
+    ensures renumbered { InfillRenumbered }
+    ensures taken { InfillTaken }
+    ensures set { InfillSet }
+    ensures cut { InfillCut }
+    ensures reviewed { InfillReviewed }
+{}
+
+/// Rows of strikes under later neighbours, and of journals.
+pub fn strike_rows()
+    ensures two_inserted { TwoInserted }
+    ensures two_added { TwoAdded }
+    ensures moved_behind { MovedBehind }
+    ensures set_said { SetSaid }
+    ensures struck_said { StruckSaid }
+    ensures entry_follows { EntryFollows }
+    ensures journals_refused { JournalsRefused }
 {}

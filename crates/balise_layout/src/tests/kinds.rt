@@ -3,7 +3,9 @@
 use crate::laws::{
     as_long_as_said, one_spelling, reads_what_is_spelt, setting_keeps, spells_once, written_is_read,
 };
-use crate::tests::{GRADIENTS, LEVELS, LINKS, OPAQUE, RESTRICTION, REVOCATION, SPEEDS, packet_of};
+use crate::tests::{
+    GRADIENTS, INFILL, LEVELS, LINKS, OPAQUE, RESTRICTION, REVOCATION, SPEEDS, packet_of,
+};
 use crate::visit::Nothing;
 use crate::{Kind, Layout, is_known};
 use std::process::Abort;
@@ -12,7 +14,7 @@ use std::test::Fail;
 // A packet in digits, the version of its telegram, and its number where that version knows it.
 type Row = (&'static str, u32, Option<u32>);
 
-const ROWS: [Row; 9] = [
+const ROWS: [Row; 10] = [
     (LINKS, 33, Some(5)),
     (GRADIENTS, 33, Some(21)),
     (SPEEDS, 33, Some(27)),
@@ -21,6 +23,7 @@ const ROWS: [Row; 9] = [
     (LEVELS, 16, None),
     (RESTRICTION, 16, Some(65)),
     (REVOCATION, 33, Some(66)),
+    (INFILL, 16, Some(136)),
     (OPAQUE, 33, None),
 ];
 
@@ -45,6 +48,7 @@ fn number_of(kind: &Kind) -> Option<u32> {
         Kind::LevelTransition(_) => Some(41),
         Kind::SpeedRestriction(_) => Some(65),
         Kind::Revocation(_) => Some(66),
+        Kind::InfillLocation(_) => Some(136),
         Kind::Opaque(_) => None,
     }
 }
@@ -57,6 +61,7 @@ fn check_kind<R: Abort>(rt: &R, kind: &Kind, version: u32) -> Result<(), Fail> {
         Kind::LevelTransition(packet) => check_layout(rt, packet, version),
         Kind::SpeedRestriction(packet) => check_layout(rt, packet, version),
         Kind::Revocation(packet) => check_layout(rt, packet, version),
+        Kind::InfillLocation(packet) => check_layout(rt, packet, version),
         Kind::Opaque(packet) => check_layout(rt, packet, version),
     }
 }
@@ -78,6 +83,7 @@ fn versions_know_their_packets(rt: HostRuntime) {
         (16, 21, true),
         (16, 65, true),
         (16, 66, true),
+        (16, 136, true),
         (16, 27, false),
         (31, 41, false),
         (32, 27, true),

@@ -1,0 +1,130 @@
+-- The law that an accepted edit leaves a sound plan sound.
+-- From its groups, which are kept, their identities, which stay apart, and an added group, which is sound since it was read.
+-- What a telegram asks of what is put into it is what acceptance, spelling and a new serial give.
+use Rattle.std.proofs.Common.{◌≡◌, ◌≢◌, ℕ, Bool, false, All, List, [], ◌∷◌, length, Option, Some, sym, ap, subst, ◌∙◌}
+use Rattle.std.proofs.lemmas.List.Elements.{All-cons, All-nil}
+use Rattle.balise_rules.specs.declared.tag.Tag.{Tag}
+use Rattle.balise_rules.specs.declared.tag.Tag.TheVariants.{Fresh}
+use Rattle.balise_rules.specs.declared.identity.Id.{Id}
+use Rattle.balise_rules.specs.Tagged.{find, each, Distinct, put, without}
+use Rattle.balise_rules.specs.Tags.{same_tag, same_id}
+use Rattle.balise_rules.specs.Telegram.{Telegram, version_of}
+use Rattle.balise_rules.specs.Plan.{Plan, Group, reserved, identity_of, telegram_at, IsSoundGroup, IsSound}
+use Rattle.balise_rules.specs.Notes.{noted}
+use Rattle.balise_rules.specs.Doing.{done, renumbered}
+use Rattle.balise_rules.specs.Accepting.{Accepted, AcceptedAt, AcceptedIn, Lawful}
+use Rattle.balise_rules.specs.Edits.{Edit, Item, SetVar, SetHead, InsertPacket, DeletePacket, MovePacket, AddGroup, DropGroup, Renumber, TurnGroup, group_of, group_after}
+use Rattle.balise_edit_laws.specs.TakenBack.{IsReady}
+use Rattle.balise_rules.proofs.Tests.{IsTest, split_on, split_keys, flip_no, tag_test, id_test}
+use Rattle.balise_rules.proofs.Lists.{unsome}
+use Rattle.balise_rules.proofs.Distincts.{distinct-each, distinct-without, distinct-put}
+use Rattle.balise_edit_laws.proofs.Found.{group_sound}
+use Rattle.balise_edit_laws.proofs.Each.{found_later}
+use Rattle.balise_edit_laws.proofs.Levels.{place_is}
+use Rattle.balise_edit_laws.proofs.PacketsKept.{all-put, all-without, Fitted}
+use Rattle.balise_edit_laws.proofs.HeadsKept.{new_identity}
+use Rattle.balise_edit_laws.proofs.GroupsKept.{group_kept, GroupKept}
+use Rattle.balise_edit_laws.proofs.GroupsRead.{group_read}
+use Rattle.balise_edit_laws.proofs.Identities.{AllApart, differ_apart, apart_differ, apart_each, apart_put, apart_without}
+
+-- what is put into a telegram that is found
+fitted : (e : Item) → (plan : Plan) → IsReady e plan → (g : Tag) → (t : ℕ) → (y : Telegram) → telegram_at g t plan ≡ Some y → Fitted e g t (version_of y) (length y.padding) y.packets
+fitted (s, InsertPacket g0 t0 a x) plan r g t y q = λ c.
+    let here : telegram_at g0 t0 plan ≡ Some y = place_is g0 g t0 t plan c ∙ q in
+    let w : AcceptedIn (InsertPacket g0 t0 a x) y = subst (AcceptedAt (InsertPacket g0 t0 a x)) here r.accepted.1 in
+    (r.unused.packets g t y q, r.spelt y here, w.1)
+fitted (s, SetVar g0 t0 p v k n) plan r g t y q = tt
+fitted (s, SetHead g0 t0 v n) plan r g t y q = tt
+fitted (s, DeletePacket g0 t0 p) plan r g t y q = tt
+fitted (s, MovePacket g0 t0 p a) plan r g t y q = tt
+fitted (s, AddGroup a bs) plan r g t y q = tt
+fitted (s, DropGroup g0) plan r g t y q = tt
+fitted (s, Renumber g0 n) plan r g t y q = tt
+fitted (s, TurnGroup g0) plan r g t y q = tt
+
+-- no group gets the reserved number
+number_free : (e : Edit) → Lawful e → (g : Tag) → (i : Id) → i.number ≢ reserved → (new_identity e g i).number ≢ reserved
+number_free (Renumber g0 n) l g i h = split_on (same_tag g0 g) (λ e. simp e l.1) (λ e. simp e h)
+number_free (SetVar g0 t0 p v k n) l g i h = h
+number_free (SetHead g0 t0 v n) l g i h = h
+number_free (InsertPacket g0 t0 a x) l g i h = h
+number_free (DeletePacket g0 t0 p) l g i h = h
+number_free (MovePacket g0 t0 p a) l g i h = h
+number_free (AddGroup a bs) l g i h = h
+number_free (DropGroup g0) l g i h = h
+number_free (TurnGroup g0) l g i h = h
+
+-- two groups have two identities after an edit
+stay_apart : (e : Edit) → (plan : Plan) → Accepted e plan → AllApart plan → (g h : Tag) → (ys zs : Group) → find same_tag g plan ≡ Some ys → find same_tag h plan ≡ Some zs → same_tag g h ≡ false →
+    same_id (new_identity e g (identity_of ys)) (new_identity e h (identity_of zs)) ≡ false
+stay_apart (Renumber g0 n) plan a all g h ys zs b c d =
+    split_keys tag_test g0 g
+    (λ e q. let o : same_tag g0 h ≡ false = ap (λ u. same_tag u h) q ∙ d in
+    let w : a.1.0 ≡ ys = unsome (sym a.1.1 ∙ ap (λ u. find same_tag u plan) q ∙ b) in
+    let v = flip_no id_test (identity_of zs) (renumbered (Some ys) n) (ap (λ x. same_id (identity_of zs) (renumbered (Some x) n)) (sym w) ∙ a.1.2 h zs c) in
+    simp (e, o) v)
+    (λ e. split_keys tag_test g0 h
+    (λ f q. let w : a.1.0 ≡ zs = unsome (sym a.1.1 ∙ ap (λ u. find same_tag u plan) q ∙ c) in
+    let v = ap (λ x. same_id (identity_of ys) (renumbered (Some x) n)) (sym w) ∙ a.1.2 g ys b in
+    simp (e, f) v)
+    (λ f. simp (e, f) (all g h ys zs b c d)))
+stay_apart (SetVar g0 t0 p v k n) plan a all g h ys zs b c d = all g h ys zs b c d
+stay_apart (SetHead g0 t0 v n) plan a all g h ys zs b c d = all g h ys zs b c d
+stay_apart (InsertPacket g0 t0 x y) plan a all g h ys zs b c d = all g h ys zs b c d
+stay_apart (DeletePacket g0 t0 p) plan a all g h ys zs b c d = all g h ys zs b c d
+stay_apart (MovePacket g0 t0 p x) plan a all g h ys zs b c d = all g h ys zs b c d
+stay_apart (AddGroup x bs) plan a all g h ys zs b c d = all g h ys zs b c d
+stay_apart (DropGroup g0) plan a all g h ys zs b c d = all g h ys zs b c d
+stay_apart (TurnGroup g0) plan a all g h ys zs b c d = all g h ys zs b c d
+
+-- what each changed item has that was found
+all-each_found : {K A : Type 0} → {same : K → K → Bool} → IsTest same → (Q : A → Type 0) → (f : K → A → A) → (xs : List (K × A)) → Distinct same xs → ((k : K) → (x : A) → find same k xs ≡ Some x → Q (f k x)) → All (λ z. Q z.1) (each f xs)
+all-each_found t Q f [] u h = All-nil (λ z. Q z.1)
+all-each_found t Q f (y ∷ ys) u h =
+    let r = t.itself y.0 in
+    All-cons (λ z. Q z.1) (y.0, f y.0 y.1) (each f ys) (h y.0 y.1 (simp r)) (all-each_found t Q f ys u.1 (λ k x e. h k x (found_later t y ys u.0 k x e)))
+
+-- an edit within the groups
+sound_within : (e : Item) → (own : Id) → (plan : Plan) → IsReady e plan → IsSound (each (group_after e own) plan)
+sound_within e own plan r =
+    let u = distinct-each tag_test (group_after e own) plan r.sound.tags in
+    let all = differ_apart plan r.sound.identities in
+    record {
+      tags = u;
+      identities = apart_differ (each (group_after e own) plan) u (apart_each e.1 (group_after e own) plan all (λ g ys q. (kept_at g ys q).identity) (stay_apart e.1 plan r.accepted all));
+      groups = all-each_found tag_test IsSoundGroup (group_after e own) plan r.sound.tags (λ g ys q. (kept_at g ys q).sound);
+    }
+  where
+    kept_at : (g : Tag) → (ys : Group) → find same_tag g plan ≡ Some ys → GroupKept (new_identity e.1 g (identity_of ys)) (group_after e own g ys)
+    kept_at g ys q =
+        let s = group_sound plan r.sound g ys q in
+        group_kept e r.accepted.0 own g ys s (λ t y h. let here : telegram_at g t plan ≡ Some y = simp q h in fitted e plan r g t y here) (number_free e.1 r.accepted.0 g (identity_of ys) s.number)
+
+sound_added : (s : ℕ) → (a : Option Tag) → (bs : List (List Bool)) → (plan : Plan) → IsReady (s, AddGroup a bs) plan → IsSound (put same_tag a (Fresh s, group_of bs) plan)
+sound_added s a bs plan r =
+    let u = distinct-put tag_test a (Fresh s, group_of bs) plan r.sound.tags r.unused.groups in
+    record {
+      tags = u;
+      identities = apart_differ (put same_tag a (Fresh s, group_of bs) plan) u (apart_put a (Fresh s, group_of bs) plan r.accepted.1.0 r.unused.groups r.accepted.1.1 (differ_apart plan r.sound.identities));
+      groups = all-put IsSoundGroup same_tag a (Fresh s, group_of bs) plan (group_read bs (group_of bs) r.accepted.0).sound r.sound.groups;
+    }
+
+sound_dropped : (g : Tag) → (plan : Plan) → IsSound plan → IsSound (without same_tag g plan)
+sound_dropped g plan s =
+    let u = distinct-without same_tag g plan s.tags in
+    record {
+      tags = u;
+      identities = apart_differ (without same_tag g plan) u (apart_without g plan (differ_apart plan s.identities));
+      groups = all-without IsSoundGroup same_tag g plan s.groups;
+    }
+
+pub sound_kept : (e : Item) → (plan : Plan) → IsReady e plan → IsSound (done e plan)
+sound_kept (s, SetVar g t p v k n) plan r = sound_within (s, SetVar g t p v k n) (noted (SetVar g t p v k n) plan).own plan r
+sound_kept (s, SetHead g t v n) plan r = sound_within (s, SetHead g t v n) (noted (SetHead g t v n) plan).own plan r
+sound_kept (s, InsertPacket g t a x) plan r = sound_within (s, InsertPacket g t a x) (noted (InsertPacket g t a x) plan).own plan r
+sound_kept (s, DeletePacket g t p) plan r = sound_within (s, DeletePacket g t p) (noted (DeletePacket g t p) plan).own plan r
+sound_kept (s, MovePacket g t p a) plan r = sound_within (s, MovePacket g t p a) (noted (MovePacket g t p a) plan).own plan r
+sound_kept (s, Renumber g n) plan r = sound_within (s, Renumber g n) (noted (Renumber g n) plan).own plan r
+sound_kept (s, TurnGroup g) plan r = sound_within (s, TurnGroup g) (noted (TurnGroup g) plan).own plan r
+sound_kept (s, AddGroup a bs) plan r = sound_added s a bs plan r
+sound_kept (s, DropGroup g) plan r = sound_dropped g plan r.sound

@@ -1,6 +1,0 @@
-use Rattle.balise_keeping.proofs.SoundKept.{sound_kept}
-use Rattle.balise_keeping.proofs.UnusedKept.{unused_kept}
-use Rattle.balise_keeping.proofs.kept.Goals as goal
-
-pub returns : goal.returns
-returns c = λ e plan r. (sound_kept e plan r, unused_kept e plan r)

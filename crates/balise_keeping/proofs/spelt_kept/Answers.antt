@@ -1,5 +1,0 @@
-use Rattle.balise_keeping.proofs.SpeltKept.{spelt_after, spelt_before}
-use Rattle.balise_keeping.proofs.spelt_kept.Goals as goal
-
-pub returns : goal.returns
-returns c = λ e f plan r. (spelt_after e f plan r, spelt_before e f plan r)

@@ -1,5 +1,0 @@
-use Rattle.balise_laws.proofs.Commuting.{commuting}
-use Rattle.balise_laws.proofs.commute.Goals as goal
-
-pub returns : goal.returns
-returns c = commuting

@@ -1,5 +1,0 @@
-use Rattle.balise_laws.proofs.StandsBehind.{commuting_behind}
-use Rattle.balise_laws.proofs.commute_behind.Goals as goal
-
-pub returns : goal.returns
-returns c = commuting_behind

@@ -1,5 +1,0 @@
-use Rattle.balise_laws.proofs.Symmetry.{symmetric}
-use Rattle.balise_laws.proofs.independent_from_both_sides.Goals as goal
-
-pub returns : goal.returns
-returns c = symmetric

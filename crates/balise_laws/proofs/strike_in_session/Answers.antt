@@ -1,5 +1,0 @@
-use Rattle.balise_laws.proofs.SessionStrikes.{striking_here}
-use Rattle.balise_laws.proofs.strike_in_session.Goals as goal
-
-pub returns : goal.returns
-returns c = striking_here

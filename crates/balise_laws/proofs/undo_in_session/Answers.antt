@@ -1,5 +1,0 @@
-use Rattle.balise_laws.proofs.SessionStrikes.{undoing_here}
-use Rattle.balise_laws.proofs.undo_in_session.Goals as goal
-
-pub returns : goal.returns
-returns c = undoing_here

@@ -1,5 +1,0 @@
-use Rattle.balise_laws.proofs.Example.{example}
-use Rattle.balise_laws.proofs.witnessed.Goals as goal
-
-pub returns : goal.returns
-returns c = example

@@ -1,4 +1,0 @@
-pub mod Laws
-pub mod Striking
-pub mod Witness
-pub mod InSession

@@ -1,0 +1,242 @@
+-- An edit of one telegram on the plan, before and after any edit.
+-- Proves that a group that an edit spares is found again, changed as it says; and that an edit of one telegram is accepted and notes the same, forward and back.
+-- From its reading in the telegram.
+use Rattle.std.proofs.Common.{◌≡◌, ℕ, true, false, ◌&&◌, eqb, [], ◌∷◌, Option, Some, None, refl, sym, ap, subst, ◌∙◌}
+use Rattle.std.proofs.lemmas.Bool.{and_parts, false≢true}
+use Rattle.std.specs.Option.{option_map, option_and_then}
+use Rattle.balise_rules.specs.declared.tag.Tag.{Tag}
+use Rattle.balise_rules.specs.declared.tag.Tag.TheVariants.{Fresh}
+use Rattle.balise_rules.specs.declared.identity.Id.{Id}
+use Rattle.balise_rules.specs.Tagged.{find, behind, each, Distinct}
+use Rattle.balise_rules.specs.Tags.{same_tag}
+use Rattle.balise_rules.specs.Telegram.{Telegram}
+use Rattle.balise_rules.specs.Plan.{Group, Plan, country_of, telegram_at}
+use Rattle.balise_rules.specs.Edits.{Edit, Item, SetVar, SetHead, InsertPacket, DeletePacket, MovePacket, AddGroup, DropGroup, Renumber, TurnGroup, group_of, effect, group_after, in_order, telegram_after, packets_change}
+use Rattle.balise_rules.specs.Notes.{Note, note_in, note_at, noted}
+use Rattle.balise_rules.specs.Doing.{done}
+use Rattle.balise_rules.specs.Accepting.{AcceptedIn, AcceptedAt, Asks, Accepted}
+use Rattle.balise_rules.specs.Paths.{Part, At, Nth, Of, Front, Head, Path, neighbour, changes, needs}
+use Rattle.balise_rules.proofs.Tests.{split_on, flip_no, tag_test, nat_test}
+use Rattle.balise_rules.proofs.Lists.{find-put, find-without, find-each}
+use Rattle.balise_strike_laws.proofs.Cases.{found, some_is, map_itself, drop1}
+use Rattle.balise_strike_laws.proofs.Fields.{each-id}
+use Rattle.balise_strike_laws.proofs.Neighbours.{Accepts, noted_change, takes, takes_out}
+use Rattle.balise_strike_laws.proofs.Levels.{each-order}
+use Rattle.balise_strike_laws.proofs.Places.{In, first_of, later_of, in-left, Clear, Reads, front_apart}
+use Rattle.balise_strike_laws.proofs.Facts.{Facts}
+use Rattle.balise_strike_laws.proofs.Named.{each-same}
+use Rattle.balise_strike_laws.proofs.Writers.{packet-id, find-reverse}
+use Rattle.balise_strike_laws.proofs.Kept.{RealOwn}
+use Rattle.balise_strike_laws.proofs.Settings.{own_change}
+use Rattle.balise_strike_laws.proofs.Readers.{Local, home, Room, noted_before, forward-in, back-in}
+
+abbrev pub GroupSpared : Item → Tag → Type 0
+GroupSpared (s, AddGroup a bs) g = same_tag g (Fresh s) ≡ false
+GroupSpared (serial1, DropGroup g1) g = same_tag g g1 ≡ false
+GroupSpared f g = Unit {0}
+
+pub spared-from : (f : Item) → (m : Note) → (g : Tag) → (a : Part) → (r : Path) → Clear (f, m) (At g ∷ a ∷ r) → GroupSpared f g
+spared-from (s, AddGroup b bs) m g a r k = flip_no tag_test (Fresh s) g (drop1 (same_tag (Fresh s) g) (k (At (Fresh s) ∷ []) first_of))
+spared-from (serial1, DropGroup g1) m g a r k = flip_no tag_test g1 g (drop1 (same_tag g1 g) (k (At g1 ∷ []) first_of))
+spared-from (serial1, SetVar g1 t p v k1 x) m g a r k = tt
+spared-from (serial1, SetHead g1 t v x) m g a r k = tt
+spared-from (s, InsertPacket g1 t b x) m g a r k = tt
+spared-from (serial1, DeletePacket g1 t p) m g a r k = tt
+spared-from (serial1, MovePacket g1 t p b) m g a r k = tt
+spared-from (serial1, Renumber g1 x) m g a r k = tt
+spared-from (serial1, TurnGroup g1) m g a r k = tt
+
+pub telegram-id : (y : Telegram) →
+    ◌≡◌ {A = Telegram} (record { head = each (λ key v. v) y.head; packets = each (λ p z. record { fields = each (λ key v. v) z.fields; rest = z.rest }) y.packets; padding = y.padding }) y
+telegram-id y = ap (λ hs. record { head = hs; packets = each (λ (p : Tag) z. record { fields = each (λ key v. v) z.fields; rest = z.rest }) y.packets; padding = y.padding }) (each-id y.head)
+    ∙ ap (λ ps. record { head = y.head; packets = ps; padding = y.padding }) (each-same (λ p z. record { fields = each (λ key v. v) z.fields; rest = z.rest }) y.packets (λ p z. packet-id z))
+
+pub find-group : (f : Item) → (j : Id) → (g : Tag) → (plan : Plan) → GroupSpared f g →
+    find same_tag g (effect f j plan) ≡ option_map (group_after f j g) (find same_tag g plan)
+find-group (s, AddGroup a bs) j g plan n = find-put same_tag g a (Fresh s, group_of bs) n plan ∙ map_itself (group_after (s, AddGroup a bs) j g) (λ xs. each-same (telegram_after (s, AddGroup a bs) j g) xs (λ t y. telegram-id y)) (find same_tag g plan)
+find-group (serial1, DropGroup g1) j g plan n = find-without tag_test g g1 n plan ∙ map_itself (group_after (serial1, DropGroup g1) j g) (λ xs. each-same (telegram_after (serial1, DropGroup g1) j g) xs (λ t y. telegram-id y)) (find same_tag g plan)
+find-group f j g plan n = find-each tag_test (group_after f j) g plan
+
+find-order : (f : Edit) → (g : Tag) → (t : ℕ) → (xs : Group) → Distinct eqb xs → find eqb t (in_order f g xs) ≡ find eqb t xs
+find-order (TurnGroup g1) g t xs u = split_on (same_tag g1 g) (λ e. simp e (find-reverse nat_test t xs u)) (λ e. simp e)
+find-order f g t xs u = refl
+
+pub find-telegram : (f : Item) → (j : Id) → (g : Tag) → (t : ℕ) → (xs : Group) → Distinct eqb xs →
+    find eqb t (group_after f j g xs) ≡ option_map (telegram_after f j g t) (find eqb t xs)
+find-telegram f j g t xs u = ap (find eqb t) (sym (each-order (telegram_after f j g) f.1 g xs)) ∙ find-each nat_test (telegram_after f j g) t (in_order f.1 g xs) ∙ ap (option_map (telegram_after f j g t)) (find-order f.1 g t xs u)
+
+pub telegram-done : (f : Item) → (j : Id) → (g : Tag) → (t : ℕ) → (plan : Plan) → Facts plan → GroupSpared f g →
+    telegram_at g t (effect f j plan) ≡ option_map (telegram_after f j g t) (telegram_at g t plan)
+telegram-done f j g t plan s n = ap (λ o. option_and_then (find eqb t) o) (find-group f j g plan n)
+    ∙ found (find same_tag g plan) (λ e. simp e) (λ xs e. simp e (find-telegram f j g t xs (s.telegrams g xs e)))
+
+-- an edit of one telegram, by its telegram
+pub asks-at : (e : Edit) → Local e → (plan : Plan) → Asks e plan → (y : Telegram) × (telegram_at (home e).0 (home e).1 plan ≡ Some y) × AcceptedIn e y
+asks-at e h plan a = at_some (telegram_at (home e).0 (home e).1 plan) (asked e h a) where
+  at_some : (o : Option Telegram) → AcceptedAt e o → (y : Telegram) × (o ≡ Some y) × AcceptedIn e y
+  at_some None k = absurd k
+  at_some (Some y) k = (y, refl, k)
+
+  asked : (e : Edit) → Local e → Asks e plan → AcceptedAt e (telegram_at (home e).0 (home e).1 plan)
+  asked (SetVar g t p v k x) h a = a
+  asked (SetHead g t v x) h a = a
+  asked (InsertPacket g t b x) h a = a
+  asked (DeletePacket g t p) h a = a
+  asked (MovePacket g t p b) h a = a
+  asked (AddGroup b bs) h a = absurd h
+  asked (DropGroup g) h a = absurd h
+  asked (Renumber g x) h a = absurd h
+  asked (TurnGroup g) h a = absurd h
+
+pub at-asks : (e : Edit) → Local e → (plan : Plan) → (y : Telegram) → telegram_at (home e).0 (home e).1 plan ≡ Some y → AcceptedIn e y → Asks e plan
+at-asks e h plan y q a = asked e h (subst (AcceptedAt e) (sym q) a) where
+  asked : (e : Edit) → Local e → AcceptedAt e (telegram_at (home e).0 (home e).1 plan) → Asks e plan
+  asked (SetVar g t p v k x) h a = a
+  asked (SetHead g t v x) h a = a
+  asked (InsertPacket g t b x) h a = a
+  asked (DeletePacket g t p) h a = a
+  asked (MovePacket g t p b) h a = a
+  asked (AddGroup b bs) h a = absurd h
+  asked (DropGroup g) h a = absurd h
+  asked (Renumber g x) h a = absurd h
+  asked (TurnGroup g) h a = absurd h
+
+pub noted-at : (e : Edit) → Local e → (plan : Plan) → (y : Telegram) → telegram_at (home e).0 (home e).1 plan ≡ Some y → noted e plan ≡ note_in e y
+noted-at (SetVar g t p v k x) h plan y q = ap (note_at (SetVar g t p v k x)) q
+noted-at (SetHead g t v x) h plan y q = ap (note_at (SetHead g t v x)) q
+noted-at (InsertPacket g t b x) h plan y q = ap (note_at (InsertPacket g t b x)) q
+noted-at (DeletePacket g t p) h plan y q = ap (note_at (DeletePacket g t p)) q
+noted-at (MovePacket g t p b) h plan y q = ap (note_at (MovePacket g t p b)) q
+noted-at (AddGroup b bs) h plan y q = absurd h
+noted-at (DropGroup g) h plan y q = absurd h
+noted-at (Renumber g x) h plan y q = absurd h
+noted-at (TurnGroup g) h plan y q = absurd h
+
+-- an accepted edit's change of a telegram's packets is accepted there
+pub here_is : (g : Tag) → (t : ℕ) → (g1 : Tag) → (t1 : ℕ) → (plan : Plan) → (same_tag g1 g && eqb t1 t) ≡ true → telegram_at g1 t1 plan ≡ telegram_at g t plan
+here_is g t g1 t1 plan e = let d = and_parts (same_tag g1 g) (eqb t1 t) e in
+    ap (λ u. telegram_at u t1 plan) (tag_test.one g1 g d.0) ∙ ap (λ u. telegram_at g u plan) (nat_test.one t1 t d.1)
+
+pub accepts-there : (f : Item) → (j : Id) → (g : Tag) → (t : ℕ) → (c : ℕ) → (plan : Plan) → Asks f.1 plan → (y : Telegram) → telegram_at g t plan ≡ Some y →
+    Accepts (packets_change f j g t c) y.packets
+accepts-there (s0, InsertPacket g1 t1 b x) j g t c plan a y q =
+    split_on (same_tag g1 g && eqb t1 t) (λ e. simp e (subst (AcceptedAt (InsertPacket g1 t1 b x)) (here_is g t g1 t1 plan e ∙ q) a).0) (λ e. simp e tt)
+accepts-there (serial1, DeletePacket g1 t1 p) j g t c plan a y q =
+    split_on (same_tag g1 g && eqb t1 t) (λ e. simp e (subst (AcceptedAt (DeletePacket g1 t1 p)) (here_is g t g1 t1 plan e ∙ q) a)) (λ e. simp e tt)
+accepts-there (serial1, MovePacket g1 t1 p b) j g t c plan a y q =
+    split_on (same_tag g1 g && eqb t1 t) (λ e. simp e (subst (AcceptedAt (MovePacket g1 t1 p b)) (here_is g t g1 t1 plan e ∙ q) a)) (λ e. simp e tt)
+accepts-there f j g t c plan a y q = tt
+
+-- what an edit takes out here stood before what it noted
+pub noted-there : (f : Item) → (j : Id) → (g : Tag) → (t : ℕ) → (c : ℕ) → (plan : Plan) → (y : Telegram) → telegram_at g t plan ≡ Some y →
+    takes_out (packets_change f j g t c) ≡ true →
+    In (At g ∷ Nth t ∷ neighbour (noted_change (packets_change f j g t c) y.packets) ∷ Front ∷ []) (changes (f, noted f.1 plan))
+noted-there (s0, InsertPacket g1 t1 b x) j g t c plan y q o =
+    split_on (same_tag g1 g && eqb t1 t) (λ e. let k = simp e at o in absurd (false≢true k)) (λ e. let k = simp e at o in absurd (false≢true k))
+noted-there (serial1, DeletePacket g1 t1 p) j g t c plan y q o =
+    split_on (same_tag g1 g && eqb t1 t)
+    (λ e. let d = and_parts (same_tag g1 g) (eqb t1 t) e in
+    let n : (noted (DeletePacket g1 t1 p) plan).before ≡ behind same_tag p y.packets = ap (λ u. (note_at (DeletePacket g1 t1 p) u).before) (here_is g t g1 t1 plan e ∙ q) in
+    let eg = (sym (tag_test.one g1 g d.0)) in let et = (sym (nat_test.one t1 t d.1)) in
+    simp e (subst (λ u. In (At u ∷ Nth t ∷ neighbour (behind same_tag p y.packets) ∷ Front ∷ []) (changes ((serial1, DeletePacket g1 t1 p), noted (DeletePacket g1 t1 p) plan))) (sym eg)
+    (subst (λ u. In (At g1 ∷ Nth u ∷ neighbour (behind same_tag p y.packets) ∷ Front ∷ []) (changes ((serial1, DeletePacket g1 t1 p), noted (DeletePacket g1 t1 p) plan))) (sym et)
+    (subst (λ u. In (At g1 ∷ Nth t1 ∷ neighbour u ∷ Front ∷ []) (changes ((serial1, DeletePacket g1 t1 p), noted (DeletePacket g1 t1 p) plan))) n (later_of first_of)))))
+    (λ e. let k = simp e at o in absurd (false≢true k))
+noted-there (serial1, MovePacket g1 t1 p b) j g t c plan y q o =
+    split_on (same_tag g1 g && eqb t1 t)
+    (λ e. let d = and_parts (same_tag g1 g) (eqb t1 t) e in
+    let n : (noted (MovePacket g1 t1 p b) plan).before ≡ behind same_tag p y.packets = ap (λ u. (note_at (MovePacket g1 t1 p b) u).before) (here_is g t g1 t1 plan e ∙ q) in
+    let eg = (sym (tag_test.one g1 g d.0)) in let et = (sym (nat_test.one t1 t d.1)) in
+    simp e (subst (λ u. In (At u ∷ Nth t ∷ neighbour (behind same_tag p y.packets) ∷ Front ∷ []) (changes ((serial1, MovePacket g1 t1 p b), noted (MovePacket g1 t1 p b) plan))) (sym eg)
+    (subst (λ u. In (At g1 ∷ Nth u ∷ neighbour (behind same_tag p y.packets) ∷ Front ∷ []) (changes ((serial1, MovePacket g1 t1 p b), noted (MovePacket g1 t1 p b) plan))) (sym et)
+    (subst (λ u. In (At g1 ∷ Nth t1 ∷ neighbour u ∷ Front ∷ []) (changes ((serial1, MovePacket g1 t1 p b), noted (MovePacket g1 t1 p b) plan))) n (later_of (later_of first_of))))))
+    (λ e. let k = simp e at o in absurd (false≢true k))
+noted-there f j g t c plan y q o = absurd (false≢true o)
+
+pub own-takes : (e : Item) → Local e.1 → (n : Note) → (b : Option Tag) → Clear (e, n) (At (home e.1).0 ∷ Nth (home e.1).1 ∷ neighbour b ∷ Front ∷ []) →
+    takes (own_change e) b ≡ false
+own-takes (serial, DeletePacket g t p) h n b k = let gs = tag_test.itself g in let ts = nat_test.itself t in front_apart (Some p) b (simp (gs, ts) at (k (At g ∷ Nth t ∷ At p ∷ []) first_of))
+own-takes (serial, MovePacket g t p a) h n b k = let gs = tag_test.itself g in let ts = nat_test.itself t in front_apart (Some p) b (simp (gs, ts) at (k (At g ∷ Nth t ∷ At p ∷ Front ∷ []) first_of))
+own-takes (serial, SetVar g t p v i x) h n b k = refl
+own-takes (serial, SetHead g t v x) h n b k = refl
+own-takes (s0, InsertPacket g t a x) h n b k = refl
+own-takes (s0, AddGroup a bs) h n b k = absurd h
+own-takes (serial, DropGroup g) h n b k = absurd h
+own-takes (serial, Renumber g x) h n b k = absurd h
+own-takes (serial, TurnGroup g) h n b k = absurd h
+
+-- what a reader noted
+pub own-noted : (e : Item) → Local e.1 → (y : Telegram) → takes_out (own_change e) ≡ true →
+    In (At (home e.1).0 ∷ Nth (home e.1).1 ∷ neighbour (noted_before e y) ∷ Front ∷ []) (changes (e, note_in e.1 y))
+own-noted (serial, DeletePacket g t p) h y o = later_of first_of
+own-noted (serial, MovePacket g t p a) h y o = later_of (later_of first_of)
+own-noted (serial, SetVar g t p v i x) h y o = absurd (false≢true o)
+own-noted (serial, SetHead g t v x) h y o = absurd (false≢true o)
+own-noted (s0, InsertPacket g t a x) h y o = absurd (false≢true o)
+own-noted (s0, AddGroup a bs) h y o = absurd h
+own-noted (serial, DropGroup g) h y o = absurd h
+own-noted (serial, Renumber g x) h y o = absurd h
+own-noted (serial, TurnGroup g) h y o = absurd h
+
+pub home-spared : (e : Item) → Local e.1 → (n : Note) → (f : Item) → (m : Note) → Reads (e, n) (f, m) → GroupSpared f (home e.1).0
+home-spared (serial, SetVar g t p v k x) h n f m r = spared-from f m g (Nth t) (At p ∷ Of v ∷ Nth k ∷ []) (r (At g ∷ Nth t ∷ At p ∷ Of v ∷ Nth k ∷ []) first_of)
+home-spared (serial, SetHead g t v x) h n f m r = spared-from f m g (Nth t) (Head ∷ Of v ∷ []) (r (At g ∷ Nth t ∷ Head ∷ Of v ∷ []) first_of)
+home-spared (s, InsertPacket g t a x) h n f m r = spared-from f m g (Nth t) (At (Fresh s) ∷ []) (r (At g ∷ Nth t ∷ At (Fresh s) ∷ []) first_of)
+home-spared (serial, DeletePacket g t p) h n f m r = spared-from f m g (Nth t) (At p ∷ []) (r (At g ∷ Nth t ∷ At p ∷ []) first_of)
+home-spared (serial, MovePacket g t p a) h n f m r = spared-from f m g (Nth t) (At p ∷ Front ∷ []) (r (At g ∷ Nth t ∷ At p ∷ Front ∷ []) first_of)
+home-spared (s0, AddGroup a bs) h n f m r = absurd h
+home-spared (serial, DropGroup g) h n f m r = absurd h
+home-spared (serial, Renumber g x) h n f m r = absurd h
+home-spared (serial, TurnGroup g) h n f m r = absurd h
+
+pub real-own : (f : Item) → (plan : Plan) → Facts plan → RealOwn (f, noted f.1 plan)
+real-own (serial, Renumber g x) plan s = found (find same_tag g plan) (λ e. simp e) (λ xs e. simp e (s.numbers g xs e))
+real-own (serial, TurnGroup g) plan s = found (find same_tag g plan) (λ e. simp e) (λ xs e. simp e (s.numbers g xs e))
+real-own f plan s = tt
+
+-- what a local edit reads, kept forward
+pub local-forward : (e : Item) → Local e.1 → (f : Item) → (plan : Plan) → Facts plan → Accepted e.1 plan → Accepted f.1 plan →
+    Reads (e, noted e.1 plan) (f, noted f.1 plan) → Reads (f, noted f.1 plan) (e, noted e.1 plan) →
+    ((y : Telegram) → telegram_at (home e.1).0 (home e.1).1 plan ≡ Some y → AcceptedIn e.1 y → Room e (telegram_after f (noted f.1 plan).own (home e.1).0 (home e.1).1 y)) →
+    Accepted e.1 (done f plan) × (noted e.1 (done f plan) ≡ noted e.1 plan)
+local-forward e h f plan s a b r1 r2 room =
+    let w = asks-at e.1 h plan a.1 in
+    let n = noted-at e.1 h plan w.0 w.1 in
+    let m = noted f.1 plan in
+    let q = telegram-done f m.own (home e.1).0 (home e.1).1 plan s (home-spared e h (noted e.1 plan) f m r1) ∙ ap (option_map (telegram_after f m.own (home e.1).0 (home e.1).1)) w.1 in
+    let r = forward-in f m b.0 (real-own f plan s) e h a.0 w.0 w.2 (subst (λ u. Reads (e, u) (f, m)) n r1)
+    (accepts-there f m.own (home e.1).0 (home e.1).1 (country_of w.0) plan b.1 w.0 w.1) (s.heads (home e.1).0 (home e.1).1 w.0 w.1).1
+    (λ o. own-takes e h (noted e.1 plan) (noted_change (packets_change f m.own (home e.1).0 (home e.1).1 (country_of w.0)) w.0.packets)
+    (r2 (At (home e.1).0 ∷ Nth (home e.1).1 ∷ neighbour (noted_change (packets_change f m.own (home e.1).0 (home e.1).1 (country_of w.0)) w.0.packets) ∷ Front ∷ [])
+    (in-left _ (changes (f, m)) (needs (f, m)) (noted-there f m.own (home e.1).0 (home e.1).1 (country_of w.0) plan w.0 w.1 o))))
+    (room w.0 w.1 w.2) in (
+      (a.0, at-asks e.1 h (done f plan) (telegram_after f m.own (home e.1).0 (home e.1).1 w.0) q r.0),
+      noted-at e.1 h (done f plan) (telegram_after f m.own (home e.1).0 (home e.1).1 w.0) q ∙ r.1 ∙ sym n,
+    )
+
+-- and back
+pub local-back : (e : Item) → Local e.1 → (f : Item) → (plan : Plan) → Facts plan → Accepted e.1 (done f plan) → Accepted f.1 plan →
+    Reads (e, noted e.1 (done f plan)) (f, noted f.1 plan) →
+    ((y : Telegram) → telegram_at (home e.1).0 (home e.1).1 plan ≡ Some y → AcceptedIn e.1 (telegram_after f (noted f.1 plan).own (home e.1).0 (home e.1).1 y) → Room e y) →
+    Accepted e.1 plan × (noted e.1 plan ≡ noted e.1 (done f plan))
+local-back e h f plan s a b r1 room =
+    let w = asks-at e.1 h (done f plan) a.1 in
+    let m = noted f.1 plan in
+    let q = telegram-done f m.own (home e.1).0 (home e.1).1 plan s (home-spared e h (noted e.1 (done f plan)) f m r1) in
+    let n = noted-at e.1 h (done f plan) w.0 w.1 in
+    some_is (telegram_at (home e.1).0 (home e.1).1 plan) (telegram_after f m.own (home e.1).0 (home e.1).1) w.0 (sym q ∙ w.1)
+    (λ y hy d.
+    let a1 = subst (AcceptedIn e.1) d w.2 in
+    let n1 = n ∙ ap (note_in e.1) d in
+    let rr = subst (λ u. Reads (e, u) (f, m)) n1 r1 in
+    let gs = tag_test.itself (home e.1).0 in let ts = nat_test.itself (home e.1).1 in
+    let x = packets_change f m.own (home e.1).0 (home e.1).1 (country_of y) in
+    let r = back-in f m b.0 (real-own f plan s) e h a.0 y a1 rr
+    (accepts-there f m.own (home e.1).0 (home e.1).1 (country_of y) plan b.1 y hy) (s.heads (home e.1).0 (home e.1).1 y hy).1
+    (λ o o2. (front_apart (noted_change x y.packets) (noted_before e (telegram_after f m.own (home e.1).0 (home e.1).1 y))
+    (simp (gs, ts) at (rr (At (home e.1).0 ∷ Nth (home e.1).1 ∷ neighbour (noted_before e (telegram_after f m.own (home e.1).0 (home e.1).1 y)) ∷ Front ∷ [])
+    (in-left _ (changes (e, note_in e.1 (telegram_after f m.own (home e.1).0 (home e.1).1 y))) (needs (e, note_in e.1 (telegram_after f m.own (home e.1).0 (home e.1).1 y))) (own-noted e h (telegram_after f m.own (home e.1).0 (home e.1).1 y) o2))
+    (At (home e.1).0 ∷ Nth (home e.1).1 ∷ neighbour (noted_change x y.packets) ∷ Front ∷ [])
+    (noted-there f m.own (home e.1).0 (home e.1).1 (country_of y) plan y hy o)))))
+    (room y hy a1) in
+    ((a.0, at-asks e.1 h plan y hy r.0), noted-at e.1 h plan y hy ∙ sym r.1 ∙ sym n1))

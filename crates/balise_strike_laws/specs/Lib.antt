@@ -1,0 +1,6 @@
+pub mod Laws
+pub mod Striking
+pub mod Witness
+pub mod InSession
+pub mod Redoing
+pub mod Journals

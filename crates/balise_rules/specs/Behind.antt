@@ -3,7 +3,7 @@ use Rattle.std.specs.Prelude.{ℕ, Bool, true, false, cond, ◌&&◌, ◌||◌, 
 use Rattle.balise_rules.specs.declared.tag.Tag.{Tag}
 use Rattle.balise_rules.specs.declared.tag.Tag.TheVariants.{Fresh}
 use Rattle.balise_rules.specs.Edits.{Edit, Item, InsertPacket, MovePacket, AddGroup}
-use Rattle.balise_rules.specs.Paths.{At, Nth, After, Path, Entry, same_part, changes, needs, any_meets, room_apart, independent}
+use Rattle.balise_rules.specs.Paths.{At, Nth, After, Path, Entry, same_part, changes, needs, any_meets, room_apart, apart}
 
 -- the path of what an edit puts in
 abbrev pub put_in : Item → Option Path
@@ -60,16 +60,16 @@ abbrev pub re_anchored : Item → Item → Item
 re_anchored e f = (f.0, anchored (anchor_of e.1) f.1)
 
 -- a later edit f outlives a strike of e: it is independent of e, or stands behind it
-abbrev pub outlives : Entry → Entry → Bool
-outlives e f = independent e f || stands_behind e f
+abbrev pub independent : Entry → Entry → Bool
+independent e f = apart e f || stands_behind e f
 
 -- what a later edit becomes where e is struck: itself, where it is independent of e; with the anchor of e, where it stands behind e
 abbrev pub becomes : Entry → Entry → Option Item
-becomes e f = cond (independent e f) (Some f.0) (cond (stands_behind e f) (Some (re_anchored e.0 f.0)) None)
+becomes e f = cond (apart e f) (Some f.0) (cond (stands_behind e f) (Some (re_anchored e.0 f.0)) None)
 
 -- the serials of the entries that aren't independent of e; where all outlive a strike of it, they stand behind it
 abbrev pub serials_behind : Entry → List Entry → List ℕ
-serials_behind e fs = map (λ (f : Entry). f.0.0) (filter (λ (f : Entry). not (independent e f)) fs)
+serials_behind e fs = map (λ (f : Entry). f.0.0) (filter (λ (f : Entry). not (apart e f)) fs)
 
 -- the edits of these serials with this anchor
 abbrev pub hung : Option Tag → List ℕ → List Item → List Item

@@ -104,5 +104,5 @@ room_apart (DeletePacket g1 t1 p) (InsertPacket g t a x) = not (same_tag g g1 &&
 room_apart e f = true
 
 -- no place that one changes meets a place that the other changes or needs, and they are apart in room
-abbrev pub independent : Entry → Entry → Bool
-independent e f = not (any_meets (changes e) (changes f ++ needs f)) && (not (any_meets (needs e) (changes f)) && room_apart e.0.1 f.0.1)
+abbrev pub apart : Entry → Entry → Bool
+apart e f = not (any_meets (changes e) (changes f ++ needs f)) && (not (any_meets (needs e) (changes f)) && room_apart e.0.1 f.0.1)

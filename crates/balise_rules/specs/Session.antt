@@ -11,7 +11,7 @@ use Rattle.balise_rules.specs.Notes.{noted}
 use Rattle.balise_rules.specs.Doing.{refusal, done}
 use Rattle.balise_rules.specs.Accepting.{Accepted}
 use Rattle.balise_rules.specs.Paths.{Entry}
-use Rattle.balise_rules.specs.Behind.{anchor_of, outlives, serials_behind, hung}
+use Rattle.balise_rules.specs.Behind.{anchor_of, independent, serials_behind, hung}
 use Rattle.balise_rules.specs.Addresses.{Command, edit_of}
 
 -- what edits make of a plan, one after another
@@ -118,7 +118,7 @@ later serial (e ∷ es) = cond (eqb serial e.0.0) es (later serial es)
 -- the serial of the first entry that is neither independent of e nor stands behind it
 abbrev pub first_dependent : Entry → List Entry → Option ℕ
 first_dependent e [] = None
-first_dependent e (f ∷ fs) = cond (outlives e f) (first_dependent e fs) (Some f.0.0)
+first_dependent e (f ∷ fs) = cond (independent e f) (first_dependent e fs) (Some f.0.0)
 
 -- the state where e was struck, and these serials stood behind it
 abbrev pub struck_out : State → Item → List ℕ → State

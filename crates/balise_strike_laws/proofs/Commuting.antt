@@ -10,11 +10,11 @@ use Rattle.balise_rules.specs.Edits.{Edit, Item, SetVar, SetHead, InsertPacket, 
 use Rattle.balise_rules.specs.Notes.{Note, noted}
 use Rattle.balise_rules.specs.Doing.{done}
 use Rattle.balise_rules.specs.Accepting.{Lawful, Accepted, Unused}
-use Rattle.balise_rules.specs.Paths.{At, Whose, room_apart, independent}
+use Rattle.balise_rules.specs.Paths.{At, Whose, room_apart, apart}
 use Rattle.balise_strike_laws.proofs.Changes.{ChangesApart, changes-commute}
 use Rattle.balise_strike_laws.proofs.Neighbours.{Leaves, lists-apart, OfList}
 use Rattle.balise_strike_laws.proofs.Levels.{inner-change, Inner}
-use Rattle.balise_strike_laws.proofs.Places.{first_of, later_of, in-ids, Reads, apart}
+use Rattle.balise_strike_laws.proofs.Places.{first_of, later_of, in-ids, Reads, apart_sides}
 use Rattle.balise_strike_laws.specs.Laws.{Commutes, Commuting}
 use Rattle.balise_strike_laws.proofs.Facts.{Facts, facts}
 use Rattle.balise_strike_laws.proofs.Locals.{local-forward, local-back, real-own}
@@ -117,9 +117,9 @@ result-any e f plan s le lf r1 r2 =
 
 -- all 81 ordered pairs
 pub commute_from : (e f : Item) → (plan : Plan) → Facts plan → Unused e.0 plan → Unused f.0 plan → Accepted e.1 plan → Accepted f.1 (done e plan) →
-    independent (e, noted e.1 plan) (f, noted f.1 (done e plan)) ≡ true → Commutes e f plan
+    apart (e, noted e.1 plan) (f, noted f.1 (done e plan)) ≡ true → Commutes e f plan
 commute_from e f plan s ue uf a b far =
-    let w = apart (e, noted e.1 plan) (f, noted f.1 (done e plan)) far in
+    let w = apart_sides (e, noted e.1 plan) (f, noted f.1 (done e plan)) far in
     let back = back-any f e plan s ue a b (room-sym e.1 f.1 w.room) w.second w.first in
     let r1 = subst (λ m. Reads (e, noted e.1 plan) (f, m)) (sym back.1) w.first in
     let r2 = subst (λ m. Reads (f, m) (e, noted e.1 plan)) (sym back.1) w.second in

@@ -19,7 +19,7 @@ use Rattle.balise_rules.specs.Notes.{noted}
 use Rattle.balise_rules.specs.Doing.{refusal, done}
 use Rattle.balise_rules.specs.Accepting.{Accepted, Unused, Spelt}
 use Rattle.balise_rules.specs.Addresses.{packet_in}
-use Rattle.balise_rules.specs.Paths.{independent}
+use Rattle.balise_rules.specs.Paths.{apart}
 use Rattle.balise_rules.specs.Behind.{becomes}
 use Rattle.balise_rules.specs.Session.{entries, first_dependent}
 use Rattle.balise_rules.specs.Examples.{plan_of, read_groups, word}
@@ -118,7 +118,7 @@ set_apart : first_dependent (set, noted set.1 the_plan) (entries (done set the_p
 unfolding the_plan the_packet width_of steers is_free_in_header num bits digit_bits digits_in spelling read_form counted link linking gradient gradients difference section speeds level levels restriction revocation infill is_known known_body body packet read_body header read_packets read_header read_telegram read_telegrams read_group group_of packet_in
 set_apart = refl
 
-inserts_depend : independent (insert the_packet, noted (insert the_packet).1 (done set the_plan)) (insert_behind the_packet, noted (insert_behind the_packet).1 (done (insert the_packet) (done set the_plan))) ≡ false
+inserts_depend : apart (insert the_packet, noted (insert the_packet).1 (done set the_plan)) (insert_behind the_packet, noted (insert_behind the_packet).1 (done (insert the_packet) (done set the_plan))) ≡ false
 unfolding the_plan the_packet width_of steers is_free_in_header num bits digit_bits digits_in spelling read_form counted link linking gradient gradients difference section speeds level levels restriction revocation infill is_known known_body body packet read_body header read_packets read_header read_telegram read_telegrams read_group group_of packet_in
 inserts_depend = refl
 
@@ -139,7 +139,7 @@ example = record {
       spelt = (tt, (insert_ready.spelt, (spelt_at (done (insert the_packet) (done set the_plan)) version_then, tt)));
       accepted = (set_ready.accepted, (insert_ready.accepted, (behind_accepted, tt)));
     };
-    apart = set_apart;
+    outlived = set_apart;
     dependent = inserts_depend;
     behind = (becomes_first, tt);
   };

@@ -8,7 +8,7 @@ use Rattle.balise_rules.specs.Edits.{Edit, Item, SetVar, SetHead, InsertPacket, 
 use Rattle.balise_rules.specs.Notes.{noted}
 use Rattle.balise_rules.specs.Doing.{done}
 use Rattle.balise_rules.specs.Accepting.{Accepted, Spelt}
-use Rattle.balise_rules.specs.Paths.{independent}
+use Rattle.balise_rules.specs.Paths.{apart}
 use Rattle.balise_rules.specs.Behind.{stands_behind, re_anchored, anchored, anchor_of, becomes}
 use Rattle.balise_rules.proofs.Tests.{split_on}
 use Rattle.balise_rules.proofs.Lists.{unsome}
@@ -35,7 +35,7 @@ module _ (e f : Item) (plan : Plan) (h : InTurn e f plan) (se : Spelt e.1 plan) 
   spelt_first : Spelt f.1 plan
   spelt_first = spelt_before e f.1 plan first_ready h.second_accepted sf
 
-  exchange_independent : independent (e, noted e.1 plan) (f, noted f.1 (done e plan)) ≡ true → Exchanged e f f plan
+  exchange_independent : apart (e, noted e.1 plan) (f, noted f.1 (done e plan)) ≡ true → Exchanged e f f plan
   exchange_independent far =
       let c = commuting e f plan h far in
       let r : IsReady f plan = record { sound = h.sound; unused = h.second_unused; spelt = spelt_first; accepted = c.second_first } in
@@ -76,7 +76,7 @@ module _ (e f : Item) (plan : Plan) (h : InTurn e f plan) (se : Spelt e.1 plan) 
       }
 
   pub exchange : (g : Item) → becomes (e, noted e.1 plan) (f, noted f.1 (done e plan)) ≡ Some g → Exchanged e f g plan
-  exchange g b = split_on (independent (e, noted e.1 plan) (f, noted f.1 (done e plan)))
+  exchange g b = split_on (apart (e, noted e.1 plan) (f, noted f.1 (done e plan)))
       (λ i. let q : Some f ≡ Some g = simp i at b in subst (λ u. Exchanged e f u plan) (unsome q) (exchange_independent i))
       (λ i. split_on (stands_behind (e, noted e.1 plan) (f, noted f.1 (done e plan)))
       (λ j. let q : Some (re_anchored e f) ≡ Some g = simp (i, j) at b in subst (λ u. Exchanged e f u plan) (unsome q) (exchange_behind j))

@@ -8,7 +8,7 @@ use Rattle.balise_rules.specs.declared.identity.Id.{Id}
 use Rattle.balise_rules.specs.declared.variable.Var.{Var}
 use Rattle.balise_rules.specs.Tagged.{same_spot}
 use Rattle.balise_rules.specs.Tags.{same_tag}
-use Rattle.balise_rules.specs.Paths.{Part, At, Nth, Of, Start, End, After, Front, Turn, Name, Head, Whose, Path, same_part, meet, meets_any, any_meets, anchor, neighbour, ids, Entry, changes, needs, room_apart, independent}
+use Rattle.balise_rules.specs.Paths.{Part, At, Nth, Of, Start, End, After, Front, Turn, Name, Head, Whose, Path, same_part, meet, meets_any, any_meets, anchor, neighbour, ids, Entry, changes, needs, room_apart, apart}
 use Rattle.balise_rules.proofs.Tests.{IsTest, split_on, flip_yes, flip_no, tag_test, nat_test, var_test, id_test}
 use Rattle.balise_strike_laws.proofs.Cases.{drop1}
 
@@ -106,8 +106,8 @@ pub record Apart (e f : Entry) : Type 0 where
   pub second : Reads f e
   pub room : room_apart e.0.1 f.0.1 ≡ true
 
-pub apart : (e f : Entry) → independent e f ≡ true → Apart e f
-apart e f h =
+pub apart_sides : (e f : Entry) → apart e f ≡ true → Apart e f
+apart_sides e f h =
     let a = and_parts (not (any_meets (changes e) (changes f ++ needs f))) (not (any_meets (needs e) (changes f)) && room_apart e.0.1 f.0.1) h in
     let b = and_parts (not (any_meets (needs e) (changes f))) (room_apart e.0.1 f.0.1) a.1 in
     record {

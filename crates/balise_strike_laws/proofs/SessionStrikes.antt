@@ -14,7 +14,7 @@ use Rattle.balise_rules.specs.Notes.{noted}
 use Rattle.balise_rules.specs.Doing.{done}
 use Rattle.balise_rules.specs.Accepting.{Accepted}
 use Rattle.balise_rules.specs.Tags.{same_tag}
-use Rattle.balise_rules.specs.Paths.{Entry, independent}
+use Rattle.balise_rules.specs.Paths.{Entry, apart}
 use Rattle.balise_rules.specs.Behind.{stands_behind, anchor_of, anchored, serials_behind, hung}
 use Rattle.balise_rules.specs.Session.{made, entries, last, others, later, first_dependent, put_by_serial}
 use Rattle.balise_rules.proofs.Tests.{split_on, flip_no, nat_test, tag_test}
@@ -114,7 +114,7 @@ among s B = is_some (find (λ n. eqb n s) B)
 -- the serials tell which of these edits aren't independent of e
 abbrev Tells : Entry → List ℕ → Plan → List Item → Type 0
 Tells e B plan [] = Unit {0}
-Tells e B plan (f ∷ fs) = (among f.0 B ≡ not (independent e (f, noted f.1 plan))) × Tells e B (done f plan) fs
+Tells e B plan (f ∷ fs) = (among f.0 B ≡ not (apart e (f, noted f.1 plan))) × Tells e B (done f plan) fs
 
 -- a serial of none of them is no matter
 tells-more : (e : Entry) → (B : List ℕ) → (s : ℕ) → (plan : Plan) → (es : List Item) → All (Other s) es → Tells e B plan es → Tells e (s ∷ B) plan es
@@ -126,7 +126,7 @@ not-among e s plan [] n = refl
 not-among e s plan (f ∷ fs) n =
     let d : eqb f.0 s ≡ false = flip_no nat_test s f.0 (other-no s f (All-head (Other s) f fs n)) in
     let rest = not-among e s (done f plan) fs (All-tail (Other s) f fs n) in
-    split_on (independent e (f, noted f.1 plan)) (λ i. simp i rest) (λ i. simp (i, d) rest)
+    split_on (apart e (f, noted f.1 plan)) (λ i. simp i rest) (λ i. simp (i, d) rest)
 
 tells : (e : Entry) → (base plan : Plan) → (es : List Item) → AllUnused base es → Tells e (serials_behind e (entries plan es)) plan es
 tells e base plan [] u = tt
@@ -134,18 +134,18 @@ tells e base plan (f ∷ fs) u =
     let n = not-among e f.0 (done f plan) fs u.1 in
     let t = tells e base (done f plan) fs u.2 in
     let rest = serials_behind e (entries (done f plan) fs) in
-    split_on (independent e (f, noted f.1 plan))
+    split_on (apart e (f, noted f.1 plan))
     (λ i. let same : serials_behind e ((f, noted f.1 plan) ∷ entries (done f plan) fs) ≡ rest = simp i in
-    subst (λ B. (among f.0 B ≡ not (independent e (f, noted f.1 plan))) × Tells e B (done f plan) fs) (sym same) (n ∙ sym (ap not i), t))
+    subst (λ B. (among f.0 B ≡ not (apart e (f, noted f.1 plan))) × Tells e B (done f plan) fs) (sym same) (n ∙ sym (ap not i), t))
     (λ i. let same : serials_behind e ((f, noted f.1 plan) ∷ entries (done f plan) fs) ≡ f.0 ∷ rest = simp i in
     let own : among f.0 (f.0 ∷ rest) ≡ true = let s = nat_test.itself f.0 in simp s in
-    subst (λ B. (among f.0 B ≡ not (independent e (f, noted f.1 plan))) × Tells e B (done f plan) fs) (sym same) (own ∙ sym (ap not i), tells-more e rest f.0 (done f plan) fs u.1 t))
+    subst (λ B. (among f.0 B ≡ not (apart e (f, noted f.1 plan))) × Tells e B (done f plan) fs) (sym same) (own ∙ sym (ap not i), tells-more e rest f.0 (done f plan) fs u.1 t))
 
 -- where all outlive a strike of e, they become what they are with its anchor
 hung-become : (e : Entry) → (B : List ℕ) → (plan : Plan) → (es : List Item) → Tells e B plan es → first_dependent e (entries plan es) ≡ None →
     AllBecome e (entries plan es) (hung (anchor_of e.0.1) B es)
 hung-become e B plan [] t d = tt
-hung-become e B plan (f ∷ fs) t d = split_on (independent e (f, noted f.1 plan))
+hung-become e B plan (f ∷ fs) t d = split_on (apart e (f, noted f.1 plan))
     (λ i. let m : among f.0 B ≡ false = simp i at t.0 in let r : first_dependent e (entries (done f plan) fs) ≡ None = simp i at d in
     (simp (i, m), hung-become e B (done f plan) fs t.1 r))
     (λ i. split_on (stands_behind e (f, noted f.1 plan))
@@ -195,7 +195,7 @@ anchor-back ((s0, e), m) ((s1, f), n) h c = absurd (false≢true h)
 hung-back : (e : Entry) → (a : Option Tag) → (B : List ℕ) → (plan : Plan) → (es : List Item) → Tells e B plan es → first_dependent e (entries plan es) ≡ None →
     hung (Some (Fresh e.0.0)) B (hung a B es) ≡ es
 hung-back e a B plan [] t d = refl
-hung-back e a B plan (f ∷ fs) t d = split_on (independent e (f, noted f.1 plan))
+hung-back e a B plan (f ∷ fs) t d = split_on (apart e (f, noted f.1 plan))
     (λ i. let m : among f.0 B ≡ false = simp i at t.0 in let r : first_dependent e (entries (done f plan) fs) ≡ None = simp i at d in
     simp m (ap (λ l. f ∷ l) (hung-back e a B (done f plan) fs t.1 r)))
     (λ i. split_on (stands_behind e (f, noted f.1 plan))

@@ -5,7 +5,7 @@ use Rattle.balise_rules.specs.Edits.{Item}
 use Rattle.balise_rules.specs.Notes.{noted}
 use Rattle.balise_rules.specs.Doing.{done}
 use Rattle.balise_rules.specs.Accepting.{Accepted, Unused}
-use Rattle.balise_rules.specs.Paths.{Entry, independent}
+use Rattle.balise_rules.specs.Paths.{Entry, apart}
 use Rattle.balise_rules.specs.Behind.{stands_behind, re_anchored}
 
 -- In the other order both edits are accepted, note what they noted, and make the same plan.
@@ -26,11 +26,11 @@ pub record InTurn (e f : Item) (plan : Plan) : Type 0 where
 
 -- Independent edits commute.
 abbrev pub Commuting : Type 0
-Commuting = (e f : Item) → (plan : Plan) → InTurn e f plan → independent (e, noted e.1 plan) (f, noted f.1 (done e plan)) ≡ true → Commutes e f plan
+Commuting = (e f : Item) → (plan : Plan) → InTurn e f plan → apart (e, noted e.1 plan) (f, noted f.1 (done e plan)) ≡ true → Commutes e f plan
 
 -- Whether two edits are independent is the same from both sides.
 abbrev pub IsSymmetric : Type 0
-IsSymmetric = (e f : Entry) → independent e f ≡ independent f e
+IsSymmetric = (e f : Entry) → apart e f ≡ apart f e
 
 -- With the anchor of e, f is accepted before e; both note what they noted, and make the same plan.
 pub record CommutesBehind (e f : Item) (plan : Plan) : Type 0 where

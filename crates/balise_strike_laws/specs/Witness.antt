@@ -8,7 +8,7 @@ use Rattle.balise_rules.specs.Edits.{Item, SetVar, InsertPacket}
 use Rattle.balise_rules.specs.Notes.{noted}
 use Rattle.balise_rules.specs.Doing.{done}
 use Rattle.balise_rules.specs.Addresses.{packet_in}
-use Rattle.balise_rules.specs.Paths.{independent}
+use Rattle.balise_rules.specs.Paths.{apart}
 use Rattle.balise_rules.specs.Session.{entries, first_dependent}
 use Rattle.balise_rules.specs.Examples.{Text, plan_of, word, revoking}
 use Rattle.balise_strike_laws.specs.Striking.{Standing, AllBecome}
@@ -32,8 +32,8 @@ insert_behind x = (3, InsertPacket (Base 0) 0 (Some (Fresh 2)) x)
 -- The three stand on the plan; both insertions are independent of the setting; the second isn't of the first, but stands behind it, and becomes an insertion behind the packet 66.
 pub record IsExample (plan : Plan) (x : Packet) : Type 0 where
   pub standing : Standing plan (set ∷ insert x ∷ insert_behind x ∷ [])
-  pub apart : first_dependent (set, noted set.1 plan) (entries (done set plan) (insert x ∷ insert_behind x ∷ [])) ≡ None
-  pub dependent : independent (insert x, noted (insert x).1 (done set plan)) (insert_behind x, noted (insert_behind x).1 (done (insert x) (done set plan))) ≡ false
+  pub outlived : first_dependent (set, noted set.1 plan) (entries (done set plan) (insert x ∷ insert_behind x ∷ [])) ≡ None
+  pub dependent : apart (insert x, noted (insert x).1 (done set plan)) (insert_behind x, noted (insert_behind x).1 (done (insert x) (done set plan))) ≡ false
   pub behind : AllBecome (insert x, noted (insert x).1 (done set plan)) (entries (done (insert x) (done set plan)) (insert_behind x ∷ [])) ((3, InsertPacket (Base 0) 0 (Some (Base 0)) x) ∷ [])
 
 -- there is such a plan, read from its digits, and such a packet, a revocation of restriction 5

@@ -16,7 +16,7 @@ use Rattle.balise_rules.specs.Accepting.{Lawful}
 use Rattle.balise_rules.specs.Edits.{Edit, SetVar, SetHead, InsertPacket, DeletePacket, MovePacket, AddGroup, DropGroup, Renumber, TurnGroup, field_after}
 use Rattle.balise_rules.proofs.Tests.{split_on, var_test, key_test}
 use Rattle.balise_rules.proofs.Lists.{find-each}
-use Rattle.balise_edit_laws.proofs.Found.{found}
+use Rattle.balise_rules.proofs.Cases.{found}
 
 -- a variable that steers isn't one that doesn't
 steers_other : (v w : Var) → steers v ≡ false → steers w ≡ true → same_var v w ≡ false

@@ -20,10 +20,10 @@ use Rattle.balise_rules.specs.Accepting.{Accepted, NoName}
 use Rattle.balise_rules.specs.Edits.{SetVar, SetHead, Renumber, telegram_after}
 use Rattle.balise_rules.specs.Back.{back}
 use Rattle.balise_rules.proofs.Tests.{split_on, tag_test, key_test, id_test, var_test}
+use Rattle.balise_rules.proofs.Cases.{parts4}
 use Rattle.balise_edit_laws.proofs.Headers.{header_once, value_found}
 use Rattle.balise_edit_laws.proofs.Found.{stood, head_distinct, packet_spelt, fields_distinct}
-use Rattle.balise_edit_laws.proofs.Each.{telegrams-back}
-use Rattle.balise_edit_laws.proofs.Levels.{FieldsBack, packets-back, head-back, telegram-back, two-ids, place_is, parts4, undo_set}
+use Rattle.balise_edit_laws.proofs.Levels.{FieldsBack, packets-back, head-back, telegram-back, two-ids, place_is, undo_set, telegrams-back}
 use Rattle.balise_edit_laws.proofs.FieldChanges.{country_stays}
 
 pub set_back : (s : ℕ) → (g : Tag) → (t : ℕ) → (p : Tag) → (v : Var) → (k n : ℕ) → (plan : Plan) → IsSound plan → Accepted (SetVar g t p v k n) plan → back (s, SetVar g t p v k n) (noted (SetVar g t p v k n) plan) (done (s, SetVar g t p v k n) plan) ≡ plan

@@ -1,7 +1,7 @@
 -- What soundness says of a group, telegram, packet and field that is found.
 -- From the records of soundness and the numbering of fields.
 -- The laws speak of what is found under tags, never of places in lists.
-use Rattle.std.proofs.Common.{◌≡◌, ℕ, suc, ◌+◌, ◌-◌, ◌≤◌, Bool, eqb, IsTrue, All, List, [], ◌∷◌, length, Option, Some, None, refl, sym, ap, subst, ◌∙◌, arith}
+use Rattle.std.proofs.Common.{◌≡◌, ℕ, suc, ◌+◌, ◌-◌, ◌≤◌, Bool, eqb, IsTrue, All, List, [], ◌∷◌, length, Some, sym, ap, subst, ◌∙◌, arith}
 use Rattle.std.proofs.lemmas.List.Elements.{All-head, All-tail}
 use Rattle.balise_rules.specs.declared.tag.Tag.{Tag}
 use Rattle.balise_rules.specs.declared.identity.Id.{Id}
@@ -14,13 +14,8 @@ use Rattle.balise_rules.specs.Packet.{Packet, IsSpelt}
 use Rattle.balise_rules.specs.Telegram.{Telegram, version_of}
 use Rattle.balise_rules.specs.Plan.{Group, Plan, identity_of, telegram_at, IsSoundTelegram, SoundFrom, IsSoundGroup, IsSound}
 use Rattle.balise_rules.proofs.Tests.{split_on, split_keys, key_test}
-use Rattle.balise_rules.proofs.Lists.{unsome}
+use Rattle.balise_rules.proofs.Cases.{found, unsome}
 use Rattle.balise_edit_laws.proofs.Keys.{numbered_distinct}
-
--- by cases on what is found
-pub found : {P A : Type 0} → (o : Option A) → (o ≡ None → P) → ((a : A) → o ≡ Some a → P) → P
-found None f g = f refl
-found (Some a) f g = g a refl
 
 -- what all items have, the one that is found has
 pub all_found : {K A : Type 0} → (P : A → Type 0) → (same : K → K → Bool) → (xs : List (K × A)) → All (λ y. P y.1) xs → (k : K) → (x : A) → find same k xs ≡ Some x → P x

@@ -21,8 +21,8 @@ use Rattle.balise_rules.specs.Packet.{Packet, value}
 use Rattle.balise_rules.specs.Telegram.{Telegram, header, used, TaggedFrom, IsLength, IsRead, packets_bits, read_telegram}
 use Rattle.balise_rules.specs.Plan.{Group, reserved, identity_in, identity_of, agree_from, with_telegrams, read_telegrams, checked_group, read_group, IsSoundTelegram, SoundFrom, IsSoundGroup}
 use Rattle.balise_rules.proofs.Tests.{split_on, id_test}
-use Rattle.balise_rules.proofs.Lists.{unsome}
 use Rattle.balise_rules.proofs.Numbers.{length-bits}
+use Rattle.balise_rules.proofs.Cases.{unsome}
 use Rattle.balise_edit_laws.proofs.Headers.{plains, header_variables}
 
 -- how many bits a list of variables takes

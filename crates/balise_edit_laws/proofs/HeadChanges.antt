@@ -14,7 +14,7 @@ use Rattle.balise_rules.specs.Packet.{value}
 use Rattle.balise_rules.specs.Accepting.{Lawful}
 use Rattle.balise_rules.specs.Edits.{Edit, SetVar, SetHead, InsertPacket, DeletePacket, MovePacket, AddGroup, DropGroup, Renumber, TurnGroup, head_after}
 use Rattle.balise_rules.proofs.Tests.{split_on, var_test}
-use Rattle.balise_edit_laws.proofs.Found.{found}
+use Rattle.balise_rules.proofs.Cases.{found}
 use Rattle.balise_edit_laws.proofs.Headers.{value-each}
 
 -- a variable of a header that no edit sets

@@ -1,7 +1,6 @@
 pub mod Keys
 pub mod Headers
 pub mod Found
-pub mod Each
 pub mod HeadChanges
 pub mod Puts
 pub mod Levels
@@ -16,7 +15,6 @@ pub mod Steady
 pub mod FieldsKept
 pub mod PacketsKept
 pub mod HeadsKept
-pub mod Reversed
 pub mod GroupsKept
 pub mod GroupsRead
 pub mod Identities

@@ -17,10 +17,10 @@ use Rattle.balise_rules.specs.Edits.{InsertPacket, DeletePacket, MovePacket, tel
 use Rattle.balise_rules.specs.Back.{back, with_packets, put_back}
 use Rattle.balise_rules.proofs.Tests.{split_on, tag_test}
 use Rattle.balise_rules.proofs.ListsBack.{without-put_same, put_before-without}
+use Rattle.balise_rules.proofs.Each.{each-id}
 use Rattle.balise_edit_laws.proofs.Puts.{find-move_same, move_back}
 use Rattle.balise_edit_laws.proofs.Found.{stood}
-use Rattle.balise_edit_laws.proofs.Each.{each-id, telegrams-back}
-use Rattle.balise_edit_laws.proofs.Levels.{telegram-back, two-ids, place_is}
+use Rattle.balise_edit_laws.proofs.Levels.{telegram-back, two-ids, place_is, telegrams-back}
 
 pub insert_back : (s : ℕ) → (g : Tag) → (t : ℕ) → (a : Option Tag) → (x : Packet) → (plan : Plan) → IsSound plan → Unused s plan → back (s, InsertPacket g t a x) (noted (InsertPacket g t a x) plan) (done (s, InsertPacket g t a x) plan) ≡ plan
 insert_back s g t a x plan sound unused =

@@ -13,10 +13,10 @@ use Rattle.balise_rules.specs.Telegram.{used}
 use Rattle.balise_rules.specs.Accepting.{Lawful}
 use Rattle.balise_rules.specs.Edits.{Edit, Item, SetVar, SetHead, InsertPacket, DeletePacket, MovePacket, AddGroup, DropGroup, Renumber, TurnGroup, packet_after, packets_change}
 use Rattle.balise_rules.proofs.Tests.{split_on, tag_test}
-use Rattle.balise_rules.proofs.Lists.{unsome}
 use Rattle.balise_rules.proofs.Distincts.{distinct-each, distinct-without, distinct-put, distinct-move}
-use Rattle.balise_edit_laws.proofs.Found.{found, all_found}
-use Rattle.balise_edit_laws.proofs.Each.{each-id}
+use Rattle.balise_rules.proofs.Cases.{unsome, found}
+use Rattle.balise_rules.proofs.Each.{each-id}
+use Rattle.balise_edit_laws.proofs.Found.{all_found}
 use Rattle.balise_edit_laws.proofs.FieldsKept.{packet_kept, width_kept}
 
 -- what all have, all have after each was changed

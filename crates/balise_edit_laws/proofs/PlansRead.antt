@@ -14,9 +14,8 @@ use Rattle.balise_rules.specs.Telegram.{Telegram}
 use Rattle.balise_rules.specs.Plan.{Plan, Group, identity_of, telegram_at, group_named, read_group, read_plan, pushed, pushed_all, with_group, IsSoundGroup, IdentitiesDiffer, IsSound}
 use Rattle.balise_rules.specs.Accepting.{Unused}
 use Rattle.balise_rules.proofs.Tests.{split_on, flip_no, tag_test, id_test}
-use Rattle.balise_rules.proofs.Lists.{unsome}
-use Rattle.balise_edit_laws.proofs.Found.{found}
-use Rattle.balise_edit_laws.proofs.Reversed.{find-append, find-append_some, distinct_last}
+use Rattle.balise_rules.proofs.Cases.{unsome, found}
+use Rattle.balise_rules.proofs.Reversed.{find-append, find-append_some, distinct_last}
 use Rattle.balise_edit_laws.proofs.GroupsRead.{group_read, GroupRead}
 use Rattle.balise_edit_laws.proofs.UnusedKept.{in_group}
 

@@ -9,7 +9,7 @@ use Rattle.balise_rules.specs.Accepting.{Stands}
 use Rattle.balise_rules.proofs.Tests.{split_on, tag_test}
 use Rattle.balise_rules.proofs.Lists.{find-put, find-without, find-without_same}
 use Rattle.balise_rules.proofs.ListsBack.{without-put_same, put_before-without}
-use Rattle.balise_edit_laws.proofs.Found.{found}
+use Rattle.balise_rules.proofs.Cases.{found}
 
 pub find-put_same : {A : Type 0} → (a : Option Tag) → (z : Tag × A) → (xs : List (Tag × A)) → Stands a xs → find same_tag z.0 xs ≡ None → find same_tag z.0 (put same_tag a z xs) ≡ Some z.1
 find-put_same None z xs s n = let r = tag_test.itself z.0 in simp r

@@ -16,10 +16,10 @@ use Rattle.balise_rules.specs.Accepting.{Accepted, AcceptedAt, AcceptedIn, Lawfu
 use Rattle.balise_rules.specs.Edits.{Edit, Item, SetVar, SetHead, InsertPacket, DeletePacket, MovePacket, AddGroup, DropGroup, Renumber, TurnGroup, group_of, group_after}
 use Rattle.balise_edit_laws.specs.TakenBack.{IsReady}
 use Rattle.balise_rules.proofs.Tests.{IsTest, split_on, split_keys, flip_no, tag_test, id_test}
-use Rattle.balise_rules.proofs.Lists.{unsome}
 use Rattle.balise_rules.proofs.Distincts.{distinct-each, distinct-without, distinct-put}
+use Rattle.balise_rules.proofs.Cases.{unsome}
+use Rattle.balise_rules.proofs.Each.{found_later}
 use Rattle.balise_edit_laws.proofs.Found.{group_sound}
-use Rattle.balise_edit_laws.proofs.Each.{found_later}
 use Rattle.balise_edit_laws.proofs.Levels.{place_is}
 use Rattle.balise_edit_laws.proofs.PacketsKept.{all-put, all-without, Fitted}
 use Rattle.balise_edit_laws.proofs.HeadsKept.{new_identity}

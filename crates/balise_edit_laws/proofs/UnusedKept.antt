@@ -17,11 +17,12 @@ use Rattle.balise_rules.specs.Accepting.{Unused}
 use Rattle.balise_rules.specs.Edits.{Item, SetVar, SetHead, InsertPacket, DeletePacket, MovePacket, AddGroup, DropGroup, Renumber, TurnGroup, group_of, packet_after, packets_change, telegram_after, group_after}
 use Rattle.balise_edit_laws.specs.TakenBack.{IsReady}
 use Rattle.balise_rules.proofs.Tests.{split_on, split_keys, tag_test, nat_test}
-use Rattle.balise_rules.proofs.Lists.{unsome, find-put, find-without, find-without_same, find-each}
+use Rattle.balise_rules.proofs.Lists.{find-put, find-without, find-without_same, find-each}
 use Rattle.balise_rules.proofs.Distincts.{absent-without, distinct-each}
-use Rattle.balise_edit_laws.proofs.Found.{found, group_sound}
+use Rattle.balise_rules.proofs.Cases.{unsome, found}
+use Rattle.balise_rules.proofs.Reversed.{find-reverse}
+use Rattle.balise_edit_laws.proofs.Found.{group_sound}
 use Rattle.balise_edit_laws.proofs.Puts.{find-put_same, find-move}
-use Rattle.balise_edit_laws.proofs.Reversed.{find-reverse}
 use Rattle.balise_edit_laws.proofs.GroupsKept.{turns, order_is}
 use Rattle.balise_edit_laws.proofs.GroupsRead.{group_read}
 

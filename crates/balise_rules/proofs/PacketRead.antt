@@ -14,9 +14,9 @@ use Rattle.balise_rules.specs.Tags.{Key}
 use Rattle.balise_rules.specs.Forms.{Fields, Matches, Numbered, count_of, spelling, read_form}
 use Rattle.balise_rules.specs.Packets.{packet, body}
 use Rattle.balise_rules.specs.Packet.{Packet, bits_of, value, Spells, IsSpelt, length_said, is_cut, read_packet, read_body}
-use Rattle.balise_rules.proofs.Lists.{unsome}
 use Rattle.balise_rules.proofs.Numbers.{length-bits, num-bits_fit}
 use Rattle.balise_rules.proofs.Spelt.{read_found, read_again}
+use Rattle.balise_rules.proofs.Cases.{unsome}
 
 packet_from : Fields × List Bool → Packet
 packet_from r = record { fields = r.0; rest = r.1 }

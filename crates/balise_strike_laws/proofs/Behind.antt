@@ -17,8 +17,8 @@ use Rattle.balise_rules.specs.Doing.{done}
 use Rattle.balise_rules.specs.Accepting.{Stands, AcceptedIn, AcceptedAt, Accepted, Unused}
 use Rattle.balise_rules.specs.Paths.{Whose, Path, meet, changes, needs}
 use Rattle.balise_rules.proofs.Tests.{split_on, tag_test, nat_test}
+use Rattle.balise_rules.proofs.Each.{each-each}
 use Rattle.balise_strike_laws.proofs.Headers.{country-kept}
-use Rattle.balise_strike_laws.proofs.Changes.{each-each}
 use Rattle.balise_strike_laws.proofs.Neighbours.{Accepts}
 use Rattle.balise_strike_laws.proofs.Levels.{keep}
 use Rattle.balise_strike_laws.proofs.Places.{In}

@@ -1,14 +1,15 @@
 -- Two changes of one list of groups or packets make the same in both orders, where they are apart.
 -- Proves it for all pairs of the four changes.
 -- From the laws of tagged lists: two insertions, an insertion and a removal, two removals, and a change of each item with each of these.
-use Rattle.std.proofs.Common.{◌≡◌, Bool, false, List, [], ◌∷◌, Option, Some, None, refl, sym, ap, ◌∙◌}
+use Rattle.std.proofs.Common.{◌≡◌, false, List, Option, Some, None, sym, ap, ◌∙◌}
 use Rattle.std.specs.Option.{option_map}
 use Rattle.balise_rules.specs.declared.tag.Tag.{Tag}
 use Rattle.balise_rules.specs.Tagged.{same_spot, find, put, without, each, Distinct, move, Change, Each, Put, Take, Move, changed}
 use Rattle.balise_rules.specs.Tags.{same_tag}
-use Rattle.balise_rules.proofs.Tests.{IsTest, split_keys, flip_no, flip_spot, tag_test}
+use Rattle.balise_rules.proofs.Tests.{flip_no, flip_spot, tag_test}
 use Rattle.balise_rules.proofs.Lists.{without-without, without-put, put-put, each-put, each-without, find-put, find-without, find-each}
-use Rattle.balise_strike_laws.proofs.Cases.{found}
+use Rattle.balise_rules.proofs.Cases.{found}
+use Rattle.balise_rules.proofs.Each.{each-each}
 
 -- what has to be apart for two changes of a list
 abbrev pub ChangesApart : {A : Type 0} → Change Tag A → Change Tag A → List (Tag × A) → Type 0
@@ -71,18 +72,6 @@ move-move p q a c xs n na nc nac = found (find same_tag p xs)
     (λ x e. let g : find same_tag p (move same_tag q c xs) ≡ Some x = find-move p q c n xs ∙ e in
     simp (e, g)
     (ap (put same_tag a (p, x)) (take-move p q c xs n (flip_spot tag_test c (Some p) nc)) ∙ put-move a c q (p, x) (without same_tag p xs) (flip_no tag_test p q n) (flip_spot tag_test a (Some q) na) nac nc))
-
--- two changes of each item, for any keys
-pub each-each : {K A : Type 0} → {same : K → K → Bool} → IsTest same → (f g h k : K → A → A) → (xs : List (K × A)) → Distinct same xs →
-    ((i : K) → (x : A) → find same i xs ≡ Some x → f i (g i x) ≡ h i (k i x)) → each f (each g xs) ≡ each h (each k xs)
-each-each t f g h k [] u c = refl
-each-each {A = A} {same = same} t f g h k (y ∷ ys) u c =
-    let here : f y.0 (g y.0 y.1) ≡ h y.0 (k y.0 y.1) = let s = t.itself y.0 in c y.0 y.1 (simp s) in
-    let rest = each-each t f g h k ys u.1 (λ i x e. c i x (later i x e)) in
-    ap (λ v. (y.0, v) ∷ each f (each g ys)) here ∙ ap (λ l. (y.0, h y.0 (k y.0 y.1)) ∷ l) rest
-  where
-    later : (i : _) → (x : A) → find same i ys ≡ Some x → find same i (y ∷ ys) ≡ Some x
-    later i x e = split_keys t i y.0 (λ d q. absurd (let k = ap (λ s. find same s ys) q in let w : find same y.0 ys ≡ None = u.0 in cc)) (λ d. simp d e)
 
 pub changes-commute : {A : Type 0} → (x y : Change Tag A) → (xs : List (Tag × A)) → Distinct same_tag xs → ChangesApart x y xs →
     changed same_tag x (changed same_tag y xs) ≡ changed same_tag y (changed same_tag x xs)

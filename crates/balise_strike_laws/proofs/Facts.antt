@@ -15,8 +15,7 @@ use Rattle.balise_rules.specs.Telegram.{Telegram, version_of}
 use Rattle.balise_rules.specs.Plan.{Group, Plan, reserved, identity_of, identity_in, telegram_at, IsSoundTelegram, SoundFrom, IsSoundGroup, IsSound}
 use Rattle.balise_rules.specs.Names.{is_real}
 use Rattle.balise_rules.proofs.Tests.{split_on, split_keys, var_test, key_test}
-use Rattle.balise_rules.proofs.Lists.{unsome}
-use Rattle.balise_strike_laws.proofs.Cases.{found}
+use Rattle.balise_rules.proofs.Cases.{unsome, found}
 
 pub record Facts (plan : Plan) : Type 0 where
   pub groups : Distinct same_tag plan

@@ -1,7 +1,7 @@
 -- Fields: two changes of the fields of one packet commute where they are apart.
 -- Proves that no edit changes a country, so that an element keeps what it names unless it is renamed, and that the new value of a field is the same in both orders.
 -- From the laws of tagged lists, and number facts over plain variables.
-use Rattle.std.proofs.Common.{◌≡◌, ℕ, ◌-◌, Bool, true, false, cond, ◌&&◌, eqb, List, [], ◌∷◌, Some, refl, sym, ap, ◌∙◌, arith}
+use Rattle.std.proofs.Common.{◌≡◌, ℕ, ◌-◌, Bool, true, false, cond, ◌&&◌, eqb, [], ◌∷◌, Some, refl, sym, ap, ◌∙◌, arith}
 use Rattle.std.proofs.lemmas.Bool.{eqb-true, and_parts, and_left, and_right, both_ways}
 use Rattle.std.proofs.lemmas.Bool.Decides.{nat_tests}
 use Rattle.std.specs.Option.{option_map, unwrap_or}
@@ -15,9 +15,11 @@ use Rattle.balise_rules.specs.Forms.{Fields}
 use Rattle.balise_rules.specs.Packet.{value}
 use Rattle.balise_rules.specs.Names.{country_at, calls, is_it}
 use Rattle.balise_rules.specs.Edits.{Edit, SetVar, SetHead, InsertPacket, DeletePacket, MovePacket, AddGroup, DropGroup, Renumber, TurnGroup, exchanged, field_after}
-use Rattle.balise_rules.proofs.Tests.{split_on, flip_no, flip_yes, tag_test, var_test, key_test, nat_test}
+use Rattle.balise_rules.proofs.Tests.{split_on, flip_no, flip_yes, tag_test, var_test, key_test, nat_test, both_one}
 use Rattle.balise_rules.proofs.Lists.{find-each}
-use Rattle.balise_strike_laws.proofs.Cases.{found, parts4, both_set, both_one}
+use Rattle.balise_rules.proofs.Cases.{found, parts4}
+use Rattle.balise_rules.proofs.Each.{each-id}
+use Rattle.balise_strike_laws.proofs.Cases.{both_set}
 
 -- two renumberings of one number
 pub ren-ren : (c v a0 a1 x b0 b1 y : ℕ) → (eqb a0 b0 && eqb a1 b1) ≡ false → (eqb a0 b0 && eqb x b1) ≡ false → (eqb b0 a0 && eqb y a1) ≡ false →
@@ -46,10 +48,6 @@ swap-swap false false v = refl
 abbrev pub Steady : Edit → Type 0
 Steady (SetVar g t p v k x) = same_var NidC v ≡ false
 Steady e = Unit {0}
-
-pub each-id : {K A : Type 0} → (xs : List (K × A)) → each (λ t x. x) xs ≡ xs
-each-id [] = refl
-each-id (y ∷ ys) = ap (λ l. y ∷ l) (each-id ys)
 
 -- an identity of a country and a number
 abbrev pub identity : ℕ → ℕ → Id

@@ -16,6 +16,7 @@ use Rattle.balise_rules.specs.Doing.{done}
 use Rattle.balise_rules.specs.Accepting.{NoName, NoGroup, Asks, Accepted, Unused}
 use Rattle.balise_rules.specs.Paths.{At, After, Front, Turn, Name, Whose, Path, meet, anchor, neighbour, changes, needs}
 use Rattle.balise_rules.proofs.Tests.{split_on}
+use Rattle.balise_rules.proofs.Each.{each-same}
 use Rattle.balise_strike_laws.proofs.Fields.{identity}
 use Rattle.balise_strike_laws.proofs.Neighbours.{noted_change, Free, takes, takes_out, Leaves, stands-kept, stood, noted-forward, noted-back}
 use Rattle.balise_strike_laws.proofs.Levels.{Inner}
@@ -24,7 +25,7 @@ use Rattle.std.specs.Prelude.{nat_le, Result, Ok, Err}
 use Rattle.balise_rules.specs.declared.refusal.Refusal.{Refusal}
 use Rattle.balise_rules.specs.Plan.{checked_group, agree_from, read_telegrams, read_group}
 use Rattle.balise_strike_laws.proofs.Facts.{Facts}
-use Rattle.balise_strike_laws.proofs.Named.{each-same, real_number}
+use Rattle.balise_strike_laws.proofs.Named.{real_number}
 use Rattle.balise_strike_laws.proofs.Writers.{flip_side}
 use Rattle.balise_strike_laws.proofs.Kept.{Unnamed}
 use Rattle.balise_strike_laws.proofs.Locals.{telegram-id, real-own}

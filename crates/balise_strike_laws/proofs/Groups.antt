@@ -19,13 +19,13 @@ use Rattle.balise_rules.specs.Doing.{done}
 use Rattle.balise_rules.specs.Accepting.{Lawful, Accepted}
 use Rattle.balise_rules.specs.Paths.{Part, At, Turn, Whose, changes}
 use Rattle.balise_rules.proofs.Tests.{split_on, flip_no, tag_test, nat_test, var_test, id_test}
-use Rattle.balise_strike_laws.proofs.Cases.{found, some_is, drop1}
+use Rattle.balise_rules.proofs.Cases.{found, some_is}
+use Rattle.balise_rules.proofs.Reversed.{each-reverse, find-reverse}
+use Rattle.balise_strike_laws.proofs.Cases.{drop1}
 use Rattle.balise_strike_laws.proofs.Fields.{identity, value-each}
 use Rattle.balise_strike_laws.proofs.Headers.{value-kept, country-kept}
-use Rattle.balise_strike_laws.proofs.Levels.{each-reverse}
 use Rattle.balise_strike_laws.proofs.Places.{In, first_of, later_of, Clear, Reads}
 use Rattle.balise_strike_laws.proofs.Facts.{Facts}
-use Rattle.balise_strike_laws.proofs.Writers.{find-reverse}
 use Rattle.balise_strike_laws.proofs.Settings.{lawful-head}
 use Rattle.balise_strike_laws.proofs.Locals.{spared-from, find-group}
 

@@ -11,9 +11,11 @@ use Rattle.balise_rules.specs.Tags.{same_tag, same_var, same_key, Key, is_of}
 use Rattle.balise_rules.specs.Forms.{Fields}
 use Rattle.balise_rules.specs.Packet.{value}
 use Rattle.balise_rules.specs.Edits.{Edit, SetVar, SetHead, InsertPacket, DeletePacket, MovePacket, AddGroup, DropGroup, Renumber, TurnGroup, exchanged, head_after}
-use Rattle.balise_rules.proofs.Tests.{split_on, flip_no, tag_test, nat_test, var_test, key_test}
-use Rattle.balise_strike_laws.proofs.Cases.{found, parts3, both_set, both_one}
-use Rattle.balise_strike_laws.proofs.Fields.{each-id, value-each, other_key, not_other}
+use Rattle.balise_rules.proofs.Tests.{split_on, flip_no, tag_test, nat_test, var_test, key_test, both_one}
+use Rattle.balise_rules.proofs.Cases.{found, parts3}
+use Rattle.balise_rules.proofs.Each.{each-id}
+use Rattle.balise_strike_laws.proofs.Cases.{both_set}
+use Rattle.balise_strike_laws.proofs.Fields.{value-each, other_key, not_other}
 
 -- a field of a header that an edit may set
 abbrev pub SteadyHead : Edit → Type 0

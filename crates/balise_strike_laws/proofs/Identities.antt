@@ -17,8 +17,8 @@ use Rattle.balise_rules.specs.Doing.{done}
 use Rattle.balise_rules.specs.Accepting.{NoName, NoGroup, Accepted, Unused}
 use Rattle.balise_rules.specs.Paths.{Whose, Path, meet, changes, needs}
 use Rattle.balise_rules.proofs.Tests.{split_keys, tag_test}
-use Rattle.balise_rules.proofs.Lists.{unsome, find-without_same}
-use Rattle.balise_strike_laws.proofs.Cases.{some_is}
+use Rattle.balise_rules.proofs.Lists.{find-without_same}
+use Rattle.balise_rules.proofs.Cases.{unsome, some_is}
 use Rattle.balise_strike_laws.proofs.Places.{In, first_of, later_of, in-left, in-right, in-ids}
 use Rattle.balise_strike_laws.proofs.Facts.{Facts}
 use Rattle.balise_strike_laws.proofs.Named.{whose_apart}

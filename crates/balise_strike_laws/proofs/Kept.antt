@@ -17,11 +17,13 @@ use Rattle.balise_rules.specs.Notes.{Note}
 use Rattle.balise_rules.specs.Accepting.{Lawful}
 use Rattle.balise_rules.specs.Paths.{At, Nth, Of, Turn, Head, Whose, Entry}
 use Rattle.balise_rules.proofs.Tests.{split_on, id_test}
-use Rattle.balise_strike_laws.proofs.Cases.{found, drop1, drop_field, drop_packet}
+use Rattle.balise_rules.proofs.Cases.{found}
+use Rattle.balise_rules.proofs.Each.{each-same}
+use Rattle.balise_strike_laws.proofs.Cases.{drop1, drop_field, drop_packet}
 use Rattle.balise_strike_laws.proofs.Fields.{identity, of_is, not_other, country-after}
 use Rattle.balise_strike_laws.proofs.Headers.{SteadyHead}
 use Rattle.balise_strike_laws.proofs.Places.{In, first_of, later_of, Clear}
-use Rattle.balise_strike_laws.proofs.Named.{each-same, named-among, real_number, whose_apart, ren-same}
+use Rattle.balise_strike_laws.proofs.Named.{named-among, real_number, whose_apart, ren-same}
 use Rattle.balise_strike_laws.proofs.Writers.{packet-id}
 
 -- an identity that f doesn't change, or 16383

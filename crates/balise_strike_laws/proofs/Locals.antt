@@ -18,14 +18,15 @@ use Rattle.balise_rules.specs.Accepting.{AcceptedIn, AcceptedAt, Asks, Accepted}
 use Rattle.balise_rules.specs.Paths.{Part, At, Nth, Of, Front, Head, Path, neighbour, changes, needs}
 use Rattle.balise_rules.proofs.Tests.{split_on, flip_no, tag_test, nat_test}
 use Rattle.balise_rules.proofs.Lists.{find-put, find-without, find-each}
-use Rattle.balise_strike_laws.proofs.Cases.{found, some_is, map_itself, drop1}
-use Rattle.balise_strike_laws.proofs.Fields.{each-id}
+use Rattle.balise_rules.proofs.Cases.{found, some_is, map_itself}
+use Rattle.balise_rules.proofs.Each.{each-id, each-same}
+use Rattle.balise_rules.proofs.Reversed.{find-reverse}
+use Rattle.balise_strike_laws.proofs.Cases.{drop1}
 use Rattle.balise_strike_laws.proofs.Neighbours.{Accepts, noted_change, takes, takes_out}
 use Rattle.balise_strike_laws.proofs.Levels.{each-order}
 use Rattle.balise_strike_laws.proofs.Places.{In, first_of, later_of, in-left, Clear, Reads, front_apart}
 use Rattle.balise_strike_laws.proofs.Facts.{Facts}
-use Rattle.balise_strike_laws.proofs.Named.{each-same}
-use Rattle.balise_strike_laws.proofs.Writers.{packet-id, find-reverse}
+use Rattle.balise_strike_laws.proofs.Writers.{packet-id}
 use Rattle.balise_strike_laws.proofs.Kept.{RealOwn}
 use Rattle.balise_strike_laws.proofs.Settings.{own_change}
 use Rattle.balise_strike_laws.proofs.Readers.{Local, home, Room, noted_before, forward-in, back-in}

@@ -1,7 +1,7 @@
 -- Names: an element that is found is among the names of its packet, and identities are apart as their places are.
 -- Proves that a renumbering leaves fields that don't name the identity.
 -- From the definition of the names of a packet.
-use Rattle.std.proofs.Common.{◌≡◌, ◌≢◌, ℕ, true, false, ◌&&◌, eqb, List, [], ◌∷◌, filter, Some, refl, sym, ap, ◌∙◌}
+use Rattle.std.proofs.Common.{◌≡◌, ◌≢◌, ℕ, true, false, ◌&&◌, eqb, List, [], ◌∷◌, filter, Some, refl, sym, ap}
 use Rattle.std.proofs.lemmas.Bool.{eqb-true}
 use Rattle.balise_rules.specs.declared.tag.Tag.{Tag}
 use Rattle.balise_rules.specs.declared.identity.Id.{Id}
@@ -13,15 +13,10 @@ use Rattle.balise_rules.specs.Plan.{reserved}
 use Rattle.balise_rules.specs.Names.{country_at, is_real, links_among}
 use Rattle.balise_rules.specs.Edits.{Renumber, field_after}
 use Rattle.balise_rules.proofs.Tests.{split_on, split_keys, flip_no, key_test, id_test}
-use Rattle.balise_rules.proofs.Lists.{unsome}
+use Rattle.balise_rules.proofs.Cases.{unsome}
 use Rattle.balise_strike_laws.proofs.Cases.{drop1}
 use Rattle.balise_strike_laws.proofs.Fields.{identity}
 use Rattle.balise_strike_laws.proofs.Places.{In, first_of, later_of}
-
--- changes of nothing
-pub each-same : {K A : Type 0} → (h : K → A → A) → (xs : List (K × A)) → ((t : K) → (x : A) → h t x ≡ x) → each h xs ≡ xs
-each-same h [] k = refl
-each-same h (y ∷ ys) k = ap (λ v. (y.0, v) ∷ each h ys) (k y.0 y.1) ∙ ap (λ l. y ∷ l) (each-same h ys k)
 
 -- a found element is among the names
 pub named-among : (c k v : ℕ) → (fs ys : Fields) → find same_key (NidBg, k) ys ≡ Some v → In (identity (country_at c k fs) v) (links_among c fs ys)

@@ -21,8 +21,8 @@ use Rattle.balise_rules.specs.Notes.{Note, set_note, names_taken, note_at, noted
 use Rattle.balise_rules.specs.Accepting.{NoName, AcceptedIn, AcceptedAt, Accepted, Unused}
 use Rattle.balise_rules.specs.Paths.{Whose, Entry, changes, needs}
 use Rattle.balise_rules.proofs.Tests.{split_on, split_keys, flip_yes, tag_test, var_test, id_test}
-use Rattle.balise_rules.proofs.Lists.{unsome, find-without_same}
-use Rattle.balise_strike_laws.proofs.Cases.{some_is, parts4}
+use Rattle.balise_rules.proofs.Lists.{find-without_same}
+use Rattle.balise_rules.proofs.Cases.{unsome, some_is, parts4}
 use Rattle.balise_strike_laws.proofs.Fields.{identity, country-after, find-fields}
 use Rattle.balise_strike_laws.proofs.Headers.{country-kept}
 use Rattle.balise_strike_laws.proofs.Places.{In, first_of, later_of, in-left, in-right, in-ids}

@@ -10,7 +10,7 @@ use Rattle.balise_rules.specs.Tags.{same_tag}
 use Rattle.balise_rules.specs.Accepting.{Stands}
 use Rattle.balise_rules.proofs.Tests.{split_on, flip_spot, spot_itself, tag_test}
 use Rattle.balise_rules.proofs.Lists.{find-put, find-without, find-each, next-put, next-each, next-without, next-gone}
-use Rattle.balise_strike_laws.proofs.Cases.{found}
+use Rattle.balise_rules.proofs.Cases.{found}
 use Rattle.balise_strike_laws.proofs.Changes.{ChangesApart, find-move}
 
 -- what a change asks of the list

@@ -10,7 +10,7 @@ use Rattle.balise_rules.specs.Telegram.{used}
 use Rattle.balise_rules.specs.Accepting.{Stands}
 use Rattle.balise_rules.proofs.Tests.{split_on, split_keys, flip_no, flip_spot, tag_test}
 use Rattle.balise_rules.proofs.Lists.{find-put, find-without, without-put, next-put}
-use Rattle.balise_strike_laws.proofs.Cases.{found}
+use Rattle.balise_rules.proofs.Cases.{found}
 use Rattle.balise_strike_laws.proofs.Changes.{find-move}
 use Rattle.balise_strike_laws.proofs.Neighbours.{Accepts}
 use Rattle.balise_strike_laws.proofs.Rooms.{used-move}

@@ -20,8 +20,9 @@ use Rattle.balise_rules.specs.Notes.{Note, set_note, note_at, noted}
 use Rattle.balise_rules.specs.Doing.{done}
 use Rattle.balise_rules.specs.Accepting.{Lawful}
 use Rattle.balise_rules.specs.Paths.{At, Nth, Of, Turn, Name, Head, Whose}
-use Rattle.balise_rules.proofs.Tests.{tag_test, nat_test, var_test}
-use Rattle.balise_strike_laws.proofs.Cases.{parts3, drop1, drop_field, both_one}
+use Rattle.balise_rules.proofs.Tests.{tag_test, nat_test, var_test, both_one}
+use Rattle.balise_rules.proofs.Cases.{parts3}
+use Rattle.balise_strike_laws.proofs.Cases.{drop1, drop_field}
 use Rattle.balise_strike_laws.proofs.Fields.{identity, FieldApart}
 use Rattle.balise_strike_laws.proofs.Headers.{HeadApart}
 use Rattle.balise_strike_laws.proofs.Changes.{ChangesApart}

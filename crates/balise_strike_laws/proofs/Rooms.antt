@@ -2,7 +2,7 @@
 -- Proves that no change but a deletion makes room, and that an insertion whose bits fit after another edit fits before it, and the other way round.
 -- From the clause of independence that keeps insertions apart from deletions, and the widths of fields.
 use Rattle.std.proofs.Common.{◌≡◌, ℕ, ◌+◌, ◌≤◌, Bool, true, false, cond, ◌&&◌, eqb, List, [], ◌∷◌, length, Option, Some, None, refl, sym, ap, subst, ◌∙◌, arith}
-use Rattle.std.proofs.lemmas.Bool.{and_left, and_right, true≢false}
+use Rattle.std.proofs.lemmas.Bool.{and_left, and_right, true≢false, not-true}
 use Rattle.std.specs.Option.{option_map}
 use Rattle.balise_rules.specs.declared.tag.Tag.{Tag}
 use Rattle.balise_rules.specs.declared.tag.Tag.TheVariants.{Fresh}
@@ -17,8 +17,7 @@ use Rattle.balise_rules.specs.Edits.{Edit, Item, SetVar, SetHead, InsertPacket, 
 use Rattle.balise_rules.specs.Accepting.{Stands, AcceptedIn, AcceptedAt, Asks}
 use Rattle.balise_rules.specs.Paths.{room_apart}
 use Rattle.balise_rules.proofs.Tests.{split_on, split_keys, flip_no, tag_test, nat_test}
-use Rattle.balise_rules.proofs.Lists.{unsome, without-absent}
-use Rattle.balise_strike_laws.proofs.Cases.{not_true}
+use Rattle.balise_rules.proofs.Lists.{without-absent}
 use Rattle.balise_strike_laws.proofs.Changes.{move-found}
 use Rattle.balise_strike_laws.proofs.Neighbours.{Accepts}
 use Rattle.balise_strike_laws.proofs.Levels.{keep}
@@ -27,6 +26,7 @@ use Rattle.balise_rules.specs.Variables.{width_of}
 use Rattle.balise_rules.specs.Bits.{bits}
 use Rattle.balise_rules.specs.Forms.{spelling}
 use Rattle.balise_rules.proofs.Numbers.{length-bits}
+use Rattle.balise_rules.proofs.Cases.{unsome}
 use Rattle.balise_strike_laws.proofs.Facts.{Facts}
 use Rattle.balise_strike_laws.proofs.Writers.{stands-off}
 use Rattle.balise_strike_laws.proofs.Readers.{Local, home, Room}
@@ -123,7 +123,7 @@ other_place g g1 t t1 h = split_on (same_tag g g1)
 pub no-take : (s0 : ℕ) → (g : Tag) → (t : ℕ) → (b : Option Tag) → (x : Packet) → (f : Item) → room_apart (InsertPacket g t b x) f.1 ≡ true → (j : Id) → (c : ℕ) →
     is_take (packets_change f j g t c) ≡ false
 no-take s0 g t b x (s1, InsertPacket g1 t1 b1 x1) h j c = split_on (same_tag g1 g && eqb t1 t) (λ e. simp e) (λ e. simp e)
-no-take s0 g t b x (serial1, DeletePacket g1 t1 p) h j c = let k = other_place g g1 t t1 (not_true (same_tag g g1 && eqb t t1) h) in simp k
+no-take s0 g t b x (serial1, DeletePacket g1 t1 p) h j c = let k = other_place g g1 t t1 (not-true (same_tag g g1 && eqb t t1) h) in simp k
 no-take s0 g t b x (serial1, MovePacket g1 t1 p a) h j c = split_on (same_tag g1 g && eqb t1 t) (λ e. simp e) (λ e. simp e)
 no-take s0 g t b x f h j c = refl
 

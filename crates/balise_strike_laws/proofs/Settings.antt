@@ -19,7 +19,7 @@ use Rattle.balise_rules.specs.Notes.{Note, nothing, names_set, set_note}
 use Rattle.balise_rules.specs.Accepting.{Lawful}
 use Rattle.balise_rules.specs.Paths.{At, Nth, Of, Turn, Whose}
 use Rattle.balise_rules.proofs.Tests.{split_on, var_test}
-use Rattle.balise_strike_laws.proofs.Cases.{found}
+use Rattle.balise_rules.proofs.Cases.{found}
 use Rattle.balise_strike_laws.proofs.Fields.{identity, Steady, country-after, value-each}
 use Rattle.balise_strike_laws.proofs.Headers.{SteadyHead}
 use Rattle.balise_strike_laws.proofs.Levels.{keep}

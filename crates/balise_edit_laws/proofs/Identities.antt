@@ -12,7 +12,7 @@ use Rattle.balise_rules.proofs.Tests.{split_on, split_keys, apart_from, flip_no,
 use Rattle.balise_rules.proofs.Lists.{find-put, find-without, find-without_same, find-each}
 use Rattle.balise_rules.proofs.Cases.{unsome, found}
 use Rattle.balise_rules.proofs.Each.{found_later}
-use Rattle.balise_edit_laws.proofs.Puts.{find-put_same}
+use Rattle.balise_rules.proofs.Anchors.{find-put_same}
 use Rattle.balise_edit_laws.proofs.Naming.{no_group_from, no_group_to}
 use Rattle.balise_edit_laws.proofs.HeadsKept.{new_identity}
 

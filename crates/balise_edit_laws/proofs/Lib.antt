@@ -2,7 +2,6 @@ pub mod Keys
 pub mod Headers
 pub mod Found
 pub mod HeadChanges
-pub mod Puts
 pub mod Levels
 pub mod PacketsBack
 pub mod FieldChanges

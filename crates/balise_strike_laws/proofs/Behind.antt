@@ -18,6 +18,7 @@ use Rattle.balise_rules.specs.Accepting.{Stands, AcceptedIn, AcceptedAt, Accepte
 use Rattle.balise_rules.specs.Paths.{Whose, Path, meet, changes, needs}
 use Rattle.balise_rules.proofs.Tests.{split_on, tag_test, nat_test}
 use Rattle.balise_rules.proofs.Each.{each-each}
+use Rattle.balise_rules.proofs.Anchors.{anchor-other, stands-put}
 use Rattle.balise_strike_laws.proofs.Headers.{country-kept}
 use Rattle.balise_strike_laws.proofs.Neighbours.{Accepts}
 use Rattle.balise_strike_laws.proofs.Levels.{keep}
@@ -27,7 +28,7 @@ use Rattle.balise_strike_laws.proofs.Locals.{asks-at, at-asks, noted-at, telegra
 use Rattle.balise_strike_laws.proofs.Rooms.{used-put}
 use Rattle.balise_strike_laws.proofs.Identities.{no-group-back, no-group-forward}
 use Rattle.balise_strike_laws.proofs.GroupReaders.{added_real}
-use Rattle.balise_strike_laws.proofs.PutIn.{put-put_in, anchor-other, stands-put, MovesBehind, moves-behind}
+use Rattle.balise_strike_laws.proofs.PutIn.{put-put_in, MovesBehind, moves-behind}
 
 -- h before e is as f after e
 pub record Behind (e f h : Item) (plan : Plan) : Type 0 where

@@ -23,12 +23,13 @@ use Rattle.balise_rules.specs.Paths.{Whose, Entry, changes, needs}
 use Rattle.balise_rules.proofs.Tests.{split_on, split_keys, flip_yes, tag_test, var_test, id_test}
 use Rattle.balise_rules.proofs.Lists.{find-without_same}
 use Rattle.balise_rules.proofs.Cases.{unsome, some_is, parts4}
+use Rattle.balise_rules.proofs.Anchors.{find-put_same}
 use Rattle.balise_strike_laws.proofs.Fields.{identity, country-after, find-fields}
 use Rattle.balise_strike_laws.proofs.Headers.{country-kept}
 use Rattle.balise_strike_laws.proofs.Places.{In, first_of, later_of, in-left, in-right, in-ids}
 use Rattle.balise_strike_laws.proofs.Facts.{Facts}
 use Rattle.balise_strike_laws.proofs.Named.{in-real, named-among}
-use Rattle.balise_strike_laws.proofs.Writers.{Spares, find-put-same, find-change, by-packets}
+use Rattle.balise_strike_laws.proofs.Writers.{Spares, find-change, by-packets}
 use Rattle.balise_strike_laws.proofs.Settings.{lawful-steady, lawful-head}
 use Rattle.balise_strike_laws.proofs.Locals.{here_is, accepts-there}
 
@@ -170,7 +171,7 @@ special plan (s1, InsertPacket g1 t1 a1 x1) a un g t y at p =
     inr (
       (λ x h q w. absurd (let k : find same_tag (Fresh s1) y.packets ≡ Some x = ap (λ u. find same_tag u y.packets) r ∙ h in let b = sym k ∙ none in cc)),
       (λ x h q w. let k0 : find same_tag p (put same_tag a1 (Fresh s1, x1) y.packets) ≡ Some x = simp e at h in
-          let k : Some x1 ≡ Some x = sym (find-put-same (Fresh s1, x1) a1 y.packets stands.0 none) ∙ ap (λ u. find same_tag u (put same_tag a1 (Fresh s1, x1) y.packets)) r ∙ k0 in
+          let k : Some x1 ≡ Some x = sym (find-put_same a1 (Fresh s1, x1) y.packets stands.0 none) ∙ ap (λ u. find same_tag u (put same_tag a1 (Fresh s1, x1) y.packets)) r ∙ k0 in
           touched-names (s1, InsertPacket g1 t1 a1 x1) (noted (InsertPacket g1 t1 a1 x1) plan) (links_among (country_of y) x1.fields x1.fields) (ap (λ o. o.names) n)
           (λ q i. later_of (in-ids q (noted (InsertPacket g1 t1 a1 x1) plan).names i)) q
           (in-names (country_of y) x1.fields q (subst (λ u. InPacket (country_of y) u.fields q) (sym (unsome k)) w))),

@@ -18,7 +18,6 @@ use Rattle.balise_rules.specs.Accepting.{Stands, AcceptedIn, AcceptedAt, Asks}
 use Rattle.balise_rules.specs.Paths.{room_apart}
 use Rattle.balise_rules.proofs.Tests.{split_on, split_keys, flip_no, tag_test, nat_test}
 use Rattle.balise_rules.proofs.Lists.{without-absent}
-use Rattle.balise_strike_laws.proofs.Changes.{move-found}
 use Rattle.balise_strike_laws.proofs.Neighbours.{Accepts}
 use Rattle.balise_strike_laws.proofs.Levels.{keep}
 use Rattle.std.proofs.Common.{length-append}
@@ -27,8 +26,9 @@ use Rattle.balise_rules.specs.Bits.{bits}
 use Rattle.balise_rules.specs.Forms.{spelling}
 use Rattle.balise_rules.proofs.Numbers.{length-bits}
 use Rattle.balise_rules.proofs.Cases.{unsome}
+use Rattle.balise_rules.proofs.Moved.{move_is}
+use Rattle.balise_rules.proofs.Anchors.{stands-without}
 use Rattle.balise_strike_laws.proofs.Facts.{Facts}
-use Rattle.balise_strike_laws.proofs.Writers.{stands-off}
 use Rattle.balise_strike_laws.proofs.Readers.{Local, home, Room}
 use Rattle.balise_strike_laws.proofs.Locals.{here_is, accepts-there, telegram-done}
 
@@ -71,8 +71,8 @@ width-after f j g t c p z =
 
 pub used-move : (p : Tag) → (a : Option Tag) → (xs : List (Tag × Packet)) → Distinct same_tag xs → Accepts (Move p a) xs → used (move same_tag p a xs) ≡ used xs
 used-move p a xs u s =
-    let k = ap used (move-found p a s.0.0 xs s.0.1) in
-    let b = used-put a (p, s.0.0) (without same_tag p xs) (stands-off a p xs s.2 s.1) in
+    let k = ap used (move_is same_tag p a s.0.0 xs s.0.1) in
+    let b = used-put a (p, s.0.0) (without same_tag p xs) (stands-without a p xs s.2 s.1) in
     let d = used-without p s.0.0 xs u s.0.1 in omega arith
 
 -- a change that takes nothing out of the telegram does not make room

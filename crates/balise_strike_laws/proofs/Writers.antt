@@ -13,14 +13,14 @@ use Rattle.balise_rules.specs.Telegram.{Telegram}
 use Rattle.balise_rules.specs.Plan.{country_of}
 use Rattle.balise_rules.specs.Edits.{Item, InsertPacket, DeletePacket, MovePacket, telegram_after, packet_after, packets_change}
 use Rattle.balise_rules.specs.Notes.{Note}
-use Rattle.balise_rules.specs.Accepting.{Stands}
 use Rattle.balise_rules.specs.Paths.{At, Nth, After, Front, Path, same_part, anchor, neighbour}
 use Rattle.balise_rules.proofs.Tests.{split_on, split_keys, flip_no, flip_spot, tag_test}
 use Rattle.balise_rules.proofs.Lists.{find-put, find-without, find-each, find-without_same}
 use Rattle.balise_rules.proofs.Cases.{found, map_itself}
 use Rattle.balise_rules.proofs.Each.{each-id}
+use Rattle.balise_rules.proofs.Anchors.{find-put_same, stands-without}
+use Rattle.balise_rules.proofs.Moved.{find-move}
 use Rattle.balise_strike_laws.proofs.Cases.{drop1}
-use Rattle.balise_strike_laws.proofs.Changes.{find-move}
 use Rattle.balise_strike_laws.proofs.Neighbours.{Accepts, Free, takes}
 use Rattle.balise_strike_laws.proofs.Levels.{keep}
 use Rattle.balise_strike_laws.proofs.Places.{first_of, later_of, Clear, side_apart, front_apart}
@@ -62,22 +62,6 @@ clear-takes (serial1, MovePacket g1 t1 p a) m j g t c0 b k =
     (λ e d. front_apart (Some p) b (simp (e, d) at (k (At g1 ∷ Nth t1 ∷ At p ∷ Front ∷ []) first_of)))
 clear-takes f m j g t c0 b k = refl
 
--- what is put in is found
-pub find-put-same : {A : Type 0} → (z : Tag × A) → (a : Option Tag) → (xs : List (Tag × A)) → Stands a xs → find same_tag z.0 xs ≡ None →
-    find same_tag z.0 (put same_tag a z xs) ≡ Some z.1
-find-put-same z None xs s n = let r = tag_test.itself z.0 in simp r
-find-put-same z (Some a) [] s n = let k = s.1 in absurd (cc)
-find-put-same z (Some a) (y ∷ ys) s n =
-    let r = tag_test.itself z.0 in
-    split_on (same_tag z.0 y.0) (λ d. let k = simp d at n in absurd (cc))
-    (λ d. let k : find same_tag z.0 ys ≡ None = simp d at n in
-    split_on (same_tag a y.0) (λ e. simp (e, d, r)) (λ e. let w : find same_tag a ys ≡ Some s.0 = simp e at s.1 in simp (e, d) (find-put-same z (Some a) ys (s.0, w) k)))
-
-pub stands-off : {A : Type 0} → (a : Option Tag) → (p : Tag) → (xs : List (Tag × A)) → same_spot same_tag a (Some p) ≡ false → Stands a xs →
-    Stands a (without same_tag p xs)
-stands-off None p xs n s = tt
-stands-off (Some a) p xs n s = (s.0, find-without tag_test a p n xs ∙ s.1)
-
 -- a change spares an item: neither puts it in nor takes it out
 abbrev pub Spares : {A : Type 0} → Change Tag A → Tag → Type 0
 Spares (Each f) p = Unit {0}
@@ -99,8 +83,8 @@ find-change (Take q) p xs s n = find-without tag_test p q n xs
 find-change (Move q a) p xs s n =
     split_keys tag_test p q
     (λ e r. let h : find same_tag q xs ≡ Some s.0.0 = s.0.1 in
-    ap (λ u. find same_tag u (move same_tag q a xs)) r ∙ ap (λ l. find same_tag q l) (moved h) ∙ find-put-same (q, s.0.0) a (without same_tag q xs) (stands-off a q xs s.2 s.1) (find-without_same same_tag q xs) ∙ sym h ∙ ap (λ u. find same_tag u xs) (sym r))
-    (λ e. find-move p q a e xs)
+    ap (λ u. find same_tag u (move same_tag q a xs)) r ∙ ap (λ l. find same_tag q l) (moved h) ∙ find-put_same a (q, s.0.0) (without same_tag q xs) (stands-without a q xs s.2 s.1) (find-without_same same_tag q xs) ∙ sym h ∙ ap (λ u. find same_tag u xs) (sym r))
+    (λ e. find-move tag_test p q a e xs)
   where
     moved : find same_tag q xs ≡ Some s.0.0 → move same_tag q a xs ≡ put same_tag a (q, s.0.0) (without same_tag q xs)
     moved h = simp h

@@ -1,7 +1,7 @@
 -- What an edit leaves of a packet's fields: those that steer, and with them the country in force at each element.
 -- From which variables are set at all: none that steers, the number of a link that is renamed, orientation and direction in a turn.
 -- So a link is named under the same country before and after.
-use Rattle.std.proofs.Common.{◌≡◌, ℕ, true, false, ◌&&◌, eqb, [], ◌∷◌, refl, sym, ap, ◌∙◌}
+use Rattle.std.proofs.Common.{◌≡◌, ℕ, true, false, ◌&&◌, eqb, refl, sym, ap, ◌∙◌}
 use Rattle.std.proofs.lemmas.Bool.{true≢false, and_right}
 use Rattle.balise_rules.specs.declared.tag.Tag.{Tag}
 use Rattle.balise_rules.specs.declared.identity.Id.{Id}
@@ -17,6 +17,7 @@ use Rattle.balise_rules.specs.Edits.{Edit, SetVar, SetHead, InsertPacket, Delete
 use Rattle.balise_rules.proofs.Tests.{split_on, var_test, key_test}
 use Rattle.balise_rules.proofs.Lists.{find-each}
 use Rattle.balise_rules.proofs.Cases.{found}
+use Rattle.balise_rules.proofs.Names.{country-each}
 
 -- a variable that steers isn't one that doesn't
 steers_other : (v w : Var) → steers v ≡ false → steers w ≡ true → same_var v w ≡ false
@@ -55,13 +56,6 @@ steering_stays (DeletePacket g0 t0 q) l i g t c p fs key n s = refl
 steering_stays (MovePacket g0 t0 q a) l i g t c p fs key n s = refl
 steering_stays (AddGroup a bs) l i g t c p fs key n s = refl
 steering_stays (DropGroup g0) l i g t c p fs key n s = refl
-
-country-each : (h : Key → ℕ → ℕ) → ((key : Key) → (n : ℕ) → is_of NidC key ≡ true → h key n ≡ n) → (c k : ℕ) → (fs : Fields) → country_at c k (each h fs) ≡ country_at c k fs
-country-each h s c k [] = refl
-country-each h s c k (f ∷ fs) =
-    split_on (is_of NidC f.0)
-    (λ e. simp (e, s f.0 f.1 e) (country-each h s f.1 k fs))
-    (λ e. split_on (same_key (NidBg, k) f.0) (λ d. simp (e, d)) (λ d. simp (e, d) (country-each h s c k fs)))
 
 -- the country in force at an element stays
 pub country_stays : (e : Edit) → Lawful e → (i : Id) → (g : Tag) → (t c : ℕ) → (p : Tag) → (k : ℕ) → (fs : Fields) → country_at c k (each (field_after e i g t c p fs) fs) ≡ country_at c k fs

@@ -6,8 +6,7 @@ use Rattle.std.proofs.lemmas.Bool.{and_parts, leb-true, eqb-true, ne_eqb, eqb-fa
 use Rattle.std.proofs.lemmas.List.{length-replicate}
 use Rattle.balise_rules.specs.declared.refusal.Refusal.TheVariants.{GroupSize}
 use Rattle.balise_rules.proofs.TelegramShown.{used_is, telegram_read}
-use Rattle.balise_rules.specs.declared.tag.Tag.{Tag}
-use Rattle.balise_rules.specs.declared.tag.Tag.TheVariants.{Base, Fresh}
+use Rattle.balise_rules.specs.declared.tag.Tag.TheVariants.{Fresh}
 use Rattle.balise_rules.specs.declared.identity.Id.{Id}
 use Rattle.balise_rules.specs.declared.refusal.Refusal.{Refusal}
 use Rattle.balise_rules.specs.declared.variable.Var.{Var}
@@ -17,12 +16,13 @@ use Rattle.balise_rules.specs.Bits.{bits, ones}
 use Rattle.balise_rules.specs.Tagged.{find, Distinct}
 use Rattle.balise_rules.specs.Tags.{same_tag, same_id}
 use Rattle.balise_rules.specs.Forms.{Fields, Matches, spelling}
-use Rattle.balise_rules.specs.Packet.{Packet, value}
-use Rattle.balise_rules.specs.Telegram.{Telegram, header, used, TaggedFrom, IsLength, IsRead, packets_bits, read_telegram}
+use Rattle.balise_rules.specs.Packet.{value}
+use Rattle.balise_rules.specs.Telegram.{Telegram, header, used, IsLength, IsRead, packets_bits, read_telegram}
 use Rattle.balise_rules.specs.Plan.{Group, reserved, identity_in, identity_of, agree_from, with_telegrams, read_telegrams, checked_group, read_group, IsSoundTelegram, SoundFrom, IsSoundGroup}
 use Rattle.balise_rules.proofs.Tests.{split_on, id_test}
 use Rattle.balise_rules.proofs.Numbers.{length-bits}
 use Rattle.balise_rules.proofs.Cases.{unsome}
+use Rattle.balise_rules.proofs.TaggedFrom.{tagged_distinct, never_fresh}
 use Rattle.balise_edit_laws.proofs.Headers.{plains, header_variables}
 
 -- how many bits a list of variables takes
@@ -63,22 +63,6 @@ padding_length : (b : List Bool) → (y : Telegram) → IsRead b y → length y.
 padding_length b y r =
     let p = ap length r.padding in
     omega (arith, p, length-append (ones (used y.packets)) (drop (used y.packets) b), length-replicate (used y.packets) true, length-drop (used y.packets) b, used_within b y r)
-
--- tags of what was read
-tagged_absent : (m n : ℕ) → (ps : List (Tag × Packet)) → TaggedFrom n ps → m < n → find same_tag (Base m) ps ≡ None
-tagged_absent m n [] u l = refl
-tagged_absent m n (y ∷ ys) u l =
-    let e : eqb m n ≡ false = ne_eqb m n (λ q. omega (arith, q, l)) in
-    let d : same_tag (Base m) y.0 ≡ false = ap (same_tag (Base m)) u.0 ∙ e in
-    simp d (tagged_absent m (suc n) ys u.1 (omega (arith, l)))
-
-tagged_distinct : (n : ℕ) → (ps : List (Tag × Packet)) → TaggedFrom n ps → Distinct same_tag ps
-tagged_distinct n [] u = tt
-tagged_distinct n (y ∷ ys) u = (ap (λ t. find same_tag t ys) u.0 ∙ tagged_absent n (suc n) ys u.1 (omega arith), tagged_distinct (suc n) ys u.1)
-
-never_fresh : (s n : ℕ) → (ps : List (Tag × Packet)) → TaggedFrom n ps → find same_tag (Fresh s) ps ≡ None
-never_fresh s n [] u = refl
-never_fresh s n (y ∷ ys) u = let d : same_tag (Fresh s) y.0 ≡ false = ap (same_tag (Fresh s)) u.0 in simp d (never_fresh s (suc n) ys u.1)
 
 telegram_sound : (i : Id) → (last n : ℕ) → (b : List Bool) → (y : Telegram) → IsRead b y → value NPig 0 y.head ≡ n → value NTotal 0 y.head ≡ last → identity_in y ≡ i → IsSoundTelegram i last n y
 telegram_sound i last n b y r place total identity =

@@ -7,15 +7,14 @@ use Rattle.balise_rules.specs.declared.tag.Tag.{Tag}
 use Rattle.balise_rules.specs.declared.variable.Var.{Var}
 use Rattle.balise_rules.specs.declared.variable.Var.TheVariants.{NidBg, NPig, MDup, NidC, NTotal, MVersion}
 use Rattle.balise_rules.specs.Variables.{is_free_in_header}
-use Rattle.balise_rules.specs.Tagged.{find, each}
-use Rattle.balise_rules.specs.Tags.{same_var, same_key}
+use Rattle.balise_rules.specs.Tagged.{each}
+use Rattle.balise_rules.specs.Tags.{same_var}
 use Rattle.balise_rules.specs.Forms.{Fields}
 use Rattle.balise_rules.specs.Packet.{value}
 use Rattle.balise_rules.specs.Accepting.{Lawful}
 use Rattle.balise_rules.specs.Edits.{Edit, SetVar, SetHead, InsertPacket, DeletePacket, MovePacket, AddGroup, DropGroup, Renumber, TurnGroup, head_after}
 use Rattle.balise_rules.proofs.Tests.{split_on, var_test}
-use Rattle.balise_rules.proofs.Cases.{found}
-use Rattle.balise_edit_laws.proofs.Headers.{value-each}
+use Rattle.balise_rules.proofs.Values.{value_kept}
 
 -- a variable of a header that no edit sets
 pub record IsFixed (v : Var) : Type 0 where
@@ -38,12 +37,8 @@ fixed_stays (MovePacket g0 t0 p0 a) l v x g t hs n = refl
 fixed_stays (AddGroup a bs) l v x g t hs n = refl
 fixed_stays (DropGroup g0) l v x g t hs n = refl
 
--- a value whose field isn't changed
-pub value_kept : (h : (Var × ℕ) → ℕ → ℕ) → (v : Var) → (hs : Fields) → ((n : ℕ) → h (v, 0) n ≡ n) → value v 0 (each h hs) ≡ value v 0 hs
-value_kept h v hs k = value-each h v 0 hs ∙ found (find same_key (v, 0) hs) (λ e. simp e) (λ n e. simp e (k n))
-
 pub fixed_kept : (e : Edit) → Lawful e → (v : Var) → IsFixed v → (g : Tag) → (t : ℕ) → (hs : Fields) → value v 0 (each (head_after e g t hs) hs) ≡ value v 0 hs
-fixed_kept e l v x g t hs = value_kept (head_after e g t hs) v hs (fixed_stays e l v x g t hs)
+fixed_kept e l v x g t hs = value_kept (head_after e g t hs) v 0 hs (fixed_stays e l v x g t hs)
 
 pub country_fixed : IsFixed NidC
 unfolding is_free_in_header

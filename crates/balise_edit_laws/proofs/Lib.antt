@@ -1,6 +1,4 @@
-pub mod Keys
 pub mod Headers
-pub mod Found
 pub mod HeadChanges
 pub mod Levels
 pub mod PacketsBack

@@ -20,8 +20,8 @@ use Rattle.balise_rules.proofs.ListsBack.{without-put_same, put_before-without}
 use Rattle.balise_rules.proofs.Each.{each-id}
 use Rattle.balise_rules.proofs.Anchors.{find-move_same}
 use Rattle.balise_rules.proofs.Moved.{move_back}
-use Rattle.balise_edit_laws.proofs.Found.{stood}
-use Rattle.balise_edit_laws.proofs.Levels.{telegram-back, two-ids, place_is, telegrams-back}
+use Rattle.balise_rules.proofs.Found.{stood, place_is}
+use Rattle.balise_edit_laws.proofs.Levels.{telegram-back, two-ids, telegrams-back}
 
 pub insert_back : (s : ℕ) → (g : Tag) → (t : ℕ) → (a : Option Tag) → (x : Packet) → (plan : Plan) → IsSound plan → Unused s plan → back (s, InsertPacket g t a x) (noted (InsertPacket g t a x) plan) (done (s, InsertPacket g t a x) plan) ≡ plan
 insert_back s g t a x plan sound unused =

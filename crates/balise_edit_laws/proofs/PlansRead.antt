@@ -16,8 +16,8 @@ use Rattle.balise_rules.specs.Accepting.{Unused}
 use Rattle.balise_rules.proofs.Tests.{split_on, flip_no, tag_test, id_test}
 use Rattle.balise_rules.proofs.Cases.{unsome, found}
 use Rattle.balise_rules.proofs.Reversed.{find-append, find-append_some, distinct_last}
+use Rattle.balise_rules.proofs.Found.{in_group}
 use Rattle.balise_edit_laws.proofs.GroupsRead.{group_read, GroupRead}
-use Rattle.balise_edit_laws.proofs.UnusedKept.{in_group}
 
 -- what is known of a plan while it is read
 record PlanRead (plan : Plan) : Type 0 where

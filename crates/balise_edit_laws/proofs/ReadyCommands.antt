@@ -26,7 +26,7 @@ use Rattle.balise_edit_laws.specs.TakenBack.{IsReady}
 use Rattle.balise_rules.proofs.Tests.{split_on, tag_test, nat_test}
 use Rattle.balise_rules.proofs.Cases.{unsome}
 use Rattle.balise_rules.proofs.Each.{found_later}
-use Rattle.balise_edit_laws.proofs.Found.{group_sound}
+use Rattle.balise_rules.proofs.Found.{group_sound}
 use Rattle.balise_edit_laws.proofs.Refusing.{refused_exactly}
 
 -- what is first in order of an identity stands under its tag

@@ -19,7 +19,7 @@ use Rattle.balise_rules.specs.Doing.{renumbered, refusal, first_of, when, taken,
 use Rattle.balise_rules.specs.Accepting.{Accepted, AcceptedAt, AcceptedIn, Stands, NoGroup}
 use Rattle.balise_rules.specs.Edits.{Edit, SetVar, SetHead, InsertPacket, DeletePacket, MovePacket, AddGroup, DropGroup, Renumber, TurnGroup, group_of, group_or_none}
 use Rattle.balise_rules.proofs.Cases.{found}
-use Rattle.balise_edit_laws.proofs.Found.{stood}
+use Rattle.balise_rules.proofs.Found.{stood}
 use Rattle.balise_edit_laws.proofs.Naming.{no_group_from, no_group_to, no_name_from, no_name_to}
 
 abbrev pub Both : Edit → Plan → Type 0

@@ -23,7 +23,7 @@ use Rattle.balise_rules.proofs.Cases.{unsome, found}
 use Rattle.balise_rules.proofs.Reversed.{find-reverse}
 use Rattle.balise_rules.proofs.Moved.{absent-move}
 use Rattle.balise_rules.proofs.Anchors.{find-put_same}
-use Rattle.balise_edit_laws.proofs.Found.{group_sound}
+use Rattle.balise_rules.proofs.Found.{in_group, group_sound}
 use Rattle.balise_edit_laws.proofs.GroupsKept.{turns, order_is}
 use Rattle.balise_edit_laws.proofs.GroupsRead.{group_read}
 
@@ -68,18 +68,6 @@ was_in e own g t ys u z h =
     (split_on (turns e.1 g)
     (λ n. sym (find-reverse nat_test t zs (distinct-each nat_test (telegram_after e own g) ys u)) ∙ ap (λ b. find eqb t (cond b (reverse zs) zs)) (sym n) ∙ k)
     (λ n. ap (λ b. find eqb t (cond b (reverse zs) zs)) (sym n) ∙ k))
-
--- a telegram that is found stands in a group
-pub record InGroup (g : Tag) (t : ℕ) (plan : Plan) (y : Telegram) : Type 0 where
-  pub group : Group
-  pub has_group : find same_tag g plan ≡ Some group
-  pub has_telegram : find eqb t group ≡ Some y
-
-pub in_group : (g : Tag) → (t : ℕ) → (plan : Plan) → (y : Telegram) → telegram_at g t plan ≡ Some y → InGroup g t plan y
-in_group g t plan y h =
-    found (find same_tag g plan)
-    (λ e. absurd (let k = simp e at h in cc))
-    (λ ys e. let k : find eqb t ys ≡ Some y = simp e at h in record { group = ys; has_group = e; has_telegram = k })
 
 unused_within : (e : Item) → (own : Id) → (plan : Plan) → IsSound plan → (s : ℕ) → s ≢ e.0 → Unused s plan → Unused s (each (group_after e own) plan)
 unused_within e own plan sound s n w = record { groups = absent-each tag_test (group_after e own) (Fresh s) plan w.groups; packets = packets }

@@ -1,10 +1,10 @@
 -- Fields: two changes of the fields of one packet commute where they are apart.
 -- Proves that no edit changes a country, so that an element keeps what it names unless it is renamed, and that the new value of a field is the same in both orders.
 -- From the laws of tagged lists, and number facts over plain variables.
-use Rattle.std.proofs.Common.{◌≡◌, ℕ, ◌-◌, Bool, true, false, cond, ◌&&◌, eqb, [], ◌∷◌, Some, refl, sym, ap, ◌∙◌, arith}
-use Rattle.std.proofs.lemmas.Bool.{eqb-true, and_parts, and_left, and_right, both_ways}
+use Rattle.std.proofs.Common.{◌≡◌, ℕ, ◌-◌, Bool, true, false, cond, ◌&&◌, eqb, Some, refl, sym, ap, ◌∙◌, arith}
+use Rattle.std.proofs.lemmas.Bool.{eqb-true, and_parts, and_right, both_ways}
 use Rattle.std.proofs.lemmas.Bool.Decides.{nat_tests}
-use Rattle.std.specs.Option.{option_map, unwrap_or}
+use Rattle.std.specs.Option.{option_map}
 use Rattle.balise_rules.specs.declared.tag.Tag.{Tag}
 use Rattle.balise_rules.specs.declared.identity.Id.{Id}
 use Rattle.balise_rules.specs.declared.variable.Var.{Var}
@@ -15,10 +15,12 @@ use Rattle.balise_rules.specs.Forms.{Fields}
 use Rattle.balise_rules.specs.Packet.{value}
 use Rattle.balise_rules.specs.Names.{country_at, calls, is_it}
 use Rattle.balise_rules.specs.Edits.{Edit, SetVar, SetHead, InsertPacket, DeletePacket, MovePacket, AddGroup, DropGroup, Renumber, TurnGroup, exchanged, field_after}
-use Rattle.balise_rules.proofs.Tests.{split_on, flip_no, flip_yes, tag_test, var_test, key_test, nat_test, both_one}
+use Rattle.balise_rules.proofs.Tests.{split_on, flip_yes, tag_test, var_test, key_test, nat_test, both_one}
 use Rattle.balise_rules.proofs.Lists.{find-each}
 use Rattle.balise_rules.proofs.Cases.{found, parts4}
 use Rattle.balise_rules.proofs.Each.{each-id}
+use Rattle.balise_rules.proofs.Keys.{other_key, not_other}
+use Rattle.balise_rules.proofs.Names.{country-each}
 use Rattle.balise_strike_laws.proofs.Cases.{both_set}
 
 -- two renumberings of one number
@@ -53,24 +55,6 @@ Steady e = Unit {0}
 abbrev pub identity : ℕ → ℕ → Id
 identity c n = record { country = c; number = n }
 
-pub country-each : (h : Key → ℕ → ℕ) → ((key : Key) → (v : ℕ) → is_of NidC key ≡ true → h key v ≡ v) → (c k : ℕ) → (fs : Fields) →
-    country_at c k (each h fs) ≡ country_at c k fs
-country-each h s c k [] = refl
-country-each h s c k (y ∷ ys) =
-    split_on (is_of NidC y.0)
-    (λ e. simp (e, s y.0 y.1 e) (country-each h s y.1 k ys))
-    (λ e. split_on (same_key (NidBg, k) y.0) (λ d. simp (e, d)) (λ d. simp (e, d) (country-each h s c k ys)))
-
-pub of_is : (v : Var) → (key : Key) → is_of v key ≡ true → key ≡ (v, key.1)
-of_is v key e = ap (λ (x : Var). (x, key.1)) (sym (var_test.one v key.0 e))
-
--- a field of one variable isn't one of another
-pub other_key : (v w : Var) → (k : ℕ) → (key : Key) → same_var v w ≡ false → is_of v key ≡ true → same_key (w, k) key ≡ false
-other_key v w k key n e = and_left (same_var w key.0) (eqb k key.1) (ap (same_var w) (sym (var_test.one v key.0 e)) ∙ flip_no var_test v w n)
-
-pub not_other : (v w : Var) → (key : Key) → same_var v w ≡ false → is_of v key ≡ true → is_of w key ≡ false
-not_other v w key n e = ap (same_var w) (sym (var_test.one v key.0 e)) ∙ flip_no var_test v w n
-
 pub steady : (e : Edit) → Steady e → (i : Id) → (g : Tag) → (t c : ℕ) → (p : Tag) → (fs : Fields) → (key : Key) → (v : ℕ) → is_of NidC key ≡ true →
     field_after e i g t c p fs key v ≡ v
 steady (SetVar g0 t0 p0 v0 k0 x) s i g t c p fs key v e =
@@ -92,9 +76,6 @@ country-after e s i g t c p k fs = country-each (field_after e i g t c p fs) (st
 
 pub find-fields : (h : Key → ℕ → ℕ) → (v : Var) → (k : ℕ) → (fs : Fields) → find same_key (v, k) (each h fs) ≡ option_map (h (v, k)) (find same_key (v, k) fs)
 find-fields h v k fs = find-each key_test h (v, k) fs
-
-pub value-each : (h : Key → ℕ → ℕ) → (v : Var) → (k : ℕ) → (fs : Fields) → value v k (each h fs) ≡ unwrap_or (option_map (h (v, k)) (find same_key (v, k) fs)) 0
-value-each h v k fs = ap (λ o. unwrap_or o 0) (find-fields h v k fs)
 
 -- what has to be apart for two changes of the fields of one packet
 abbrev pub FieldApart : Edit → Id → Edit → Id → Tag → ℕ → ℕ → Tag → Fields → Type 0

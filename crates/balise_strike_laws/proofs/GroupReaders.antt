@@ -17,6 +17,7 @@ use Rattle.balise_rules.specs.Accepting.{NoName, NoGroup, Asks, Accepted, Unused
 use Rattle.balise_rules.specs.Paths.{At, After, Front, Turn, Name, Whose, Path, meet, anchor, neighbour, changes, needs}
 use Rattle.balise_rules.proofs.Tests.{split_on}
 use Rattle.balise_rules.proofs.Each.{each-same}
+use Rattle.balise_rules.proofs.Names.{real_number}
 use Rattle.balise_strike_laws.proofs.Fields.{identity}
 use Rattle.balise_strike_laws.proofs.Neighbours.{noted_change, Free, takes, takes_out, Leaves, stands-kept, stood, noted-forward, noted-back}
 use Rattle.balise_strike_laws.proofs.Levels.{Inner}
@@ -25,7 +26,6 @@ use Rattle.std.specs.Prelude.{nat_le, Result, Ok, Err}
 use Rattle.balise_rules.specs.declared.refusal.Refusal.{Refusal}
 use Rattle.balise_rules.specs.Plan.{checked_group, agree_from, read_telegrams, read_group}
 use Rattle.balise_strike_laws.proofs.Facts.{Facts}
-use Rattle.balise_strike_laws.proofs.Named.{real_number}
 use Rattle.balise_strike_laws.proofs.Writers.{flip_side}
 use Rattle.balise_strike_laws.proofs.Kept.{Unnamed}
 use Rattle.balise_strike_laws.proofs.Locals.{telegram-id, real-own}
@@ -190,8 +190,8 @@ module _ (f : Item) (plan : Plan) (s : Facts plan) (b : Accepted f.1 plan) where
             (
               group_after f m1.own g a.1.0,
               k.0,
-              subst (λ u. NoGroup (identity u.country x) (done f plan)) (sym k.1) (no-group-forward plan s f b un (identity (identity_of a.1.0).country x) (real_number (identity_of a.1.0).country x a.0.1) cl a.1.2),
-              subst (λ u. NoName (identity u.country x) (done f plan)) (sym k.1) (no-name-forward plan s f b un (identity (identity_of a.1.0).country x) (real_number (identity_of a.1.0).country x a.0.1) cl a.1.3),
+              subst (λ u. NoGroup (identity u.country x) (done f plan)) (sym k.1) (no-group-forward plan s f b un (identity (identity_of a.1.0).country x) (real_number (identity (identity_of a.1.0).country x) a.0.1) cl a.1.2),
+              subst (λ u. NoName (identity u.country x) (done f plan)) (sym k.1) (no-name-forward plan s f b un (identity (identity_of a.1.0).country x) (real_number (identity (identity_of a.1.0).country x) a.0.1) cl a.1.3),
             ),
           ),
           ap note_group k.0 ∙ ap (λ u. record nothing { old = u.number; own = u }) k.1 ∙ sym n,
@@ -211,8 +211,8 @@ module _ (f : Item) (plan : Plan) (s : Facts plan) (b : Accepted f.1 plan) where
             (
               k.0,
               k.1,
-              subst (λ u. NoGroup (identity u.country x) plan) k.3 (no-group-back plan s f b un (identity (identity_of a.1.0).country x) (real_number (identity_of a.1.0).country x a.0.1) cl a.1.2),
-              subst (λ u. NoName (identity u.country x) plan) k.3 (no-name-back plan s f b un (identity (identity_of a.1.0).country x) (real_number (identity_of a.1.0).country x a.0.1) cl a.1.3),
+              subst (λ u. NoGroup (identity u.country x) plan) k.3 (no-group-back plan s f b un (identity (identity_of a.1.0).country x) (real_number (identity (identity_of a.1.0).country x) a.0.1) cl a.1.2),
+              subst (λ u. NoName (identity u.country x) plan) k.3 (no-name-back plan s f b un (identity (identity_of a.1.0).country x) (real_number (identity (identity_of a.1.0).country x) a.0.1) cl a.1.3),
             ),
           ),
           ap note_group k.1 ∙ ap (λ u. record nothing { old = u.number; own = u }) (sym k.3) ∙ sym n,

@@ -1,21 +1,22 @@
 -- Headers: two changes of the fields of one header commute where they are apart.
 -- Proves that an edit keeps the country and N_TOTAL, and that the new value of a header's field is the same in both orders.
 -- From what may be set in a header at all: neither country, number, N_PIG nor N_TOTAL.
-use Rattle.std.proofs.Common.{◌≡◌, ℕ, ◌-◌, Bool, true, false, cond, ◌&&◌, eqb, refl, sym, ap, ◌∙◌}
+use Rattle.std.proofs.Common.{◌≡◌, ℕ, ◌-◌, Bool, true, false, cond, ◌&&◌, eqb, refl, sym, ap}
 use Rattle.std.proofs.lemmas.Bool.{both_ways, and_parts}
 use Rattle.balise_rules.specs.declared.tag.Tag.{Tag}
 use Rattle.balise_rules.specs.declared.variable.Var.{Var}
 use Rattle.balise_rules.specs.declared.variable.Var.TheVariants.{NidC, NidBg, NPig, NTotal, MDup}
-use Rattle.balise_rules.specs.Tagged.{find, each}
+use Rattle.balise_rules.specs.Tagged.{each}
 use Rattle.balise_rules.specs.Tags.{same_tag, same_var, same_key, Key, is_of}
 use Rattle.balise_rules.specs.Forms.{Fields}
 use Rattle.balise_rules.specs.Packet.{value}
 use Rattle.balise_rules.specs.Edits.{Edit, SetVar, SetHead, InsertPacket, DeletePacket, MovePacket, AddGroup, DropGroup, Renumber, TurnGroup, exchanged, head_after}
 use Rattle.balise_rules.proofs.Tests.{split_on, flip_no, tag_test, nat_test, var_test, key_test, both_one}
-use Rattle.balise_rules.proofs.Cases.{found, parts3}
+use Rattle.balise_rules.proofs.Cases.{parts3}
 use Rattle.balise_rules.proofs.Each.{each-id}
+use Rattle.balise_rules.proofs.Values.{value_kept}
+use Rattle.balise_rules.proofs.Keys.{other_key, not_other}
 use Rattle.balise_strike_laws.proofs.Cases.{both_set}
-use Rattle.balise_strike_laws.proofs.Fields.{value-each, other_key, not_other}
 
 -- a field of a header that an edit may set
 abbrev pub SteadyHead : Edit → Type 0
@@ -70,14 +71,11 @@ country-untouched (MovePacket g0 t0 p0 a) s = tt
 country-untouched (AddGroup a bs) s = tt
 country-untouched (DropGroup g0) s = tt
 
-pub value-kept : (h : Key → ℕ → ℕ) → (w : Var) → ((v : ℕ) → h (w, 0) v ≡ v) → (hs : Fields) → value w 0 (each h hs) ≡ value w 0 hs
-value-kept h w k hs = value-each h w 0 hs ∙ found (find same_key (w, 0) hs) (λ e. simp e) (λ v e. simp e (k v))
-
 pub total-kept : (e : Edit) → SteadyHead e → (g : Tag) → (t : ℕ) → (hs : Fields) → value NTotal 0 (each (head_after e g t hs) hs) ≡ value NTotal 0 hs
-total-kept e s g t hs = value-kept (head_after e g t hs) NTotal (head-kept e g t hs NTotal (total-untouched e s)) hs
+total-kept e s g t hs = value_kept (head_after e g t hs) NTotal 0 hs (head-kept e g t hs NTotal (total-untouched e s))
 
 pub country-kept : (e : Edit) → SteadyHead e → (g : Tag) → (t : ℕ) → (hs : Fields) → value NidC 0 (each (head_after e g t hs) hs) ≡ value NidC 0 hs
-country-kept e s g t hs = value-kept (head_after e g t hs) NidC (head-kept e g t hs NidC (country-untouched e s)) hs
+country-kept e s g t hs = value_kept (head_after e g t hs) NidC 0 hs (head-kept e g t hs NidC (country-untouched e s))
 
 pub twice : (F : ℕ → ℕ) → (a b : Bool) → (v : ℕ) → cond a (F (cond b (F v) v)) (cond b (F v) v) ≡ cond b (F (cond a (F v) v)) (cond a (F v) v)
 twice F true true v = refl

@@ -19,11 +19,13 @@ use Rattle.balise_rules.specs.Paths.{At, Nth, Of, Turn, Head, Whose, Entry}
 use Rattle.balise_rules.proofs.Tests.{split_on, id_test}
 use Rattle.balise_rules.proofs.Cases.{found}
 use Rattle.balise_rules.proofs.Each.{each-same}
+use Rattle.balise_rules.proofs.Keys.{of_is, not_other}
+use Rattle.balise_rules.proofs.Names.{real_number}
 use Rattle.balise_strike_laws.proofs.Cases.{drop1, drop_field, drop_packet}
-use Rattle.balise_strike_laws.proofs.Fields.{identity, of_is, not_other, country-after}
+use Rattle.balise_strike_laws.proofs.Fields.{identity, country-after}
 use Rattle.balise_strike_laws.proofs.Headers.{SteadyHead}
 use Rattle.balise_strike_laws.proofs.Places.{In, first_of, later_of, Clear}
-use Rattle.balise_strike_laws.proofs.Named.{named-among, real_number, whose_apart, ren-same}
+use Rattle.balise_strike_laws.proofs.Named.{named-among, whose_apart, ren-same}
 use Rattle.balise_strike_laws.proofs.Writers.{packet-id}
 
 -- an identity that f doesn't change, or 16383
@@ -55,7 +57,7 @@ pub ren-apart-back : (f : Item) → (m : Note) → (g : Tag) → (t : ℕ) → (
 ren-apart-back (serial, Renumber g1 x) m g t c p fs w k u b l h =
     split_on (same_id (identity (country_at c k fs) u) m.own)
     (λ e. let r = simp (b, e) at h in
-    let q = whose_apart (identity m.own.country x) (identity (country_at c k fs) x) (r (real_number (country_at c k fs) x l.1) (Whose (identity m.own.country x) ∷ []) (later_of (later_of first_of))) in
+    let q = whose_apart (identity m.own.country x) (identity (country_at c k fs) x) (r (real_number (identity (country_at c k fs) x) l.1) (Whose (identity m.own.country x) ∷ []) (later_of (later_of first_of))) in
     let d = and_parts (eqb (country_at c k fs) m.own.country) (eqb u m.own.number) e in
     absurd (both_ways (same_id (identity (country_at c k fs) x) (identity m.own.country x)) q (and_from (eqb (country_at c k fs) m.own.country) (eqb x x) d.0 (eq-eqb x x refl))))
     (λ e. e)

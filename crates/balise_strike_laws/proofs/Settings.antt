@@ -20,7 +20,8 @@ use Rattle.balise_rules.specs.Accepting.{Lawful}
 use Rattle.balise_rules.specs.Paths.{At, Nth, Of, Turn, Whose}
 use Rattle.balise_rules.proofs.Tests.{split_on, var_test}
 use Rattle.balise_rules.proofs.Cases.{found}
-use Rattle.balise_strike_laws.proofs.Fields.{identity, Steady, country-after, value-each}
+use Rattle.balise_rules.proofs.Values.{value-each}
+use Rattle.balise_strike_laws.proofs.Fields.{identity, Steady, country-after}
 use Rattle.balise_strike_laws.proofs.Headers.{SteadyHead}
 use Rattle.balise_strike_laws.proofs.Levels.{keep}
 use Rattle.balise_strike_laws.proofs.Places.{In, first_of, later_of, in-ids, Clear, Reads}

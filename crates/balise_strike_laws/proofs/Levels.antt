@@ -14,14 +14,16 @@ use Rattle.balise_rules.specs.Edits.{Edit, Item, AddGroup, DropGroup, TurnGroup,
 use Rattle.balise_rules.proofs.Tests.{split_on, tag_test, nat_test, key_test}
 use Rattle.balise_rules.proofs.Reversed.{each-reverse}
 use Rattle.balise_rules.proofs.Each.{each-each}
+use Rattle.balise_rules.proofs.Untouched.{KeepsFields}
+use Rattle.balise_rules.specs.declared.variable.Var.TheVariants.{NidC}
 use Rattle.balise_strike_laws.proofs.Changes.{ChangesApart, changes-commute}
-use Rattle.balise_strike_laws.proofs.Fields.{Steady, FieldApart, field_commute}
+use Rattle.balise_strike_laws.proofs.Fields.{FieldApart, field_commute}
 use Rattle.balise_strike_laws.proofs.Headers.{SteadyHead, HeadApart, head-commute, country-kept}
 
 abbrev pub set_fields : List Bool → Fields → Packet
 set_fields r fs = record { fields = fs; rest = r }
 
-pub packet-commute : (e : Edit) → (i : Id) → (f : Edit) → (j : Id) → Steady e → Steady f → (g : Tag) → (t : ℕ) → (c : ℕ) → (p : Tag) → (x : Packet) →
+pub packet-commute : (e : Edit) → (i : Id) → (f : Edit) → (j : Id) → KeepsFields e NidC → KeepsFields f NidC → (g : Tag) → (t : ℕ) → (c : ℕ) → (p : Tag) → (x : Packet) →
     Distinct same_key x.fields → FieldApart e i f j g t c p x.fields →
     packet_after e i g t c p (packet_after f j g t c p x) ≡ packet_after f j g t c p (packet_after e i g t c p x)
 packet-commute e i f j s r g t c p x u n =

@@ -26,13 +26,14 @@ use Rattle.balise_rules.proofs.Cases.{unsome, some_is, parts4}
 use Rattle.balise_rules.proofs.Anchors.{find-put_same}
 use Rattle.balise_rules.proofs.Names.{unnamed}
 use Rattle.balise_rules.proofs.Found.{place_is}
-use Rattle.balise_strike_laws.proofs.Fields.{identity, country-after, find-fields}
+use Rattle.balise_edit_laws.proofs.FieldChanges.{country_stays}
+use Rattle.balise_strike_laws.proofs.Fields.{identity, find-fields}
 use Rattle.balise_strike_laws.proofs.Headers.{country-kept}
 use Rattle.balise_strike_laws.proofs.Places.{In, first_of, later_of, in-left, in-right, in-ids}
 use Rattle.balise_strike_laws.proofs.Facts.{Facts}
 use Rattle.balise_strike_laws.proofs.Named.{in-real, named-among}
 use Rattle.balise_strike_laws.proofs.Writers.{Spares, find-change, by-packets}
-use Rattle.balise_strike_laws.proofs.Settings.{lawful-steady, lawful-head}
+use Rattle.balise_strike_laws.proofs.Settings.{lawful-head}
 use Rattle.balise_strike_laws.proofs.Locals.{accepts-there}
 
 abbrev pub InPacket : ℕ → Fields → Id → Type 0
@@ -135,7 +136,7 @@ module _ (plan : Plan) (s : Facts plan) (f : Item) (a : Accepted f.1 plan) (un :
       cases f a = inl refl
 
     country-in : (p : Tag) → (z : Packet) → (k : ℕ) → country_at (country_of y1) k (packet_after f.1 m0.own g t c0 p z).fields ≡ country_at c0 k z.fields
-    country-in p z k = ap (λ c. country_at c k (packet_after f.1 m0.own g t c0 p z).fields) (country-kept f.1 (lawful-head f.1 a.0) g t y.head) ∙ country-after f.1 (lawful-steady f.1 a.0) m0.own g t c0 p k z.fields
+    country-in p z k = ap (λ c. country_at c k (packet_after f.1 m0.own g t c0 p z).fields) (country-kept f.1 (lawful-head f.1 a.0) g t y.head) ∙ country_stays f.1 a.0 m0.own g t c0 p k z.fields
 
     packet-back : (p : Tag) → (z : Packet) → find same_tag p y.packets ≡ Some z → (q : Id) → InPacket c0 z.fields q →
         Either (InPacket (country_of y1) (packet_after f.1 m0.own g t c0 p z).fields q) q

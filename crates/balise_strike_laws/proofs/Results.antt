@@ -23,6 +23,7 @@ use Rattle.balise_rules.specs.Paths.{At, Nth, Of, Turn, Name, Head, Whose}
 use Rattle.balise_rules.proofs.Tests.{tag_test, nat_test, var_test, both_one}
 use Rattle.balise_rules.proofs.Cases.{parts3}
 use Rattle.balise_rules.proofs.Found.{place_is}
+use Rattle.balise_edit_laws.proofs.FieldChanges.{country_kept}
 use Rattle.balise_strike_laws.proofs.Cases.{drop1, drop_field}
 use Rattle.balise_strike_laws.proofs.Fields.{identity, FieldApart}
 use Rattle.balise_strike_laws.proofs.Headers.{HeadApart}
@@ -33,7 +34,7 @@ use Rattle.balise_strike_laws.proofs.Places.{first_of, later_of, Reads}
 use Rattle.balise_strike_laws.proofs.Facts.{Facts}
 use Rattle.balise_strike_laws.proofs.Named.{whose_apart}
 use Rattle.balise_strike_laws.proofs.Kept.{Unnamed, own-apart, turn-apart, ren-apart, turned-other, names-apart, packet-same}
-use Rattle.balise_strike_laws.proofs.Settings.{lawful-steady, lawful-head, own_change, read-name, read-link, read-dir}
+use Rattle.balise_strike_laws.proofs.Settings.{lawful-head, own_change, read-name, read-link, read-dir}
 use Rattle.balise_strike_laws.proofs.Readers.{Local, home, leaves, read-names-insert}
 use Rattle.balise_strike_laws.proofs.Locals.{real-own}
 
@@ -225,7 +226,7 @@ module _ (plan : Plan) (s : Facts plan) (g : Tag) (t : ℕ) (y : Telegram) (q : 
       by-kind e he
       (λ ke. by-kind f hf
       (λ kf. rw (field-change e ke (noted e.1 plan).own g t c1, field-change f kf (noted f.1 plan).own g t c1)
-      (λ p z h. packet-commute e.1 (noted e.1 plan).own f.1 (noted f.1 plan).own (lawful-steady e.1 le) (lawful-steady f.1 lf) g t c1 p z (s.fields g t p y q z h) (fields-apart e f r1 r2 p z h)))
+      (λ p z h. packet-commute e.1 (noted e.1 plan).own f.1 (noted f.1 plan).own (country_kept e.1 le) (country_kept f.1 lf) g t c1 p z (s.fields g t p y q z h) (fields-apart e f r1 r2 p z h)))
       (λ kf. rw (field-change e ke (noted e.1 plan).own g t c1, list-change f kf (noted f.1 plan).own g t c1)
       (apart-each-here (same_tag (home f.1).0 g && eqb (home f.1).1 t) (packet_after e.1 (noted e.1 plan).own g t c1) (own_change f) y.packets (λ b. (each-list e f kf r2 b).0))))
       (λ ke. by-kind f hf

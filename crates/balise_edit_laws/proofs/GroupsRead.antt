@@ -21,7 +21,7 @@ use Rattle.balise_rules.specs.Telegram.{Telegram, header, used, IsLength, IsRead
 use Rattle.balise_rules.specs.Plan.{Group, reserved, identity_in, identity_of, agree_from, with_telegrams, read_telegrams, checked_group, read_group, IsSoundTelegram, SoundFrom, IsSoundGroup}
 use Rattle.balise_rules.proofs.Tests.{split_on, id_test}
 use Rattle.balise_rules.proofs.Numbers.{length-bits}
-use Rattle.balise_rules.proofs.Cases.{unsome}
+use Rattle.balise_rules.proofs.Cases.{unsome, unok}
 use Rattle.balise_rules.proofs.TaggedFrom.{tagged_distinct, never_fresh}
 use Rattle.balise_edit_laws.proofs.Headers.{plains, header_variables}
 
@@ -95,17 +95,11 @@ record Parted (n : ℕ) (r : Result Telegram Refusal) (q : Result Group Refusal)
 parted : (n : ℕ) → (r : Result Telegram Refusal) → (q : Result Group Refusal) → (ys : Group) → with_telegrams n r q ≡ Ok ys → Parted n r q ys
 parted n (Err x) q ys h = absurd cc
 parted n (Ok y) (Err x) ys h = absurd cc
-parted n (Ok y) (Ok zs) ys h = record { telegram = y; more = zs; read = refl; rest = refl; is = ok_is ((n, y) ∷ zs) ys h }
-  where
-    ok_is : (a b : Group) → ◌≡◌ {A = Result Group Refusal} (Ok a) (Ok b) → a ≡ b
-    ok_is a b e = cc
+parted n (Ok y) (Ok zs) ys h = record { telegram = y; more = zs; read = refl; rest = refl; is = unok h }
 
 telegrams_read : (n : ℕ) → (bs : List (List Bool)) → (ys : Group) → read_telegrams n bs ≡ Ok ys → ReadFrom n ys × (length ys ≡ length bs)
 unfolding read_telegrams
-telegrams_read n [] ys h = let e : [] ≡ ys = none_is ys h in subst (λ z. ReadFrom n z × (length z ≡ 0)) e (tt, refl)
-  where
-    none_is : (b : Group) → ◌≡◌ {A = Result Group Refusal} (Ok []) (Ok b) → [] ≡ b
-    none_is b e = cc
+telegrams_read n [] ys h = let e : [] ≡ ys = unok h in subst (λ z. ReadFrom n z × (length z ≡ 0)) e (tt, refl)
 telegrams_read n (b ∷ bs) ys h =
     let p = parted n (read_telegram b) (read_telegrams (suc n) bs) ys h in
     let more = telegrams_read (suc n) bs p.more p.rest in
@@ -147,12 +141,9 @@ checked (Ok zs) ys h =
     split_on (agree_from (identity_of zs) (length zs - 1) 0 zs)
     (λ a. split_on (eqb (identity_of zs).number reserved)
     (λ b. absurd (let w = simp (a, b) at h in cc))
-    (λ b. let w : Ok zs ≡ Ok ys = simp (a, b) at h in let q : zs ≡ ys = ok_is zs ys w in
+    (λ b. let w : Ok zs ≡ Ok ys = simp (a, b) at h in let q : zs ≡ ys = unok w in
     (w, subst (λ z. agree_from (identity_of z) (length z - 1) 0 z ≡ true) q a, subst (λ z. eqb (identity_of z).number reserved ≡ false) q b)))
     (λ a. absurd (let w = simp a at h in cc))
-  where
-    ok_is : (a b : Group) → ◌≡◌ {A = Result Group Refusal} (Ok a) (Ok b) → a ≡ b
-    ok_is a b e = cc
 
 sized : (c : Bool) → (r : Result Group Refusal) → (ys : Group) → cond c r (Err GroupSize) ≡ Ok ys → (c ≡ true) × (r ≡ Ok ys)
 sized true r ys h = (refl, h)

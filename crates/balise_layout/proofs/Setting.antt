@@ -11,6 +11,8 @@ use Rattle.balise_rules.specs.Packet.{Packet, field_of, value, with_value, bits_
 use Rattle.balise_rules.proofs.Tests.{key_test, other_no}
 use Rattle.balise_rules.proofs.Keys.{count-append, numbered_distinct}
 use Rattle.balise_rules.proofs.Used.{width-each}
+use Rattle.balise_rules.proofs.Lists.{find-each}
+use Rattle.balise_rules.proofs.Cases.{map_itself}
 use Rattle.balise_layout.specs.Held.{headed, Holds, Steady, with_field, before}
 use Rattle.balise_layout.specs.Steadies.{steady_body}
 use Rattle.balise_layout.proofs.Places.{put_spelling}
@@ -58,15 +60,9 @@ Numbered-with_value v k n fs m = numbered_again v k n [] [] fs (λ w. refl) m
 
 -- another field keeps its value
 pub field_of-other : (v : Var) (k n : ℕ) (w : Var) (j : ℕ) (fs : Fields) → Apart (v, k) (w, j) → field_of w j (with_value v k n fs) ≡ field_of w j fs
-field_of-other v k n w j [] h = refl
-field_of-other v k n w j (f ∷ fs) h = at (same_key (w, j) f.0) refl (field_of-other v k n w j fs h)
-  where
-    at : (b : Bool) → same_key (w, j) f.0 ≡ b → field_of w j (with_value v k n fs) ≡ field_of w j fs → cond b (Some (cond (same_key (v, k) f.0) n f.1)) (field_of w j (with_value v k n fs)) ≡ cond b (Some f.1) (field_of w j fs)
-    at true is later =
-        let key : (w, j) ≡ f.0 = key_test.one (w, j) f.0 is in
-        let apart : same_key (v, k) f.0 ≡ false = other_no key_test (v, k) f.0 (λ e. h (e ∙ sym key)) in
-        rw apart refl
-    at false is later = later
+field_of-other v k n w j fs h =
+    let other = other_no key_test (v, k) (w, j) h in
+    find-each key_test (λ key old. cond (same_key (v, k) key) n old) (w, j) fs ∙ sym (map_itself (λ old. cond (same_key (v, k) (w, j)) n old) (λ x. simp other) (field_of w j fs))
 
 -- the packet stays as long
 pub width-with_field : (v : Var) (k n : ℕ) (p : Packet) → width (with_field v k n p) ≡ width p

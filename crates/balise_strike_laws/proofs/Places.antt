@@ -1,11 +1,10 @@
 -- Places: what independence says of the places that two entries change and need.
 -- Proves that independence reads the same from both sides: no place that one reads meets a place that the other changes.
 -- From the symmetry of 'meet', and that its tests of lists hold of each pair.
-use Rattle.std.proofs.Common.{◌≡◌, ℕ, true, false, ◌&&◌, not, List, [], ◌∷◌, ◌++◌, Option, Some, None, refl, ap, ◌∙◌}
+use Rattle.std.proofs.Common.{◌≡◌, true, false, ◌&&◌, not, List, [], ◌∷◌, ◌++◌, Option, Some, None, refl, ap, ◌∙◌}
 use Rattle.std.proofs.lemmas.Bool.{and_parts, not-true, or_parts, true≢false}
 use Rattle.balise_rules.specs.declared.tag.Tag.{Tag}
 use Rattle.balise_rules.specs.declared.identity.Id.{Id}
-use Rattle.balise_rules.specs.declared.variable.Var.{Var}
 use Rattle.balise_rules.specs.Tagged.{same_spot}
 use Rattle.balise_rules.specs.Tags.{same_tag}
 use Rattle.balise_rules.specs.Paths.{Part, At, Nth, Of, Start, End, After, Front, Turn, Name, Head, Whose, Path, same_part, meet, meets_any, any_meets, anchor, neighbour, ids, Entry, changes, needs, room_apart, apart}
@@ -50,29 +49,14 @@ part-sym (At a) (At b) = test-sym tag_test a b
 part-sym (Nth a) (Nth b) = test-sym nat_test a b
 part-sym (Of a) (Of b) = test-sym var_test a b
 part-sym (Whose a) (Whose b) = test-sym id_test a b
-part-sym (At a) b = part-at a b where
-  part-at : (a : Tag) → (b : Part) → same_part (At a) b ≡ same_part b (At a)
-  part-at a (At b) = test-sym tag_test a b
-  part-at a b = refl
-part-sym (Nth a) b = part-nth a b where
-  part-nth : (a : ℕ) → (b : Part) → same_part (Nth a) b ≡ same_part b (Nth a)
-  part-nth a (Nth b) = test-sym nat_test a b
-  part-nth a b = refl
-part-sym (Of a) b = part-of a b where
-  part-of : (a : Var) → (b : Part) → same_part (Of a) b ≡ same_part b (Of a)
-  part-of a (Of b) = test-sym var_test a b
-  part-of a b = refl
-part-sym (Whose a) b = part-whose a b where
-  part-whose : (a : Id) → (b : Part) → same_part (Whose a) b ≡ same_part b (Whose a)
-  part-whose a (Whose b) = test-sym id_test a b
-  part-whose a b = refl
-part-sym Start b = elim b as (λ k. same_part Start k ≡ same_part k Start) [ At x ↦ refl | Nth x ↦ refl | Of x ↦ refl | Start ↦ refl | End ↦ refl | After ↦ refl | Front ↦ refl | Turn ↦ refl | Name ↦ refl | Head ↦ refl | Whose x ↦ refl ]
-part-sym End b = elim b as (λ k. same_part End k ≡ same_part k End) [ At x ↦ refl | Nth x ↦ refl | Of x ↦ refl | Start ↦ refl | End ↦ refl | After ↦ refl | Front ↦ refl | Turn ↦ refl | Name ↦ refl | Head ↦ refl | Whose x ↦ refl ]
-part-sym After b = elim b as (λ k. same_part After k ≡ same_part k After) [ At x ↦ refl | Nth x ↦ refl | Of x ↦ refl | Start ↦ refl | End ↦ refl | After ↦ refl | Front ↦ refl | Turn ↦ refl | Name ↦ refl | Head ↦ refl | Whose x ↦ refl ]
-part-sym Front b = elim b as (λ k. same_part Front k ≡ same_part k Front) [ At x ↦ refl | Nth x ↦ refl | Of x ↦ refl | Start ↦ refl | End ↦ refl | After ↦ refl | Front ↦ refl | Turn ↦ refl | Name ↦ refl | Head ↦ refl | Whose x ↦ refl ]
-part-sym Turn b = elim b as (λ k. same_part Turn k ≡ same_part k Turn) [ At x ↦ refl | Nth x ↦ refl | Of x ↦ refl | Start ↦ refl | End ↦ refl | After ↦ refl | Front ↦ refl | Turn ↦ refl | Name ↦ refl | Head ↦ refl | Whose x ↦ refl ]
-part-sym Name b = elim b as (λ k. same_part Name k ≡ same_part k Name) [ At x ↦ refl | Nth x ↦ refl | Of x ↦ refl | Start ↦ refl | End ↦ refl | After ↦ refl | Front ↦ refl | Turn ↦ refl | Name ↦ refl | Head ↦ refl | Whose x ↦ refl ]
-part-sym Head b = elim b as (λ k. same_part Head k ≡ same_part k Head) [ At x ↦ refl | Nth x ↦ refl | Of x ↦ refl | Start ↦ refl | End ↦ refl | After ↦ refl | Front ↦ refl | Turn ↦ refl | Name ↦ refl | Head ↦ refl | Whose x ↦ refl ]
+part-sym Start Start = refl
+part-sym End End = refl
+part-sym After After = refl
+part-sym Front Front = refl
+part-sym Turn Turn = refl
+part-sym Name Name = refl
+part-sym Head Head = refl
+part-sym a b = refl
 
 pub meet-sym : (p q : Path) → meet p q ≡ meet q p
 meet-sym [] [] = refl

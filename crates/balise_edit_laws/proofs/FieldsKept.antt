@@ -10,14 +10,13 @@ use Rattle.balise_rules.specs.declared.variable.Var.{Var}
 use Rattle.balise_rules.specs.declared.variable.Var.TheVariants.{LPacket, NidBg, QLinkorientation, QDir}
 use Rattle.balise_rules.specs.Variables.{width_of, steers}
 use Rattle.balise_rules.specs.Bits.{fits}
-use Rattle.balise_rules.specs.Tagged.{each}
 use Rattle.balise_rules.specs.Tags.{Key, same_var, same_tag, same_key, is_of}
 use Rattle.balise_rules.specs.Forms.{Fields}
 use Rattle.balise_rules.specs.Packets.{packet}
 use Rattle.balise_rules.specs.Packet.{Packet, IsSpelt}
 use Rattle.balise_rules.specs.Names.{country_at, calls, is_it}
 use Rattle.balise_rules.specs.Accepting.{Lawful}
-use Rattle.balise_rules.specs.Edits.{Edit, SetVar, SetHead, InsertPacket, DeletePacket, MovePacket, AddGroup, DropGroup, Renumber, TurnGroup, exchanged, field_after, packet_after}
+use Rattle.balise_rules.specs.Edits.{Edit, SetVar, SetHead, Renumber, TurnGroup, exchanged, field_after, packet_after}
 use Rattle.balise_rules.proofs.Tests.{var_test}
 use Rattle.balise_rules.proofs.Cases.{parts4}
 use Rattle.balise_rules.proofs.Values.{value_kept}

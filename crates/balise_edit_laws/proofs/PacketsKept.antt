@@ -5,12 +5,12 @@ use Rattle.std.proofs.Common.{◌≡◌, ℕ, ◌+◌, ◌≤◌, Bool, true, fa
 use Rattle.balise_rules.specs.declared.tag.Tag.{Tag}
 use Rattle.balise_rules.specs.declared.tag.Tag.TheVariants.{Fresh}
 use Rattle.balise_rules.specs.declared.identity.Id.{Id}
-use Rattle.balise_rules.specs.Tagged.{find, each, Distinct, put, changed, Each, Put, Take, Move, Change}
+use Rattle.balise_rules.specs.Tagged.{find, each, Distinct, changed, Each, Put, Take, Move, Change}
 use Rattle.balise_rules.specs.Tags.{same_tag}
 use Rattle.balise_rules.specs.Packet.{Packet, width, IsSpelt}
 use Rattle.balise_rules.specs.Telegram.{used}
 use Rattle.balise_rules.specs.Accepting.{Lawful}
-use Rattle.balise_rules.specs.Edits.{Edit, Item, SetVar, SetHead, InsertPacket, DeletePacket, MovePacket, AddGroup, DropGroup, Renumber, TurnGroup, packet_after, packets_change}
+use Rattle.balise_rules.specs.Edits.{Edit, Item, SetVar, InsertPacket, DeletePacket, MovePacket, packet_after, packets_change}
 use Rattle.balise_rules.proofs.Tests.{tag_test}
 use Rattle.balise_rules.proofs.Distincts.{distinct-each, distinct-without, distinct-put, distinct-move}
 use Rattle.balise_rules.proofs.Each.{each-id}

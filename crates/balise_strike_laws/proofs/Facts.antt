@@ -1,7 +1,7 @@
 -- The few facts on a sound plan from which the laws are proved, as what is found by tags.
 -- Proves them of every sound plan: keys are distinct at every level, each telegram has its group's identity, and no group has 16383.
 -- From the definition of soundness.
-use Rattle.std.proofs.Common.{◌≡◌, ℕ, ◌-◌, true, eqb, Some}
+use Rattle.std.proofs.Common.{◌≡◌, ℕ, true, eqb, Some}
 use Rattle.balise_rules.specs.declared.tag.Tag.{Tag}
 use Rattle.balise_rules.specs.Tagged.{find, Distinct}
 use Rattle.balise_rules.specs.Tags.{same_tag, same_key}

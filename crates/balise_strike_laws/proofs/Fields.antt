@@ -12,7 +12,6 @@ use Rattle.balise_rules.specs.declared.variable.Var.TheVariants.{NidC, NidBg, QD
 use Rattle.balise_rules.specs.Tagged.{find, each}
 use Rattle.balise_rules.specs.Tags.{same_tag, same_id, same_var, same_key, Key, is_of}
 use Rattle.balise_rules.specs.Forms.{Fields}
-use Rattle.balise_rules.specs.Packet.{value}
 use Rattle.balise_rules.specs.Names.{country_at, calls, is_it}
 use Rattle.balise_rules.specs.Edits.{Edit, SetVar, Renumber, TurnGroup, exchanged, field_after}
 use Rattle.balise_rules.proofs.Tests.{split_on, flip_yes, tag_test, var_test, key_test, nat_test, both_one}

@@ -1,7 +1,7 @@
 -- The edits of groups, read before and after any edit.
 -- Proves, for each of them, that it is accepted and notes the same, forward and back.
 -- From the list of groups, the group itself, and the identities that it has and names.
-use Rattle.std.proofs.Common.{◌≡◌, ℕ, ◌-◌, Bool, true, false, List, [], ◌∷◌, ◌++◌, Option, Some, None, refl, sym, ap, subst, ◌∙◌}
+use Rattle.std.proofs.Common.{◌≡◌, ℕ, Bool, true, false, List, [], ◌∷◌, ◌++◌, Option, Some, None, refl, sym, ap, subst, ◌∙◌}
 use Rattle.std.proofs.lemmas.Bool.{false≢true}
 use Rattle.balise_rules.specs.declared.tag.Tag.{Tag}
 use Rattle.balise_rules.specs.declared.tag.Tag.TheVariants.{Fresh}
@@ -10,7 +10,7 @@ use Rattle.balise_rules.specs.Tagged.{find, behind, Put, Take}
 use Rattle.balise_rules.specs.Tags.{same_tag}
 use Rattle.balise_rules.specs.Plan.{Group, Plan, identity_of}
 use Rattle.balise_rules.specs.Names.{is_real, names_in}
-use Rattle.balise_rules.specs.Edits.{Item, SetVar, SetHead, InsertPacket, DeletePacket, MovePacket, AddGroup, DropGroup, Renumber, TurnGroup, group_of, group_after, groups_change, telegram_after}
+use Rattle.balise_rules.specs.Edits.{Item, AddGroup, DropGroup, Renumber, group_of, group_after, groups_change, telegram_after}
 use Rattle.balise_rules.specs.Notes.{Note, nothing, note_group, note_drop, noted}
 use Rattle.balise_rules.specs.Doing.{done}
 use Rattle.balise_rules.specs.Accepting.{NoName, NoGroup, Asks, Accepted, Unused}

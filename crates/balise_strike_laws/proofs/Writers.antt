@@ -16,7 +16,7 @@ use Rattle.balise_rules.specs.Notes.{Note}
 use Rattle.balise_rules.specs.Paths.{At, Nth, After, Front, Path, same_part, anchor, neighbour}
 use Rattle.balise_rules.proofs.Tests.{split_on, split_keys, flip_no, flip_spot, tag_test}
 use Rattle.balise_rules.proofs.Lists.{find-put, find-without, find-each, find-without_same}
-use Rattle.balise_rules.proofs.Cases.{found, map_itself}
+use Rattle.balise_rules.proofs.Cases.{map_itself}
 use Rattle.balise_rules.proofs.Each.{each-id}
 use Rattle.balise_rules.proofs.Anchors.{find-put_same, stands-without}
 use Rattle.balise_rules.proofs.Moved.{find-move}

@@ -10,20 +10,8 @@ use Rattle.balise_rules.specs.Telegram.{header, read_packets, read_header, read_
 use Rattle.balise_rules.specs.Plan.{read_telegrams, read_group}
 use Rattle.balise_rules.specs.Edits.{group_of}
 use Rattle.balise_rules.specs.Addresses.{packet_in}
-use Rattle.balise_rules.specs.JournalRows.{SetSaid, StruckSaid, EntryFollows, JournalsRefused}
+use Rattle.balise_rules.specs.JournalRows.{SetSaid, StruckSaid, EntryFollows, NextRefused, SerialsRefused, NotesRefused, StackRefused}
 
-pub set_said : SetSaid
+pub journals : SetSaid × StruckSaid × EntryFollows × NextRefused × SerialsRefused × NotesRefused × StackRefused
 unfolding width_of steers is_free_in_header is_distance num bits digit_bits digits_in spelling read_form counted link linking gradient gradients difference section speeds level levels restriction revocation infill is_known known_body body packet read_body header read_packets read_header read_telegram read_telegrams read_group group_of packet_in
-set_said = (refl, refl, refl, refl)
-
-pub struck_said : StruckSaid
-unfolding width_of steers is_free_in_header is_distance num bits digit_bits digits_in spelling read_form counted link linking gradient gradients difference section speeds level levels restriction revocation infill is_known known_body body packet read_body header read_packets read_header read_telegram read_telegrams read_group group_of packet_in
-struck_said = (refl, refl)
-
-pub journals_refused : JournalsRefused
-unfolding width_of steers is_free_in_header is_distance num bits digit_bits digits_in spelling read_form counted link linking gradient gradients difference section speeds level levels restriction revocation infill is_known known_body body packet read_body header read_packets read_header read_telegram read_telegrams read_group group_of packet_in
-journals_refused = (refl, refl, refl, refl, refl)
-
-pub entry_follows : EntryFollows
-unfolding width_of steers is_free_in_header is_distance num bits digit_bits digits_in spelling read_form counted link linking gradient gradients difference section speeds level levels restriction revocation infill is_known known_body body packet read_body header read_packets read_header read_telegram read_telegrams read_group group_of packet_in
-entry_follows = (refl, refl)
+journals = ((refl, refl, refl, refl), (refl, refl), (refl, refl), (refl, refl, refl), (refl, refl, refl, refl, refl), (refl, refl, refl, refl, refl, refl, refl), (refl, refl, refl, refl, refl))

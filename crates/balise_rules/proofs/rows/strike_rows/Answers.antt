@@ -1,6 +1,5 @@
-use Rattle.balise_rules.proofs.JournalRowsHold as journals
 use Rattle.balise_rules.proofs.StrikeRowsHold as rows
 use Rattle.balise_rules.proofs.rows.strike_rows.Goals as goal
 
 pub returns : goal.returns
-returns c = record { two_inserted = rows.two_inserted; two_added = rows.two_added; moved_behind = rows.moved_behind; set_said = journals.set_said; struck_said = journals.struck_said; entry_follows = journals.entry_follows; journals_refused = journals.journals_refused }
+returns c = record { two_inserted = rows.two_inserted; two_added = rows.two_added; moved_behind = rows.moved_behind }

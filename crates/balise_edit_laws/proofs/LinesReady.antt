@@ -24,7 +24,7 @@ use Rattle.balise_edit_laws.specs.Lines.{Fitting, LinesReady}
 use Rattle.balise_edit_laws.proofs.Refusing.{refused_exactly}
 use Rattle.balise_edit_laws.proofs.ReadyCommands.{word_spelt}
 
-when_some : {A : Type 0} → (b : Bool) → (o : Option A) → (x : A) → cond b o None ≡ Some x → (b ≡ true) × (o ≡ Some x)
+pub when_some : {A : Type 0} → (b : Bool) → (o : Option A) → (x : A) → cond b o None ≡ Some x → (b ≡ true) × (o ≡ Some x)
 when_some true o x h = (refl, h)
 when_some false o x h = absurd cc
 
@@ -84,16 +84,24 @@ taken l plan (Some f) q e h =
     let edit : f ≡ e.1 = ap (λ (x : Item). x.1) same in
     record { edit = q ∙ ap (λ x. Some x) edit; fits = ap (fits_line l plan) (sym edit) ∙ w.0; serial = sym (ap (λ (x : Item). x.0) same) }
 
+-- its serial lies between
+pub line_between : (last next : ℕ) → (l : Line) → (e : Item) → (plan : Plan) → item_of last next l plan ≡ Some e → (last < e.0) × (e.0 < next)
+line_between last next l e plan h =
+    let w = when_some (nat_lt last l.serial && nat_lt l.serial next) (if_fits l plan (edit_in l.edit plan)) e h in
+    let between = and_parts (nat_lt last l.serial) (nat_lt l.serial next) w.0 in
+    let t = taken l plan (edit_in l.edit plan) refl e w.1 in
+    (subst (λ n. last < n) (sym t.serial) (ltb-true last l.serial between.0), subst (λ n. n < next) (sym t.serial) (ltb-true l.serial next between.1))
+
 pub lines_ready : LinesReady
 lines_ready last next l e plan sound unused h =
     let w = when_some (nat_lt last l.serial && nat_lt l.serial next) (if_fits l plan (edit_in l.edit plan)) e h in
-    let between = and_parts (nat_lt last l.serial) (nat_lt l.serial next) w.0 in
+    let between = line_between last next l e plan h in
     let t = taken l plan (edit_in l.edit plan) refl e w.1 in
     let f = and_parts (is_none (refusal e.1 plan)) (same_noted (noted_of e.1 (noted e.1 plan)) l.noted) t.fits in
     record {
       ready = record { sound = sound; unused = unused; spelt = line_spelt l.edit plan e.1 t.edit; accepted = (refused_exactly e.1 plan sound).0 (none_is (refusal e.1 plan) f.0) };
       serial = t.serial;
-      above = subst (λ n. last < n) (sym t.serial) (ltb-true last l.serial between.0);
-      below = subst (λ n. n < next) (sym t.serial) (ltb-true l.serial next between.1);
+      above = between.0;
+      below = between.1;
       note = noted_same (noted_of e.1 (noted e.1 plan)) l.noted f.1;
     }

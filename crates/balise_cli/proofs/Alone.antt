@@ -15,7 +15,7 @@ use Rattle.balise_rules.specs.Telegram.{Telegram}
 use Rattle.balise_rules.specs.Plan.{Plan, reserved, identity_in, with_telegrams, read_telegrams, checked_group, read_group, with_group, read_plan}
 use Rattle.balise_rules.specs.Doing.{done, refusal}
 use Rattle.balise_rules.proofs.Tests.{tag_test, id_test}
-use Rattle.balise_edit_laws.proofs.Each.{each-id}
+use Rattle.balise_rules.proofs.Each.{each-id}
 use Rattle.balise_edit_laws.proofs.PlansRead.{plan_read}
 use Rattle.balise_cli.specs.declared.edit.Edit.{Edit}
 use Rattle.balise_cli.specs.declared.edit.Edit.TheVariants.{SetVar, SetHead}

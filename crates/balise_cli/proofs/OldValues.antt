@@ -18,8 +18,8 @@ use Rattle.balise_rules.specs.Accepting.{Accepted, AcceptedAt, AcceptedIn}
 use Rattle.balise_rules.specs.Back.{back}
 use Rattle.balise_rules.proofs.Tests.{tag_test, nat_test, key_test}
 use Rattle.balise_rules.proofs.Lists.{find-each}
-use Rattle.balise_edit_laws.proofs.Found.{stood, packet_spelt, field_fits}
-use Rattle.balise_edit_laws.proofs.Headers.{value_found}
+use Rattle.balise_rules.proofs.Found.{stood, packet_spelt, field_fits}
+use Rattle.balise_rules.proofs.Values.{value_found}
 use Rattle.balise_edit_laws.proofs.Refusing.{refused_exactly}
 use Rattle.balise_edit_laws.proofs.TakingBack.{taking_back}
 use Rattle.balise_cli.specs.declared.edit.Edit.{Edit}

@@ -1,22 +1,23 @@
 -- What an edit leaves of a packet's fields: those that steer, and with them the country in force at each element.
 -- From which variables are set at all: none that steers, the number of a link that is renamed, orientation and direction in a turn.
 -- So a link is named under the same country before and after.
-use Rattle.std.proofs.Common.{◌≡◌, ℕ, true, false, ◌&&◌, eqb, [], ◌∷◌, refl, sym, ap, ◌∙◌}
-use Rattle.std.proofs.lemmas.Bool.{true≢false, and_right}
+use Rattle.std.proofs.Common.{◌≡◌, ℕ, true, false, refl, sym, ap, ◌∙◌}
+use Rattle.std.proofs.lemmas.Bool.{true≢false}
 use Rattle.balise_rules.specs.declared.tag.Tag.{Tag}
 use Rattle.balise_rules.specs.declared.identity.Id.{Id}
 use Rattle.balise_rules.specs.declared.variable.Var.{Var}
 use Rattle.balise_rules.specs.declared.variable.Var.TheVariants.{NidC, NidBg, QLinkorientation, QDir}
 use Rattle.balise_rules.specs.Variables.{steers}
 use Rattle.balise_rules.specs.Tagged.{find, each}
-use Rattle.balise_rules.specs.Tags.{Key, same_var, same_tag, same_key, is_of}
+use Rattle.balise_rules.specs.Tags.{Key, same_var, same_key}
 use Rattle.balise_rules.specs.Forms.{Fields}
 use Rattle.balise_rules.specs.Names.{country_at, calls, is_it}
 use Rattle.balise_rules.specs.Accepting.{Lawful}
-use Rattle.balise_rules.specs.Edits.{Edit, SetVar, SetHead, InsertPacket, DeletePacket, MovePacket, AddGroup, DropGroup, Renumber, TurnGroup, field_after}
+use Rattle.balise_rules.specs.Edits.{Edit, SetVar, Renumber, TurnGroup, field_after}
 use Rattle.balise_rules.proofs.Tests.{split_on, var_test, key_test}
 use Rattle.balise_rules.proofs.Lists.{find-each}
-use Rattle.balise_edit_laws.proofs.Found.{found}
+use Rattle.balise_rules.proofs.Cases.{found}
+use Rattle.balise_rules.proofs.Untouched.{KeepsFields, field_untouched, country_untouched}
 
 -- a variable that steers isn't one that doesn't
 steers_other : (v w : Var) → steers v ≡ false → steers w ≡ true → same_var v w ≡ false
@@ -38,35 +39,23 @@ country_steers : steers NidC ≡ true
 unfolding steers
 country_steers = refl
 
+-- an edit that is lawful sets no variable that steers
+pub steering_untouched : (e : Edit) → Lawful e → (v : Var) → steers v ≡ true → KeepsFields e v
+steering_untouched (SetVar g0 t0 p0 v0 k0 new) l v s = steers_other v0 v l.0 s
+steering_untouched (Renumber g0 new) l v s = steers_other NidBg v number_free s
+steering_untouched (TurnGroup g0) l v s = (steers_other QLinkorientation v orientation_free s, steers_other QDir v direction_free s)
+steering_untouched e l v s = tt
+
 -- a field that steers stays
 pub steering_stays : (e : Edit) → Lawful e → (i : Id) → (g : Tag) → (t c : ℕ) → (p : Tag) → (fs : Fields) → (key : Key) → (n : ℕ) → steers key.0 ≡ true → field_after e i g t c p fs key n ≡ n
-steering_stays (SetVar g0 t0 p0 v0 k0 new) l i g t c p fs key n s =
-    let a = steers_other v0 key.0 l.0 s in
-    let b : same_key (v0, k0) key ≡ false = simp a in
-    let d : (same_tag g0 g && (eqb t0 t && (same_tag p0 p && same_key (v0, k0) key))) ≡ false = and_right (same_tag g0 g) _ (and_right (eqb t0 t) _ (and_right (same_tag p0 p) _ b)) in
-    simp d
-steering_stays (Renumber g0 new) l i g t c p fs key n s = let a : is_of NidBg key ≡ false = steers_other NidBg key.0 number_free s in simp a
-steering_stays (TurnGroup g0) l i g t c p fs key n s =
-    let a : is_of QLinkorientation key ≡ false = steers_other QLinkorientation key.0 orientation_free s in
-    let b : is_of QDir key ≡ false = steers_other QDir key.0 direction_free s in simp (a, b)
-steering_stays (SetHead g0 t0 v0 new) l i g t c p fs key n s = refl
-steering_stays (InsertPacket g0 t0 a x) l i g t c p fs key n s = refl
-steering_stays (DeletePacket g0 t0 q) l i g t c p fs key n s = refl
-steering_stays (MovePacket g0 t0 q a) l i g t c p fs key n s = refl
-steering_stays (AddGroup a bs) l i g t c p fs key n s = refl
-steering_stays (DropGroup g0) l i g t c p fs key n s = refl
+steering_stays e l i g t c p fs key n s = field_untouched e key (steering_untouched e l key.0 s) i g t c p fs n
 
-country-each : (h : Key → ℕ → ℕ) → ((key : Key) → (n : ℕ) → is_of NidC key ≡ true → h key n ≡ n) → (c k : ℕ) → (fs : Fields) → country_at c k (each h fs) ≡ country_at c k fs
-country-each h s c k [] = refl
-country-each h s c k (f ∷ fs) =
-    split_on (is_of NidC f.0)
-    (λ e. simp (e, s f.0 f.1 e) (country-each h s f.1 k fs))
-    (λ e. split_on (same_key (NidBg, k) f.0) (λ d. simp (e, d)) (λ d. simp (e, d) (country-each h s c k fs)))
+pub country_kept : (e : Edit) → Lawful e → KeepsFields e NidC
+country_kept e l = steering_untouched e l NidC country_steers
 
 -- the country in force at an element stays
 pub country_stays : (e : Edit) → Lawful e → (i : Id) → (g : Tag) → (t c : ℕ) → (p : Tag) → (k : ℕ) → (fs : Fields) → country_at c k (each (field_after e i g t c p fs) fs) ≡ country_at c k fs
-country_stays e l i g t c p k fs =
-    country-each (field_after e i g t c p fs) (λ key n h. steering_stays e l i g t c p fs key n (ap steers (sym (var_test.one NidC key.0 h)) ∙ country_steers)) c k fs
+country_stays e l i g t c p k fs = country_untouched e (country_kept e l) i g t c p k fs
 
 -- a turn names as before
 pub calls_turned : (g0 : Tag) → (i j : Id) → (g : Tag) → (t c : ℕ) → (p : Tag) → (k : ℕ) → (fs : Fields) → calls c k (each (field_after (TurnGroup g0) i g t c p fs) fs) j ≡ calls c k fs j

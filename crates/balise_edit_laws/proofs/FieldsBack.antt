@@ -1,8 +1,8 @@
 -- Taking back what changed fields: a value set in a packet or a header, a new number, a turn.
 -- From what was noted: the old value is the one that is found at the place that was set.
 -- A renumbering is taken back by the identity of the new number, which nothing else named.
-use Rattle.std.proofs.Common.{◌≡◌, ◌≢◌, ℕ, true, false, cond, ◌&&◌, eqb, Some, refl, sym, ap, ◌∙◌, arith}
-use Rattle.std.proofs.lemmas.Bool.{and_parts, and_from, eqb-true}
+use Rattle.std.proofs.Common.{◌≡◌, ℕ, true, false, cond, ◌&&◌, eqb, Some, refl, sym, ap, ◌∙◌, arith}
+use Rattle.std.proofs.lemmas.Bool.{and_parts, and_from}
 use Rattle.std.proofs.lemmas.Bool.Decides.{nat_tests}
 use Rattle.balise_rules.specs.declared.tag.Tag.{Tag}
 use Rattle.balise_rules.specs.declared.identity.Id.{Id}
@@ -12,18 +12,20 @@ use Rattle.balise_rules.specs.Tagged.{find}
 use Rattle.balise_rules.specs.Tags.{Key, same_tag, same_id, same_key, is_of}
 use Rattle.balise_rules.specs.Packet.{Packet}
 use Rattle.balise_rules.specs.Telegram.{Telegram, version_of}
-use Rattle.balise_rules.specs.Plan.{Plan, Group, reserved, country_of, identity_of, telegram_at, IsSound}
-use Rattle.balise_rules.specs.Names.{country_at, is_real, is_it}
+use Rattle.balise_rules.specs.Plan.{Plan, Group, country_of, identity_of, telegram_at, IsSound}
+use Rattle.balise_rules.specs.Names.{country_at, is_it}
 use Rattle.balise_rules.specs.Notes.{noted, note_at, note_group, set_note}
 use Rattle.balise_rules.specs.Doing.{done}
-use Rattle.balise_rules.specs.Accepting.{Accepted, NoName}
+use Rattle.balise_rules.specs.Accepting.{Accepted}
 use Rattle.balise_rules.specs.Edits.{SetVar, SetHead, Renumber, telegram_after}
 use Rattle.balise_rules.specs.Back.{back}
-use Rattle.balise_rules.proofs.Tests.{split_on, tag_test, key_test, id_test, var_test}
-use Rattle.balise_edit_laws.proofs.Headers.{header_once, value_found}
-use Rattle.balise_edit_laws.proofs.Found.{stood, head_distinct, packet_spelt, fields_distinct}
-use Rattle.balise_edit_laws.proofs.Each.{telegrams-back}
-use Rattle.balise_edit_laws.proofs.Levels.{FieldsBack, packets-back, head-back, telegram-back, two-ids, place_is, parts4, undo_set}
+use Rattle.balise_rules.proofs.Tests.{split_on, tag_test, key_test, var_test}
+use Rattle.balise_rules.proofs.Cases.{parts4}
+use Rattle.balise_rules.proofs.Names.{real_number, unnamed}
+use Rattle.balise_rules.proofs.Values.{value_found}
+use Rattle.balise_rules.proofs.Found.{stood, head_distinct, packet_spelt, fields_distinct, place_is}
+use Rattle.balise_edit_laws.proofs.Headers.{header_once}
+use Rattle.balise_edit_laws.proofs.Levels.{FieldsBack, packets-back, head-back, telegram-back, two-ids, undo_set, telegrams-back}
 use Rattle.balise_edit_laws.proofs.FieldChanges.{country_stays}
 
 pub set_back : (s : ℕ) → (g : Tag) → (t : ℕ) → (p : Tag) → (v : Var) → (k n : ℕ) → (plan : Plan) → IsSound plan → Accepted (SetVar g t p v k n) plan → back (s, SetVar g t p v k n) (noted (SetVar g t p v k n) plan) (done (s, SetVar g t p v k n) plan) ≡ plan
@@ -64,18 +66,6 @@ set_head_back s g t v n plan sound accepted =
 -- a number given and then given back: nothing else had the new one
 renamed_back : (c n a0 a1 new : ℕ) → (eqb c a0 && eqb n new) ≡ false → cond (eqb c a0 && eqb (cond (eqb c a0 && eqb n a1) new n) new) a1 (cond (eqb c a0 && eqb n a1) new n) ≡ n
 renamed_back c n a0 a1 new h = grind (arith, nat_tests)
-
--- an element that is found has another identity than one that nothing names
-pub unnamed : (i : Id) → (plan : Plan) → NoName i plan → is_real i ≡ true → (g : Tag) → (t : ℕ) → (y : Telegram) → telegram_at g t plan ≡ Some y → (p : Tag) → (x : Packet) → find same_tag p y.packets ≡ Some x →
-    (k n : ℕ) → find same_key (NidBg, k) x.fields ≡ Some n → same_id (record { country = country_at (country_of y) k x.fields; number = n }) i ≡ false
-unnamed i plan none real g t y q p x h k n f =
-    split_on (same_id (record { country = country_at (country_of y) k x.fields; number = n }) i)
-    (λ e. let w = id_test.one (record { country = country_at (country_of y) k x.fields; number = n }) i e in
-    absurd (none g t p k (record { telegram = y; stands = q; packet = x; has_packet = h; number = f ∙ ap (λ (j : Id). Some j.number) w; country = ap (λ (j : Id). j.country) w; real = real })))
-    (λ e. e)
-
-real_number : (c n : ℕ) → n ≢ reserved → is_real (record { country = c; number = n }) ≡ true
-real_number c n h = split_on (eqb n reserved) (λ e. absurd (h (eqb-true n reserved e))) (λ e. simp e)
 
 -- a field of a packet after the renumbering
 abbrev renamed : Tag → ℕ → Plan → Telegram → Packet → Key → ℕ → ℕ
@@ -124,4 +114,4 @@ renumber_back s g new plan sound accepted =
             let i_is : (noted (Renumber g new) plan).own.country ≡ (identity_of accepted.1.0).country = ap (λ o. o.own.country) n_is in
             let k : find same_key (NidBg, key.1) x.fields ≡ Some n = ap (λ (v : Var). find same_key (v, key.1) x.fields) (var_test.one NidBg key.0 e) ∙ d in
             ap (λ c. same_id (record { country = country_at (country_of y) key.1 x.fields; number = n }) (record { country = c; number = new })) i_is
-            ∙ unnamed (record { country = (identity_of accepted.1.0).country; number = new }) plan accepted.1.3 (real_number (identity_of accepted.1.0).country new accepted.0.1) g1 t1 y q p1 x h key.1 n k
+            ∙ unnamed (record { country = (identity_of accepted.1.0).country; number = new }) plan accepted.1.3 (real_number (record { country = (identity_of accepted.1.0).country; number = new }) accepted.0.1) g1 t1 y q p1 x h key.1 n k

@@ -1,7 +1,7 @@
 -- An accepted edit leaves each packet spelt, and as long as it was.
 -- From the steadiness of the forms, and the widths of what is set: a value that was asked for, a new number, a turned orientation or direction.
 -- Headers have their own file.
-use Rattle.std.proofs.Common.{◌≡◌, ℕ, ◌-◌, Bool, true, false, cond, ◌&&◌, eqb, IsTrue, List, ◌++◌, length, Some, refl, sym, subst, ◌∙◌, arith, length-append}
+use Rattle.std.proofs.Common.{◌≡◌, ℕ, ◌-◌, Bool, true, false, cond, ◌&&◌, eqb, IsTrue, Some, refl, sym, subst, ◌∙◌, arith}
 use Rattle.std.proofs.lemmas.Bool.{and_parts, ltb-true, lt-ltb}
 use Rattle.std.proofs.lemmas.Bool.Decides.{nat_tests}
 use Rattle.balise_rules.specs.declared.tag.Tag.{Tag}
@@ -12,17 +12,18 @@ use Rattle.balise_rules.specs.Variables.{width_of, steers}
 use Rattle.balise_rules.specs.Bits.{fits}
 use Rattle.balise_rules.specs.Tagged.{each}
 use Rattle.balise_rules.specs.Tags.{Key, same_var, same_tag, same_key, is_of}
-use Rattle.balise_rules.specs.Forms.{Fields, spelling}
+use Rattle.balise_rules.specs.Forms.{Fields}
 use Rattle.balise_rules.specs.Packets.{packet}
-use Rattle.balise_rules.specs.Packet.{Packet, width, IsSpelt}
+use Rattle.balise_rules.specs.Packet.{Packet, IsSpelt}
 use Rattle.balise_rules.specs.Names.{country_at, calls, is_it}
 use Rattle.balise_rules.specs.Accepting.{Lawful}
 use Rattle.balise_rules.specs.Edits.{Edit, SetVar, SetHead, InsertPacket, DeletePacket, MovePacket, AddGroup, DropGroup, Renumber, TurnGroup, exchanged, field_after, packet_after}
 use Rattle.balise_rules.proofs.Tests.{var_test}
-use Rattle.balise_edit_laws.proofs.HeadChanges.{value_kept}
-use Rattle.balise_edit_laws.proofs.Levels.{parts4}
+use Rattle.balise_rules.proofs.Cases.{parts4}
+use Rattle.balise_rules.proofs.Values.{value_kept}
+use Rattle.balise_rules.proofs.Used.{width-each}
 use Rattle.balise_edit_laws.proofs.FieldChanges.{steering_stays}
-use Rattle.balise_edit_laws.proofs.Steady.{Fitting, matches-each, numbered-each, length-each, packet_steady}
+use Rattle.balise_edit_laws.proofs.Steady.{Fitting, matches-each, numbered-each, packet_steady}
 
 -- a key of a variable
 var_is : (v : Var) → (key : Key) → is_of v key ≡ true → v ≡ key.0
@@ -65,9 +66,6 @@ fields_fit (MovePacket g0 t0 q a) l i g t c p fs key n h = h
 fields_fit (AddGroup a bs) l i g t c p fs key n h = h
 fields_fit (DropGroup g0) l i g t c p fs key n h = h
 
-packet_width : (h : Key → ℕ → ℕ) → (fs : Fields) → (rest : List Bool) → length (spelling (each h fs) ++ rest) ≡ length (spelling fs ++ rest)
-packet_width h fs rest = omega (arith, length-append (spelling (each h fs)) rest, length-append (spelling fs) rest, length-each h fs)
-
 length_steers : steers LPacket ≡ true
 unfolding steers
 length_steers = refl
@@ -80,9 +78,5 @@ packet_kept e l i g t c p version x s =
       spelt = refl;
       form = matches-each steers (packet version) x.fields x.rest (packet_steady version) h (λ key n k. steering_stays e l i g t c p x.fields key n k) (fields_fit e l i g t c p x.fields) s.form;
       numbered = numbered-each h x.fields s.numbered;
-      said = value_kept h LPacket x.fields (λ n. steering_stays e l i g t c p x.fields (LPacket, 0) n length_steers) ∙ s.said ∙ sym (packet_width h x.fields x.rest);
+      said = value_kept h LPacket 0 x.fields (λ n. steering_stays e l i g t c p x.fields (LPacket, 0) n length_steers) ∙ s.said ∙ sym (width-each h x);
     }
-
--- and as long
-pub width_kept : (e : Edit) → (i : Id) → (g : Tag) → (t c : ℕ) → (p : Tag) → (x : Packet) → width (packet_after e i g t c p x) ≡ width x
-width_kept e i g t c p x = packet_width (field_after e i g t c p x.fields) x.fields x.rest

@@ -15,11 +15,11 @@ use Rattle.balise_rules.specs.Accepting.{Lawful}
 use Rattle.balise_rules.specs.Edits.{Edit, Item, SetVar, SetHead, InsertPacket, DeletePacket, MovePacket, AddGroup, DropGroup, Renumber, TurnGroup, packets_change, telegram_after, in_order, group_after}
 use Rattle.balise_rules.proofs.Tests.{split_on, nat_test}
 use Rattle.balise_rules.proofs.Distincts.{distinct-each}
-use Rattle.balise_edit_laws.proofs.Each.{found_later}
+use Rattle.balise_rules.proofs.Each.{found_later, length-each}
+use Rattle.balise_rules.proofs.Reversed.{distinct-reverse}
 use Rattle.balise_edit_laws.proofs.HeadChanges.{fixed_kept, version_fixed}
 use Rattle.balise_edit_laws.proofs.PacketsKept.{Fitted, packets_kept}
 use Rattle.balise_edit_laws.proofs.HeadsKept.{new_identity, new_place, head_of, head_kept}
-use Rattle.balise_edit_laws.proofs.Reversed.{length_after, distinct-reverse}
 
 id_is : (i : Id) → (c n : ℕ) → c ≡ i.country → n ≡ i.number → ◌≡◌ {A = Id} (record { country = c; number = n }) i
 id_is i c n e d = ap (λ a. record { country = a; number = n }) e ∙ ap (λ b. record { country = i.country; number = b }) d
@@ -58,7 +58,7 @@ sound_down : (i j : Id) → (last : ℕ) → (h : ℕ → Telegram → Telegram)
 sound_down i j last h n [] c s u k = tt
 sound_down i j last h n (y ∷ ys) c s u k =
     let r = nat_test.itself y.0 in
-    let place : last - n ≡ length (each h ys) = omega (arith, c, length_after h ys) in
+    let place : last - n ≡ length (each h ys) = omega (arith, c, length-each h ys) in
     let after : suc n + length ys ≡ suc last = omega (arith, c) in
     (subst (λ m. IsSoundTelegram j last m (h y.0 y.1)) place (k y.0 y.1 n (simp r) s.0), sound_down i j last h (suc n) ys after s.1 u.1 (λ t x m e w. k t x m (found_later nat_test y ys u.0 t x e) w))
 
@@ -144,7 +144,7 @@ module _ (e : Item) (l : Lawful e.1) (own : Id) (g : Tag) (ys : Group) (s : IsSo
   group_kept number =
       let some = s.some in let most = s.most in
       let zs = each (telegram_after e own g) ys in
-      let size : length zs ≡ length ys = length_after (telegram_after e own g) ys in
+      let size : length zs ≡ length ys = length-each (telegram_after e own g) ys in
       let u = distinct-each nat_test (telegram_after e own g) ys s.tags in
       subst (GroupKept (new_identity e.1 g (identity_of ys))) (sym (order_is e.1 g zs))
       (split_on (turns e.1 g)

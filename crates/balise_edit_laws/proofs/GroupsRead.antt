@@ -6,8 +6,7 @@ use Rattle.std.proofs.lemmas.Bool.{and_parts, leb-true, eqb-true, ne_eqb, eqb-fa
 use Rattle.std.proofs.lemmas.List.{length-replicate}
 use Rattle.balise_rules.specs.declared.refusal.Refusal.TheVariants.{GroupSize}
 use Rattle.balise_rules.proofs.TelegramShown.{used_is, telegram_read}
-use Rattle.balise_rules.specs.declared.tag.Tag.{Tag}
-use Rattle.balise_rules.specs.declared.tag.Tag.TheVariants.{Base, Fresh}
+use Rattle.balise_rules.specs.declared.tag.Tag.TheVariants.{Fresh}
 use Rattle.balise_rules.specs.declared.identity.Id.{Id}
 use Rattle.balise_rules.specs.declared.refusal.Refusal.{Refusal}
 use Rattle.balise_rules.specs.declared.variable.Var.{Var}
@@ -17,12 +16,13 @@ use Rattle.balise_rules.specs.Bits.{bits, ones}
 use Rattle.balise_rules.specs.Tagged.{find, Distinct}
 use Rattle.balise_rules.specs.Tags.{same_tag, same_id}
 use Rattle.balise_rules.specs.Forms.{Fields, Matches, spelling}
-use Rattle.balise_rules.specs.Packet.{Packet, value}
-use Rattle.balise_rules.specs.Telegram.{Telegram, header, used, TaggedFrom, IsLength, IsRead, packets_bits, read_telegram}
+use Rattle.balise_rules.specs.Packet.{value}
+use Rattle.balise_rules.specs.Telegram.{Telegram, header, used, IsLength, IsRead, packets_bits, read_telegram}
 use Rattle.balise_rules.specs.Plan.{Group, reserved, identity_in, identity_of, agree_from, with_telegrams, read_telegrams, checked_group, read_group, IsSoundTelegram, SoundFrom, IsSoundGroup}
 use Rattle.balise_rules.proofs.Tests.{split_on, id_test}
-use Rattle.balise_rules.proofs.Lists.{unsome}
 use Rattle.balise_rules.proofs.Numbers.{length-bits}
+use Rattle.balise_rules.proofs.Cases.{unsome, unok}
+use Rattle.balise_rules.proofs.TaggedFrom.{tagged_distinct, never_fresh}
 use Rattle.balise_edit_laws.proofs.Headers.{plains, header_variables}
 
 -- how many bits a list of variables takes
@@ -64,22 +64,6 @@ padding_length b y r =
     let p = ap length r.padding in
     omega (arith, p, length-append (ones (used y.packets)) (drop (used y.packets) b), length-replicate (used y.packets) true, length-drop (used y.packets) b, used_within b y r)
 
--- tags of what was read
-tagged_absent : (m n : ℕ) → (ps : List (Tag × Packet)) → TaggedFrom n ps → m < n → find same_tag (Base m) ps ≡ None
-tagged_absent m n [] u l = refl
-tagged_absent m n (y ∷ ys) u l =
-    let e : eqb m n ≡ false = ne_eqb m n (λ q. omega (arith, q, l)) in
-    let d : same_tag (Base m) y.0 ≡ false = ap (same_tag (Base m)) u.0 ∙ e in
-    simp d (tagged_absent m (suc n) ys u.1 (omega (arith, l)))
-
-tagged_distinct : (n : ℕ) → (ps : List (Tag × Packet)) → TaggedFrom n ps → Distinct same_tag ps
-tagged_distinct n [] u = tt
-tagged_distinct n (y ∷ ys) u = (ap (λ t. find same_tag t ys) u.0 ∙ tagged_absent n (suc n) ys u.1 (omega arith), tagged_distinct (suc n) ys u.1)
-
-never_fresh : (s n : ℕ) → (ps : List (Tag × Packet)) → TaggedFrom n ps → find same_tag (Fresh s) ps ≡ None
-never_fresh s n [] u = refl
-never_fresh s n (y ∷ ys) u = let d : same_tag (Fresh s) y.0 ≡ false = ap (same_tag (Fresh s)) u.0 in simp d (never_fresh s (suc n) ys u.1)
-
 telegram_sound : (i : Id) → (last n : ℕ) → (b : List Bool) → (y : Telegram) → IsRead b y → value NPig 0 y.head ≡ n → value NTotal 0 y.head ≡ last → identity_in y ≡ i → IsSoundTelegram i last n y
 telegram_sound i last n b y r place total identity =
     let size = padding_length b y r in
@@ -111,17 +95,11 @@ record Parted (n : ℕ) (r : Result Telegram Refusal) (q : Result Group Refusal)
 parted : (n : ℕ) → (r : Result Telegram Refusal) → (q : Result Group Refusal) → (ys : Group) → with_telegrams n r q ≡ Ok ys → Parted n r q ys
 parted n (Err x) q ys h = absurd cc
 parted n (Ok y) (Err x) ys h = absurd cc
-parted n (Ok y) (Ok zs) ys h = record { telegram = y; more = zs; read = refl; rest = refl; is = ok_is ((n, y) ∷ zs) ys h }
-  where
-    ok_is : (a b : Group) → ◌≡◌ {A = Result Group Refusal} (Ok a) (Ok b) → a ≡ b
-    ok_is a b e = cc
+parted n (Ok y) (Ok zs) ys h = record { telegram = y; more = zs; read = refl; rest = refl; is = unok h }
 
 telegrams_read : (n : ℕ) → (bs : List (List Bool)) → (ys : Group) → read_telegrams n bs ≡ Ok ys → ReadFrom n ys × (length ys ≡ length bs)
 unfolding read_telegrams
-telegrams_read n [] ys h = let e : [] ≡ ys = none_is ys h in subst (λ z. ReadFrom n z × (length z ≡ 0)) e (tt, refl)
-  where
-    none_is : (b : Group) → ◌≡◌ {A = Result Group Refusal} (Ok []) (Ok b) → [] ≡ b
-    none_is b e = cc
+telegrams_read n [] ys h = let e : [] ≡ ys = unok h in subst (λ z. ReadFrom n z × (length z ≡ 0)) e (tt, refl)
 telegrams_read n (b ∷ bs) ys h =
     let p = parted n (read_telegram b) (read_telegrams (suc n) bs) ys h in
     let more = telegrams_read (suc n) bs p.more p.rest in
@@ -163,12 +141,9 @@ checked (Ok zs) ys h =
     split_on (agree_from (identity_of zs) (length zs - 1) 0 zs)
     (λ a. split_on (eqb (identity_of zs).number reserved)
     (λ b. absurd (let w = simp (a, b) at h in cc))
-    (λ b. let w : Ok zs ≡ Ok ys = simp (a, b) at h in let q : zs ≡ ys = ok_is zs ys w in
+    (λ b. let w : Ok zs ≡ Ok ys = simp (a, b) at h in let q : zs ≡ ys = unok w in
     (w, subst (λ z. agree_from (identity_of z) (length z - 1) 0 z ≡ true) q a, subst (λ z. eqb (identity_of z).number reserved ≡ false) q b)))
     (λ a. absurd (let w = simp a at h in cc))
-  where
-    ok_is : (a b : Group) → ◌≡◌ {A = Result Group Refusal} (Ok a) (Ok b) → a ≡ b
-    ok_is a b e = cc
 
 sized : (c : Bool) → (r : Result Group Refusal) → (ys : Group) → cond c r (Err GroupSize) ≡ Ok ys → (c ≡ true) × (r ≡ Ok ys)
 sized true r ys h = (refl, h)

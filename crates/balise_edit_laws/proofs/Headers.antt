@@ -2,18 +2,14 @@
 -- From its form, which is plain from end to end, and its numbering.
 -- So a header's field is found, and no other field has its variable.
 use Rattle.std.proofs.Common.{◌≡◌, ℕ, suc, Bool, true, false, cond, List, [], ◌∷◌, Some, refl, sym, ap, ◌∙◌, arith}
-use Rattle.std.specs.Option.{option_map}
-use Rattle.std.specs.Prelude.{unwrap_or}
 use Rattle.balise_rules.specs.declared.variable.Var.{Var}
 use Rattle.balise_rules.specs.declared.variable.Var.TheVariants.{QUpdown, MVersion, QMedia, NPig, NTotal, MDup, MMcount, NidC, NidBg, QLink}
-use Rattle.balise_rules.specs.Tagged.{find, each}
+use Rattle.balise_rules.specs.Tagged.{find}
 use Rattle.balise_rules.specs.Tags.{Key, same_var, same_key, is_of}
 use Rattle.balise_rules.specs.Forms.{Form, done, plain, Fields, Matches, count_of, Numbered}
-use Rattle.balise_rules.specs.Packet.{value}
 use Rattle.balise_rules.specs.Telegram.{header}
-use Rattle.balise_rules.proofs.Tests.{split_on, var_test, key_test}
-use Rattle.balise_rules.proofs.Lists.{find-each}
-use Rattle.balise_edit_laws.proofs.Keys.{found_counted, first_found}
+use Rattle.balise_rules.proofs.Tests.{split_on, var_test}
+use Rattle.balise_rules.proofs.Keys.{found_counted, first_found}
 
 abbrev pub plains : List Var → Form
 plains [] = done
@@ -52,10 +48,3 @@ header_once v hs m u c key n h e =
 -- and it has one
 pub header_has : (v : Var) → (hs : Fields) → Matches header hs [] → Numbered hs → count_in v header_variables ≡ 1 → (n : ℕ) × (find same_key (v, 0) hs ≡ Some n)
 header_has v hs m u c = first_found [] hs u v refl (omega (arith, header_count v hs m, c))
-
--- the value of a field after a change of each
-pub value-each : (h : Key → ℕ → ℕ) → (v : Var) → (k : ℕ) → (fs : Fields) → value v k (each h fs) ≡ unwrap_or (option_map (h (v, k)) (find same_key (v, k) fs)) 0
-value-each h v k fs = ap (λ o. unwrap_or o 0) (find-each key_test h (v, k) fs)
-
-pub value_found : (v : Var) → (k n : ℕ) → (fs : Fields) → find same_key (v, k) fs ≡ Some n → value v k fs ≡ n
-value_found v k n fs h = ap (λ o. unwrap_or o 0) h

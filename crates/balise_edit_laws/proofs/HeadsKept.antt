@@ -2,7 +2,7 @@
 -- From the plain form of the header and what each edit sets in it.
 -- A renumbering gives the new number, a turn the place counted from the other end.
 use Rattle.std.proofs.Common.{◌≡◌, ℕ, ◌-◌, true, false, cond, ◌&&◌, eqb, IsTrue, [], option_map, refl, sym, ap, subst, ◌∙◌, arith}
-use Rattle.std.proofs.lemmas.Bool.{true≢false, false≢true, and_parts, ltb-true, lt-ltb}
+use Rattle.std.proofs.lemmas.Bool.{false≢true, and_parts, ltb-true, lt-ltb}
 use Rattle.std.proofs.lemmas.Bool.Decides.{nat_tests}
 use Rattle.std.specs.Prelude.{unwrap_or}
 use Rattle.balise_rules.specs.declared.tag.Tag.{Tag}
@@ -19,10 +19,11 @@ use Rattle.balise_rules.specs.Telegram.{Telegram, header, is_balise}
 use Rattle.balise_rules.specs.Plan.{IsSoundTelegram}
 use Rattle.balise_rules.specs.Accepting.{Lawful}
 use Rattle.balise_rules.specs.Edits.{Edit, SetVar, SetHead, InsertPacket, DeletePacket, MovePacket, AddGroup, DropGroup, Renumber, TurnGroup, exchanged, head_after}
-use Rattle.balise_rules.proofs.Tests.{split_on, var_test}
-use Rattle.balise_edit_laws.proofs.Headers.{count_in, header_variables, header_has, value-each, value_found}
-use Rattle.balise_edit_laws.proofs.Found.{field_fits}
-use Rattle.balise_edit_laws.proofs.HeadChanges.{fixed_kept, country_fixed, total_fixed, IsFixed}
+use Rattle.balise_rules.proofs.Tests.{split_on}
+use Rattle.balise_rules.proofs.Values.{value-each, value_found}
+use Rattle.balise_rules.proofs.Found.{field_fits}
+use Rattle.balise_edit_laws.proofs.Headers.{count_in, header_variables, header_has}
+use Rattle.balise_edit_laws.proofs.HeadChanges.{fixed_kept, country_fixed, total_fixed, IsFixed, free_other}
 use Rattle.balise_edit_laws.proofs.Steady.{Fitting, matches-each, numbered-each, header_steady}
 use Rattle.balise_edit_laws.proofs.FieldsKept.{wide, narrow, fits_if}
 
@@ -110,10 +111,6 @@ not_free_number = refl
 not_free_place : is_free_in_header NPig ≡ false
 unfolding is_free_in_header
 not_free_place = refl
-
--- a free variable isn't one that isn't
-free_other : (v w : Var) → IsTrue (is_free_in_header v) → is_free_in_header w ≡ false → same_var v w ≡ false
-free_other v w f n = split_on (same_var v w) (λ e. absurd (true≢false (sym f ∙ ap is_free_in_header (var_test.one v w e) ∙ n))) (λ e. e)
 
 number_after : (e : Edit) → Lawful e → (i : Id) → (g : Tag) → (t : ℕ) → (hs : Fields) → head_after e g t hs (NidBg, 0) i.number ≡ (new_identity e g i).number
 number_after (SetHead g0 t0 v0 new) l i g t hs = let a = free_other v0 NidBg l.0 not_free_number in simp a

@@ -9,10 +9,10 @@ use Rattle.balise_rules.specs.Plan.{Plan, Group, identity_of, IdentitiesDiffer}
 use Rattle.balise_rules.specs.Accepting.{Stands, NoGroup}
 use Rattle.balise_rules.specs.Edits.{Edit}
 use Rattle.balise_rules.proofs.Tests.{split_on, split_keys, apart_from, flip_no, tag_test, id_test}
-use Rattle.balise_rules.proofs.Lists.{unsome, find-put, find-without, find-without_same, find-each}
-use Rattle.balise_edit_laws.proofs.Found.{found}
-use Rattle.balise_edit_laws.proofs.Each.{found_later}
-use Rattle.balise_edit_laws.proofs.Puts.{find-put_same}
+use Rattle.balise_rules.proofs.Lists.{find-put, find-without, find-without_same, find-each}
+use Rattle.balise_rules.proofs.Cases.{unsome, found}
+use Rattle.balise_rules.proofs.Each.{found_later}
+use Rattle.balise_rules.proofs.Anchors.{find-put_same}
 use Rattle.balise_edit_laws.proofs.Naming.{no_group_from, no_group_to}
 use Rattle.balise_edit_laws.proofs.HeadsKept.{new_identity}
 

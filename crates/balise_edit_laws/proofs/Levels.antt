@@ -1,8 +1,7 @@
 -- From fields to packets, telegrams and the plan: a change taken back at each level is taken back as a whole.
 -- From the changes of each item that undo one another, and from the country, which no edit changes.
 -- Each kind of edit then shows its own fields, header or packets.
-use Rattle.std.proofs.Common.{◌≡◌, ℕ, Bool, true, false, cond, ◌&&◌, eqb, List, Some, refl, ap, ◌∙◌}
-use Rattle.std.proofs.lemmas.Bool.{and_parts}
+use Rattle.std.proofs.Common.{◌≡◌, ℕ, Bool, true, false, cond, List, Some, refl, ap, ◌∙◌}
 use Rattle.balise_rules.specs.declared.tag.Tag.{Tag}
 use Rattle.balise_rules.specs.declared.identity.Id.{Id}
 use Rattle.balise_rules.specs.declared.variable.Var.TheVariants.{NidC}
@@ -11,11 +10,12 @@ use Rattle.balise_rules.specs.Tags.{Key, same_tag, same_key}
 use Rattle.balise_rules.specs.Forms.{Fields}
 use Rattle.balise_rules.specs.Packet.{Packet}
 use Rattle.balise_rules.specs.Telegram.{Telegram}
-use Rattle.balise_rules.specs.Plan.{Plan, country_of, telegram_at}
+use Rattle.balise_rules.specs.Plan.{Plan, country_of, telegram_at, IsSound}
 use Rattle.balise_rules.specs.Accepting.{Lawful}
 use Rattle.balise_rules.specs.Edits.{Edit, Item, field_after, packet_after, head_after, packets_change, telegram_after}
 use Rattle.balise_rules.proofs.Tests.{tag_test, nat_test, key_test}
-use Rattle.balise_edit_laws.proofs.Each.{each-id, each-back}
+use Rattle.balise_rules.proofs.Each.{each-id, each-back}
+use Rattle.balise_rules.proofs.Found.{group_sound}
 use Rattle.balise_edit_laws.proofs.HeadChanges.{fixed_kept, country_fixed}
 
 -- the fields of a packet, each changed by e and then by b
@@ -45,21 +45,15 @@ telegram-back b j e i l g t y heads packets =
     ∙ ap (λ hs. record { head = hs; packets = changed same_tag (packets_change b j g t (country_of y)) (changed same_tag (packets_change e i g t (country_of y)) y.packets); padding = y.padding }) heads
     ∙ ap (λ ps. record { head = y.head; packets = ps; padding = y.padding }) packets
 
+-- two changes of each telegram of a sound plan
+pub telegrams-back : (plan : Plan) → IsSound plan → (f h : Tag → ℕ → Telegram → Telegram) → ((g : Tag) → (t : ℕ) → (y : Telegram) → telegram_at g t plan ≡ Some y → f g t (h g t y) ≡ y) →
+    each (λ g ys. each (f g) ys) (each (λ g ys. each (h g) ys) plan) ≡ plan
+telegrams-back plan s f h w =
+    each-back tag_test (λ g ys. each (f g) ys) (λ g ys. each (h g) ys) plan s.tags
+    (λ g ys q. each-back nat_test (f g) (h g) ys (group_sound plan s g ys q).tags (λ t y d. w g t y (simp q d)))
+
 pub two-ids : (hs : Fields) → each (λ key n. n) (each (λ key n. n) hs) ≡ hs
 two-ids hs = each-id (each (λ key n. n) hs) ∙ each-id hs
-
--- the same place
-pub place_is : (g0 g : Tag) → (t0 t : ℕ) → (plan : Plan) → (same_tag g0 g && eqb t0 t) ≡ true → telegram_at g0 t0 plan ≡ telegram_at g t plan
-place_is g0 g t0 t plan e =
-    let h = and_parts (same_tag g0 g) (eqb t0 t) e in
-    ap (λ u. telegram_at u t0 plan) (tag_test.one g0 g h.0) ∙ ap (λ u. telegram_at g u plan) (nat_test.one t0 t h.1)
-
-pub parts4 : (a b c d : Bool) → (a && (b && (c && d))) ≡ true → (a ≡ true) × (b ≡ true) × (c ≡ true) × (d ≡ true)
-parts4 true true true true h = (refl, refl, refl, refl)
-parts4 true true true false h = cc
-parts4 true true false d h = cc
-parts4 true false c d h = cc
-parts4 false b c d h = cc
 
 -- a value set and then set again to what it was
 pub undo_set : (a : Bool) → (new old n : ℕ) → (a ≡ true → old ≡ n) → cond a old (cond a new n) ≡ n

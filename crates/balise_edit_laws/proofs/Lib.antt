@@ -1,9 +1,5 @@
-pub mod Keys
 pub mod Headers
-pub mod Found
-pub mod Each
 pub mod HeadChanges
-pub mod Puts
 pub mod Levels
 pub mod PacketsBack
 pub mod FieldChanges
@@ -16,7 +12,6 @@ pub mod Steady
 pub mod FieldsKept
 pub mod PacketsKept
 pub mod HeadsKept
-pub mod Reversed
 pub mod GroupsKept
 pub mod GroupsRead
 pub mod Identities

@@ -18,7 +18,7 @@ use Rattle.balise_rules.specs.Addresses.{packet_in}
 use Rattle.balise_rules.specs.Journal.{Line, LineEdit, LineSetVar, LineSetHead, LineInsertPacket, LineDeletePacket, LineMovePacket, LineAddGroup, LineDropGroup, LineRenumber, LineTurnGroup, Noted, Nothing, Value, Number, BeforePacket, BeforeGroup, noted_of, same_noted}
 use Rattle.balise_rules.specs.Opening.{or_nothing, packet_for, inserting, edit_in, fits_line, if_fits, item_of}
 use Rattle.balise_rules.proofs.Tests.{split_on, tag_test, nat_test}
-use Rattle.balise_rules.proofs.Lists.{unsome}
+use Rattle.balise_rules.proofs.Cases.{unsome}
 use Rattle.balise_edit_laws.specs.TakenBack.{IsReady}
 use Rattle.balise_edit_laws.specs.Lines.{Fitting, LinesReady}
 use Rattle.balise_edit_laws.proofs.Refusing.{refused_exactly}

@@ -15,10 +15,10 @@ use Rattle.balise_rules.specs.Plan.{Plan, Group, country_of, identity_of, telegr
 use Rattle.balise_rules.specs.Names.{country_at, is_real, calls, is_it, links_to, links_in_plan, links_in_telegram, elements_among, is_named, Link}
 use Rattle.balise_rules.specs.Accepting.{NoName, NoGroup}
 use Rattle.balise_rules.proofs.Tests.{IsTest, split_on, split_keys, tag_test, nat_test, key_test, id_test, var_test}
-use Rattle.balise_rules.proofs.Lists.{unsome}
-use Rattle.balise_edit_laws.proofs.Found.{found, group_sound, stood}
-use Rattle.balise_edit_laws.proofs.Each.{found_later}
-use Rattle.balise_edit_laws.proofs.FieldsBack.{unnamed}
+use Rattle.balise_rules.proofs.Cases.{unsome, found}
+use Rattle.balise_rules.proofs.Each.{found_later}
+use Rattle.balise_rules.proofs.Found.{group_sound, stood}
+use Rattle.balise_rules.proofs.Names.{unnamed}
 
 -- groups
 pub no_group_from : (i : Id) → (plan : Plan) → group_named i plan ≡ None → NoGroup i plan

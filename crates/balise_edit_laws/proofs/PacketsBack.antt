@@ -17,10 +17,11 @@ use Rattle.balise_rules.specs.Edits.{InsertPacket, DeletePacket, MovePacket, tel
 use Rattle.balise_rules.specs.Back.{back, with_packets, put_back}
 use Rattle.balise_rules.proofs.Tests.{split_on, tag_test}
 use Rattle.balise_rules.proofs.ListsBack.{without-put_same, put_before-without}
-use Rattle.balise_edit_laws.proofs.Puts.{find-move_same, move_back}
-use Rattle.balise_edit_laws.proofs.Found.{stood}
-use Rattle.balise_edit_laws.proofs.Each.{each-id, telegrams-back}
-use Rattle.balise_edit_laws.proofs.Levels.{telegram-back, two-ids, place_is}
+use Rattle.balise_rules.proofs.Each.{each-id}
+use Rattle.balise_rules.proofs.Anchors.{find-move_same}
+use Rattle.balise_rules.proofs.Moved.{move_back}
+use Rattle.balise_rules.proofs.Found.{stood, place_is}
+use Rattle.balise_edit_laws.proofs.Levels.{telegram-back, two-ids, telegrams-back}
 
 pub insert_back : (s : ℕ) → (g : Tag) → (t : ℕ) → (a : Option Tag) → (x : Packet) → (plan : Plan) → IsSound plan → Unused s plan → back (s, InsertPacket g t a x) (noted (InsertPacket g t a x) plan) (done (s, InsertPacket g t a x) plan) ≡ plan
 insert_back s g t a x plan sound unused =
@@ -65,5 +66,5 @@ move_packet_back s g t p a plan sound accepted =
     simp e (rebuilt y (each (λ key v. v) y.head) (put_back p (noted (MovePacket g t p a) plan).before (find same_tag p (move same_tag p a y.packets)) (without same_tag p (move same_tag p a y.packets))) (each-id y.head)
     (ap (λ u. put_back p u.before (find same_tag p (move same_tag p a y.packets)) (without same_tag p (move same_tag p a y.packets))) n_is
     ∙ ap (λ u. put_back p (behind same_tag p y.packets) u (without same_tag p (move same_tag p a y.packets))) x_is
-    ∙ move_back p a w.0.0 y.packets (stood g1 t1 plan sound y q).placed.sound.tags w.0.1)))
+    ∙ move_back tag_test p a w.0.0 y.packets (stood g1 t1 plan sound y q).placed.sound.tags w.0.1)))
     (λ e. simp e (rebuilt y (each (λ key v. v) y.head) (each (λ q z. z) y.packets) (each-id y.head) (each-id y.packets))))

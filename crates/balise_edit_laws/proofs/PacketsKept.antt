@@ -1,82 +1,22 @@
 -- An accepted edit leaves a telegram's packets spelt, under distinct tags, and within its size.
 -- From the packets that stay spelt and the four changes of a list: none makes the packets longer but an insertion, which has room.
 -- What is put in is spelt, and its tag is new.
-use Rattle.std.proofs.Common.{◌≡◌, ℕ, ◌+◌, ◌≤◌, Bool, true, false, cond, ◌&&◌, eqb, All, List, [], ◌∷◌, Option, Some, None, refl, sym, ap, subst, arith}
-use Rattle.std.proofs.lemmas.List.Elements.{All-head, All-tail, All-cons, All-nil}
+use Rattle.std.proofs.Common.{◌≡◌, ℕ, ◌+◌, ◌≤◌, Bool, true, false, cond, ◌&&◌, eqb, All, List, None, refl, sym, subst, arith}
 use Rattle.balise_rules.specs.declared.tag.Tag.{Tag}
 use Rattle.balise_rules.specs.declared.tag.Tag.TheVariants.{Fresh}
 use Rattle.balise_rules.specs.declared.identity.Id.{Id}
-use Rattle.balise_rules.specs.Tagged.{find, each, Distinct, put, put_behind, put_found, without, move, changed, Each, Put, Take, Move, Change}
+use Rattle.balise_rules.specs.Tagged.{find, each, Distinct, put, changed, Each, Put, Take, Move, Change}
 use Rattle.balise_rules.specs.Tags.{same_tag}
 use Rattle.balise_rules.specs.Packet.{Packet, width, IsSpelt}
 use Rattle.balise_rules.specs.Telegram.{used}
 use Rattle.balise_rules.specs.Accepting.{Lawful}
 use Rattle.balise_rules.specs.Edits.{Edit, Item, SetVar, SetHead, InsertPacket, DeletePacket, MovePacket, AddGroup, DropGroup, Renumber, TurnGroup, packet_after, packets_change}
-use Rattle.balise_rules.proofs.Tests.{split_on, tag_test}
-use Rattle.balise_rules.proofs.Lists.{unsome}
+use Rattle.balise_rules.proofs.Tests.{tag_test}
 use Rattle.balise_rules.proofs.Distincts.{distinct-each, distinct-without, distinct-put, distinct-move}
-use Rattle.balise_edit_laws.proofs.Found.{found, all_found}
-use Rattle.balise_edit_laws.proofs.Each.{each-id}
-use Rattle.balise_edit_laws.proofs.FieldsKept.{packet_kept, width_kept}
-
--- what all have, all have after each was changed
-all-each : {K A : Type 0} → (P Q : A → Type 0) → (f : K → A → A) → ((k : K) → (x : A) → P x → Q (f k x)) → (xs : List (K × A)) → All (λ z. P z.1) xs → All (λ z. Q z.1) (each f xs)
-all-each P Q f h [] a = All-nil (λ z. Q z.1)
-all-each P Q f h (y ∷ ys) a = All-cons (λ z. Q z.1) (y.0, f y.0 y.1) (each f ys) (h y.0 y.1 (All-head (λ z. P z.1) y ys a)) (all-each P Q f h ys (All-tail (λ z. P z.1) y ys a))
-
-all-put_behind : {K A : Type 0} → (P : A → Type 0) → (same : K → K → Bool) → (k : K) → (z : K × A) → (xs : List (K × A)) → P z.1 → All (λ w. P w.1) xs → All (λ w. P w.1) (put_behind same k z xs)
-all-put_behind P same k z [] h a = a
-all-put_behind P same k z (y ∷ ys) h a =
-    let b = All-head (λ w. P w.1) y ys a in let d = All-tail (λ w. P w.1) y ys a in
-    split_on (same k y.0)
-    (λ e. simp e (All-cons (λ w. P w.1) y (z ∷ ys) b (All-cons (λ w. P w.1) z ys h d)))
-    (λ e. simp e (All-cons (λ w. P w.1) y (put_behind same k z ys) b (all-put_behind P same k z ys h d)))
-
-pub all-put : {K A : Type 0} → (P : A → Type 0) → (same : K → K → Bool) → (a : Option K) → (z : K × A) → (xs : List (K × A)) → P z.1 → All (λ w. P w.1) xs → All (λ w. P w.1) (put same a z xs)
-all-put P same None z xs h a = All-cons (λ w. P w.1) z xs h a
-all-put P same (Some k) z xs h a = all-put_behind P same k z xs h a
-
-pub all-without : {K A : Type 0} → (P : A → Type 0) → (same : K → K → Bool) → (k : K) → (xs : List (K × A)) → All (λ w. P w.1) xs → All (λ w. P w.1) (without same k xs)
-all-without P same k [] a = a
-all-without P same k (y ∷ ys) a =
-    let b = All-head (λ w. P w.1) y ys a in let d = all-without P same k ys (All-tail (λ w. P w.1) y ys a) in
-    split_on (same k y.0) (λ e. simp e d) (λ e. simp e (All-cons (λ w. P w.1) y (without same k ys) b d))
-
-all-move : {K A : Type 0} → (P : A → Type 0) → (same : K → K → Bool) → (k : K) → (a : Option K) → (xs : List (K × A)) → All (λ w. P w.1) xs → All (λ w. P w.1) (move same k a xs)
-all-move P same k a xs h =
-    found (find same k xs)
-    (λ e. subst (λ o. All (λ w. P w.1) (put_found same o k a (without same k xs))) (sym e) (all-without P same k xs h))
-    (λ x e. subst (λ o. All (λ w. P w.1) (put_found same o k a (without same k xs))) (sym e) (all-put P same a (k, x) (without same k xs) (all_found P same xs h k x e) (all-without P same k xs h)))
-
--- how many bits are used
-used-each : (f : Tag → Packet → Packet) → ((p : Tag) → (x : Packet) → width (f p x) ≡ width x) → (ps : List (Tag × Packet)) → used (each f ps) ≡ used ps
-used-each f h [] = refl
-used-each f h (y ∷ ys) = omega (arith, h y.0 y.1, used-each f h ys)
-
-used-put_behind : (k : Tag) → (z : Tag × Packet) → (ps : List (Tag × Packet)) → used (put_behind same_tag k z ps) ≤ used ps + width z.1
-used-put_behind k z [] = omega arith
-used-put_behind k z (y ∷ ys) = let ih = used-put_behind k z ys in split_on (same_tag k y.0) (λ e. simp e (omega arith)) (λ e. simp e (omega (arith, ih)))
-
-used-put : (a : Option Tag) → (z : Tag × Packet) → (ps : List (Tag × Packet)) → used (put same_tag a z ps) ≤ used ps + width z.1
-used-put None z ps = omega arith
-used-put (Some k) z ps = used-put_behind k z ps
-
-used-without : (p : Tag) → (ps : List (Tag × Packet)) → used (without same_tag p ps) ≤ used ps
-used-without p [] = omega arith
-used-without p (y ∷ ys) = let ih = used-without p ys in split_on (same_tag p y.0) (λ e. simp e (omega (arith, ih))) (λ e. simp e (omega (arith, ih)))
-
-used_less : (p : Tag) → (x : Packet) → (ps : List (Tag × Packet)) → find same_tag p ps ≡ Some x → used (without same_tag p ps) + width x ≤ used ps
-used_less p x [] h = absurd cc
-used_less p x (y ∷ ys) h =
-    split_on (same_tag p y.0)
-    (λ e. let w : Some y.1 ≡ Some x = simp e at h in let l : width y.1 ≡ width x = ap width (unsome w) in let k = used-without p ys in simp e (omega (arith, l, k)))
-    (λ e. let w : find same_tag p ys ≡ Some x = simp e at h in let ih = used_less p x ys w in simp e (omega (arith, ih)))
-
-used-move : (p : Tag) → (a : Option Tag) → (ps : List (Tag × Packet)) → used (move same_tag p a ps) ≤ used ps
-used-move p a ps =
-    found (find same_tag p ps)
-    (λ e. subst (λ o. used (put_found same_tag o p a (without same_tag p ps)) ≤ used ps) (sym e) (used-without p ps))
-    (λ x e. subst (λ o. used (put_found same_tag o p a (without same_tag p ps)) ≤ used ps) (sym e) (omega (arith, used-put a (p, x) (without same_tag p ps), used_less p x ps e)))
+use Rattle.balise_rules.proofs.Each.{each-id}
+use Rattle.balise_rules.proofs.AllItems.{all-each, all-put, all-without, all-move}
+use Rattle.balise_rules.proofs.Used.{used-each, used-put, used-without, used-move, width_kept}
+use Rattle.balise_edit_laws.proofs.FieldsKept.{packet_kept}
 
 -- the packets of a telegram of this version with so many bits
 pub record PacketsSound (version most : ℕ) (ps : List (Tag × Packet)) : Type 0 where

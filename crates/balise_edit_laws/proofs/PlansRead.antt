@@ -14,11 +14,10 @@ use Rattle.balise_rules.specs.Telegram.{Telegram}
 use Rattle.balise_rules.specs.Plan.{Plan, Group, identity_of, telegram_at, group_named, read_group, read_plan, pushed, pushed_all, with_group, IsSoundGroup, IdentitiesDiffer, IsSound}
 use Rattle.balise_rules.specs.Accepting.{Unused}
 use Rattle.balise_rules.proofs.Tests.{split_on, flip_no, tag_test, id_test}
-use Rattle.balise_rules.proofs.Lists.{unsome}
-use Rattle.balise_edit_laws.proofs.Found.{found}
-use Rattle.balise_edit_laws.proofs.Reversed.{find-append, find-append_some, distinct_last}
+use Rattle.balise_rules.proofs.Cases.{unsome, found, unok}
+use Rattle.balise_rules.proofs.Reversed.{find-append, find-append_some, distinct_last}
+use Rattle.balise_rules.proofs.Found.{in_group}
 use Rattle.balise_edit_laws.proofs.GroupsRead.{group_read, GroupRead}
-use Rattle.balise_edit_laws.proofs.UnusedKept.{in_group}
 
 -- what is known of a plan while it is read
 record PlanRead (plan : Plan) : Type 0 where
@@ -70,14 +69,11 @@ one_more plan ys p g n = record {
         (λ zs e. let w : zs ≡ st.group = unsome (sym (find-append_some same_tag k zs plan ((Base (length plan), ys) ∷ []) e) ∙ st.has_group) in
         (p.unused s).packets k t y (ap (option_and_then (find eqb t)) e ∙ ap (find eqb t) w ∙ st.has_telegram))
 
-ok_is : (a b : Plan) → ◌≡◌ {A = Result Plan Refusal} (Ok a) (Ok b) → a ≡ b
-ok_is a b e = cc
-
 pushed_read : (plan more : Plan) → PlanRead plan → (r : Result Group Refusal) → ((ys : Group) → r ≡ Ok ys → GroupRead ys) → with_group plan r ≡ Ok more → PlanRead more
 pushed_read plan more p (Err x) g h = absurd cc
 pushed_read plan more p (Ok ys) g h =
     found (group_named (identity_of ys) plan)
-    (λ e. let w : Ok (plan ++ (Base (length plan), ys) ∷ []) ≡ Ok more = simp e at h in subst PlanRead (ok_is (plan ++ (Base (length plan), ys) ∷ []) more w) (one_more plan ys p (g ys refl) e))
+    (λ e. let w : Ok (plan ++ (Base (length plan), ys) ∷ []) ≡ Ok more = simp e at h in subst PlanRead (unok w) (one_more plan ys p (g ys refl) e))
     (λ z e. absurd (let w = simp e at h in cc))
 
 none_after : (r : Refusal) → (groups : List (List (List Bool))) → (plan : Plan) → pushed_all (Err r) groups ≡ Ok plan → ⊥
@@ -90,7 +86,7 @@ one_step plan last bs groups p again (Err x) e k = absurd (none_after x groups l
 one_step plan last bs groups p again (Ok more) e k = again more (pushed_read plan more p (read_group bs) (λ ys q. group_read bs ys q) e) k
 
 all_read : (groups : List (List (List Bool))) → (plan last : Plan) → PlanRead plan → pushed_all (Ok plan) groups ≡ Ok last → PlanRead last
-all_read [] plan last p h = subst PlanRead (ok_is plan last h) p
+all_read [] plan last p h = subst PlanRead (unok h) p
 all_read (bs ∷ groups) plan last p h = one_step plan last bs groups p (λ more q k. all_read groups more last q k) (pushed plan bs) refl h
 
 pub plan_read : (groups : List (List (List Bool))) → (plan : Plan) → read_plan groups ≡ Ok plan → IsSound plan × ((s : ℕ) → Unused s plan)

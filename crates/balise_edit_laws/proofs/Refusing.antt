@@ -18,7 +18,8 @@ use Rattle.balise_rules.specs.Names.{is_named}
 use Rattle.balise_rules.specs.Doing.{renumbered, refusal, first_of, when, taken, group_fault, no_group, in_telegram, same_place}
 use Rattle.balise_rules.specs.Accepting.{Accepted, AcceptedAt, AcceptedIn, Stands, NoGroup}
 use Rattle.balise_rules.specs.Edits.{Edit, SetVar, SetHead, InsertPacket, DeletePacket, MovePacket, AddGroup, DropGroup, Renumber, TurnGroup, group_of, group_or_none}
-use Rattle.balise_edit_laws.proofs.Found.{found, stood}
+use Rattle.balise_rules.proofs.Cases.{found}
+use Rattle.balise_rules.proofs.Found.{stood}
 use Rattle.balise_edit_laws.proofs.Naming.{no_group_from, no_group_to, no_name_from, no_name_to}
 
 abbrev pub Both : Edit → Plan → Type 0

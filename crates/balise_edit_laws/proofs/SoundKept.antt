@@ -1,12 +1,11 @@
 -- The law that an accepted edit leaves a sound plan sound.
 -- From its groups, which are kept, their identities, which stay apart, and an added group, which is sound since it was read.
 -- What a telegram asks of what is put into it is what acceptance, spelling and a new serial give.
-use Rattle.std.proofs.Common.{◌≡◌, ◌≢◌, ℕ, Bool, false, All, List, [], ◌∷◌, length, Option, Some, sym, ap, subst, ◌∙◌}
-use Rattle.std.proofs.lemmas.List.Elements.{All-cons, All-nil}
+use Rattle.std.proofs.Common.{◌≡◌, ◌≢◌, ℕ, Bool, false, List, length, Option, Some, sym, ap, subst, ◌∙◌}
 use Rattle.balise_rules.specs.declared.tag.Tag.{Tag}
 use Rattle.balise_rules.specs.declared.tag.Tag.TheVariants.{Fresh}
 use Rattle.balise_rules.specs.declared.identity.Id.{Id}
-use Rattle.balise_rules.specs.Tagged.{find, each, Distinct, put, without}
+use Rattle.balise_rules.specs.Tagged.{find, each, put, without}
 use Rattle.balise_rules.specs.Tags.{same_tag, same_id}
 use Rattle.balise_rules.specs.Telegram.{Telegram, version_of}
 use Rattle.balise_rules.specs.Plan.{Plan, Group, reserved, identity_of, telegram_at, IsSoundGroup, IsSound}
@@ -15,13 +14,12 @@ use Rattle.balise_rules.specs.Doing.{done, renumbered}
 use Rattle.balise_rules.specs.Accepting.{Accepted, AcceptedAt, AcceptedIn, Lawful}
 use Rattle.balise_rules.specs.Edits.{Edit, Item, SetVar, SetHead, InsertPacket, DeletePacket, MovePacket, AddGroup, DropGroup, Renumber, TurnGroup, group_of, group_after}
 use Rattle.balise_edit_laws.specs.TakenBack.{IsReady}
-use Rattle.balise_rules.proofs.Tests.{IsTest, split_on, split_keys, flip_no, tag_test, id_test}
-use Rattle.balise_rules.proofs.Lists.{unsome}
+use Rattle.balise_rules.proofs.Tests.{split_on, split_keys, flip_no, tag_test, id_test}
 use Rattle.balise_rules.proofs.Distincts.{distinct-each, distinct-without, distinct-put}
-use Rattle.balise_edit_laws.proofs.Found.{group_sound}
-use Rattle.balise_edit_laws.proofs.Each.{found_later}
-use Rattle.balise_edit_laws.proofs.Levels.{place_is}
-use Rattle.balise_edit_laws.proofs.PacketsKept.{all-put, all-without, Fitted}
+use Rattle.balise_rules.proofs.Cases.{unsome}
+use Rattle.balise_rules.proofs.AllItems.{all-each_found, all-put, all-without}
+use Rattle.balise_rules.proofs.Found.{group_sound, place_is}
+use Rattle.balise_edit_laws.proofs.PacketsKept.{Fitted}
 use Rattle.balise_edit_laws.proofs.HeadsKept.{new_identity}
 use Rattle.balise_edit_laws.proofs.GroupsKept.{group_kept, GroupKept}
 use Rattle.balise_edit_laws.proofs.GroupsRead.{group_read}
@@ -76,13 +74,6 @@ stay_apart (MovePacket g0 t0 p x) plan a all g h ys zs b c d = all g h ys zs b c
 stay_apart (AddGroup x bs) plan a all g h ys zs b c d = all g h ys zs b c d
 stay_apart (DropGroup g0) plan a all g h ys zs b c d = all g h ys zs b c d
 stay_apart (TurnGroup g0) plan a all g h ys zs b c d = all g h ys zs b c d
-
--- what each changed item has that was found
-all-each_found : {K A : Type 0} → {same : K → K → Bool} → IsTest same → (Q : A → Type 0) → (f : K → A → A) → (xs : List (K × A)) → Distinct same xs → ((k : K) → (x : A) → find same k xs ≡ Some x → Q (f k x)) → All (λ z. Q z.1) (each f xs)
-all-each_found t Q f [] u h = All-nil (λ z. Q z.1)
-all-each_found t Q f (y ∷ ys) u h =
-    let r = t.itself y.0 in
-    All-cons (λ z. Q z.1) (y.0, f y.0 y.1) (each f ys) (h y.0 y.1 (simp r)) (all-each_found t Q f ys u.1 (λ k x e. h k x (found_later t y ys u.0 k x e)))
 
 -- an edit within the groups
 sound_within : (e : Item) → (own : Id) → (plan : Plan) → IsReady e plan → IsSound (each (group_after e own) plan)

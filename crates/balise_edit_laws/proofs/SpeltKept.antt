@@ -17,10 +17,11 @@ use Rattle.balise_rules.specs.Accepting.{Accepted, AcceptedAt, Lawful, Unused, S
 use Rattle.balise_rules.specs.Edits.{Edit, Item, SetVar, SetHead, InsertPacket, DeletePacket, MovePacket, AddGroup, DropGroup, Renumber, TurnGroup, group_of, group_after}
 use Rattle.balise_edit_laws.specs.TakenBack.{IsReady}
 use Rattle.balise_rules.proofs.Tests.{split_keys, tag_test}
-use Rattle.balise_rules.proofs.Lists.{unsome, find-put, find-without, find-without_same, find-each}
-use Rattle.balise_edit_laws.proofs.Found.{group_sound}
+use Rattle.balise_rules.proofs.Lists.{find-put, find-without, find-without_same, find-each}
+use Rattle.balise_rules.proofs.Cases.{unsome}
+use Rattle.balise_rules.proofs.Found.{group_sound, in_group}
 use Rattle.balise_edit_laws.proofs.HeadChanges.{fixed_kept, version_fixed}
-use Rattle.balise_edit_laws.proofs.UnusedKept.{was_in, in_group}
+use Rattle.balise_edit_laws.proofs.UnusedKept.{was_in}
 
 version_within : (e : Item) → Lawful e.1 → (own : Id) → (plan : Plan) → IsSound plan → (g : Tag) → (t : ℕ) → (y z : Telegram) → telegram_at g t plan ≡ Some y → telegram_at g t (each (group_after e own) plan) ≡ Some z → version_of z ≡ version_of y
 version_within e l own plan sound g t y z a b =

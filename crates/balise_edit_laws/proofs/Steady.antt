@@ -13,7 +13,7 @@ use Rattle.balise_rules.specs.Packets.{packet, counted, link, linking, gradient,
 use Rattle.balise_rules.specs.Telegram.{header}
 use Rattle.balise_rules.proofs.Tests.{split_on}
 use Rattle.balise_rules.proofs.Numbers.{length-bits}
-use Rattle.balise_edit_laws.proofs.Keys.{count-append}
+use Rattle.balise_rules.proofs.Keys.{count-append}
 use Rattle.balise_rules.specs.Forms.{done}
 
 -- only variables of a set say what follows them

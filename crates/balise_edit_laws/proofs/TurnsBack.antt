@@ -1,11 +1,10 @@
 -- Taking back a turn of a group.
 -- From the values of a sound plan: an orientation is 0 or 1, and a place at most the total.
 -- A turn of what was turned turns each link, direction, double and place back, and the telegrams' order.
-use Rattle.std.proofs.Common.{◌≡◌, ℕ, ◌-◌, ◌≤◌, Bool, true, false, cond, ◌&&◌, IsTrue, List, [], ◌∷◌, reverse, Some, refl, sym, ap, subst, ◌∙◌, arith}
-use Rattle.std.proofs.lemmas.Bool.{true≢false, ltb-true}
+use Rattle.std.proofs.Common.{◌≡◌, ℕ, ◌-◌, ◌≤◌, Bool, true, false, cond, ◌&&◌, IsTrue, reverse, Some, refl, sym, ap, subst, ◌∙◌, arith}
+use Rattle.std.proofs.lemmas.Bool.{ltb-true}
 use Rattle.std.proofs.lemmas.Bool.Decides.{nat_tests}
 use Rattle.std.proofs.lemmas.List.{reverse-reverse}
-use mathlib.Core.List.{reverse_aux}
 use Rattle.balise_rules.specs.declared.tag.Tag.{Tag}
 use Rattle.balise_rules.specs.declared.identity.Id.{Id}
 use Rattle.balise_rules.specs.declared.variable.Var.{Var}
@@ -13,7 +12,7 @@ use Rattle.balise_rules.specs.declared.variable.Var.TheVariants.{QLinkorientatio
 use Rattle.balise_rules.specs.Variables.{width_of}
 use Rattle.balise_rules.specs.Bits.{fits}
 use Rattle.balise_rules.specs.Tagged.{find, each}
-use Rattle.balise_rules.specs.Tags.{Key, same_var, same_tag, same_key, is_of}
+use Rattle.balise_rules.specs.Tags.{Key, same_tag, same_key, is_of}
 use Rattle.balise_rules.specs.Packets.{packet}
 use Rattle.balise_rules.specs.Packet.{Packet, value}
 use Rattle.balise_rules.specs.Telegram.{Telegram, version_of}
@@ -24,26 +23,15 @@ use Rattle.balise_rules.specs.Doing.{done}
 use Rattle.balise_rules.specs.Edits.{TurnGroup, exchanged, head_after, telegram_after, in_order, group_after}
 use Rattle.balise_rules.specs.Back.{back}
 use Rattle.balise_rules.proofs.Tests.{split_on, tag_test, nat_test, var_test}
-use Rattle.balise_edit_laws.proofs.Headers.{header_once, value_found}
-use Rattle.balise_edit_laws.proofs.Found.{group_sound, stood, head_distinct, packet_spelt, fields_distinct, field_fits}
-use Rattle.balise_edit_laws.proofs.Each.{each-back}
+use Rattle.balise_rules.proofs.Reversed.{each-reverse}
+use Rattle.balise_rules.proofs.Each.{each-back}
+use Rattle.balise_rules.proofs.Keys.{not_other}
+use Rattle.balise_rules.proofs.Values.{value_found}
+use Rattle.balise_rules.proofs.Found.{group_sound, stood, head_distinct, packet_spelt, fields_distinct, field_fits}
+use Rattle.balise_edit_laws.proofs.Headers.{header_once}
 use Rattle.balise_edit_laws.proofs.HeadChanges.{fixed_kept, total_fixed}
 use Rattle.balise_edit_laws.proofs.Levels.{packets-back, head-back, telegram-back}
 use Rattle.balise_edit_laws.proofs.FieldChanges.{calls_turned}
-
--- a key of one variable isn't of another
-not_other : (v w : Var) → (key : Key) → same_var v w ≡ false → is_of v key ≡ true → is_of w key ≡ false
-not_other v w key n e =
-    split_on (is_of w key)
-    (λ d. absurd (true≢false (sym (ap (same_var v) (var_test.one w key.0 d) ∙ e) ∙ n)))
-    (λ d. d)
-
-each-aux : {K A : Type 0} → (f : K → A → A) → (xs ys : List (K × A)) → each f (reverse_aux xs ys) ≡ reverse_aux (each f xs) (each f ys)
-each-aux f [] ys = refl
-each-aux f (x ∷ xs) ys = each-aux f xs (x ∷ ys)
-
-each-reverse : {K A : Type 0} → (f : K → A → A) → (xs : List (K × A)) → each f (reverse xs) ≡ reverse (each f xs)
-each-reverse f xs = each-aux f xs []
 
 swap_back : (n : ℕ) → exchanged 0 1 (exchanged 0 1 n) ≡ n
 swap_back n = grind (arith, nat_tests)

@@ -6,7 +6,7 @@ use Rattle.std.proofs.lemmas.Bool.{ne_eqb}
 use Rattle.balise_rules.specs.declared.tag.Tag.{Tag}
 use Rattle.balise_rules.specs.declared.tag.Tag.TheVariants.{Fresh}
 use Rattle.balise_rules.specs.declared.identity.Id.{Id}
-use Rattle.balise_rules.specs.Tagged.{find, each, Distinct, put, put_found, without, move, changed, Each, Put, Take, Move, Change}
+use Rattle.balise_rules.specs.Tagged.{find, each, Distinct, put, without, changed, Each, Put, Take, Move, Change}
 use Rattle.balise_rules.specs.Tags.{same_tag}
 use Rattle.balise_rules.specs.Packet.{Packet}
 use Rattle.balise_rules.specs.Telegram.{Telegram}
@@ -17,45 +17,36 @@ use Rattle.balise_rules.specs.Accepting.{Unused}
 use Rattle.balise_rules.specs.Edits.{Item, SetVar, SetHead, InsertPacket, DeletePacket, MovePacket, AddGroup, DropGroup, Renumber, TurnGroup, group_of, packet_after, packets_change, telegram_after, group_after}
 use Rattle.balise_edit_laws.specs.TakenBack.{IsReady}
 use Rattle.balise_rules.proofs.Tests.{split_on, split_keys, tag_test, nat_test}
-use Rattle.balise_rules.proofs.Lists.{unsome, find-put, find-without, find-without_same, find-each}
-use Rattle.balise_rules.proofs.Distincts.{absent-without, distinct-each}
-use Rattle.balise_edit_laws.proofs.Found.{found, group_sound}
-use Rattle.balise_edit_laws.proofs.Puts.{find-put_same, find-move}
-use Rattle.balise_edit_laws.proofs.Reversed.{find-reverse}
+use Rattle.balise_rules.proofs.Lists.{find-put, find-without, find-without_same, find-each}
+use Rattle.balise_rules.proofs.Distincts.{absent-without, distinct-each, absent-each}
+use Rattle.balise_rules.proofs.Cases.{unsome, found}
+use Rattle.balise_rules.proofs.Reversed.{find-reverse}
+use Rattle.balise_rules.proofs.Moved.{absent-move}
+use Rattle.balise_rules.proofs.Anchors.{find-put_same}
+use Rattle.balise_rules.proofs.Found.{in_group, group_sound}
 use Rattle.balise_edit_laws.proofs.GroupsKept.{turns, order_is}
 use Rattle.balise_edit_laws.proofs.GroupsRead.{group_read}
-
--- what isn't there isn't there after a change that puts in another
-absent-move : {A : Type 0} → (k p : Tag) → (a : Option Tag) → (xs : List (Tag × A)) → find same_tag k xs ≡ None → find same_tag k (move same_tag p a xs) ≡ None
-absent-move k p a xs n =
-    split_keys tag_test k p
-    (λ e q. let m : find same_tag p xs ≡ None = ap (λ u. find same_tag u xs) (sym q) ∙ n in
-    ap (λ o. find same_tag k (put_found same_tag o p a (without same_tag p xs))) m ∙ absent-without same_tag k p xs n)
-    (λ e. find-move k p a e xs ∙ n)
 
 either_absent : {A : Type 0} → (k : Tag) → (b : Bool) → (x y : Change Tag A) → (xs : List (Tag × A)) → (b ≡ true → find same_tag k (changed same_tag x xs) ≡ None) → find same_tag k (changed same_tag y xs) ≡ None → find same_tag k (changed same_tag (cond b x y) xs) ≡ None
 either_absent k true x y xs h n = h refl
 either_absent k false x y xs h n = n
-
-absent_after : {A : Type 0} → (k : Tag) → (f : Tag → A → A) → (xs : List (Tag × A)) → find same_tag k xs ≡ None → find same_tag k (each f xs) ≡ None
-absent_after k f xs n = find-each tag_test f k xs ∙ ap (option_map (f k)) n
 
 fresh_other : (s z : ℕ) → s ≢ z → same_tag (Fresh s) (Fresh z) ≡ false
 fresh_other s z n = ne_eqb s z n
 
 packets_unused : (e : Item) → (s : ℕ) → s ≢ e.0 → (i : Id) → (g : Tag) → (t c : ℕ) → (ps : List (Tag × Packet)) → find same_tag (Fresh s) ps ≡ None → find same_tag (Fresh s) (changed same_tag (packets_change e i g t c) ps) ≡ None
 packets_unused (z, InsertPacket g0 t0 a x) s n i g t c ps h =
-    either_absent (Fresh s) (same_tag g0 g && eqb t0 t) (Put a (Fresh z, x)) (Each (λ q y. y)) ps (λ e. find-put same_tag (Fresh s) a (Fresh z, x) (fresh_other s z n) ps ∙ h) (absent_after (Fresh s) (λ q y. y) ps h)
+    either_absent (Fresh s) (same_tag g0 g && eqb t0 t) (Put a (Fresh z, x)) (Each (λ q y. y)) ps (λ e. find-put same_tag (Fresh s) a (Fresh z, x) (fresh_other s z n) ps ∙ h) (absent-each tag_test (λ q y. y) (Fresh s) ps h)
 packets_unused (z, DeletePacket g0 t0 p) s n i g t c ps h =
-    either_absent (Fresh s) (same_tag g0 g && eqb t0 t) (Take p) (Each (λ q y. y)) ps (λ e. absent-without same_tag (Fresh s) p ps h) (absent_after (Fresh s) (λ q y. y) ps h)
+    either_absent (Fresh s) (same_tag g0 g && eqb t0 t) (Take p) (Each (λ q y. y)) ps (λ e. absent-without same_tag (Fresh s) p ps h) (absent-each tag_test (λ q y. y) (Fresh s) ps h)
 packets_unused (z, MovePacket g0 t0 p a) s n i g t c ps h =
-    either_absent (Fresh s) (same_tag g0 g && eqb t0 t) (Move p a) (Each (λ q y. y)) ps (λ e. absent-move (Fresh s) p a ps h) (absent_after (Fresh s) (λ q y. y) ps h)
-packets_unused (z, SetVar g0 t0 p v k new) s n i g t c ps h = absent_after (Fresh s) (packet_after (SetVar g0 t0 p v k new) i g t c) ps h
-packets_unused (z, SetHead g0 t0 v new) s n i g t c ps h = absent_after (Fresh s) (packet_after (SetHead g0 t0 v new) i g t c) ps h
-packets_unused (z, AddGroup a bs) s n i g t c ps h = absent_after (Fresh s) (packet_after (AddGroup a bs) i g t c) ps h
-packets_unused (z, DropGroup g0) s n i g t c ps h = absent_after (Fresh s) (packet_after (DropGroup g0) i g t c) ps h
-packets_unused (z, Renumber g0 new) s n i g t c ps h = absent_after (Fresh s) (packet_after (Renumber g0 new) i g t c) ps h
-packets_unused (z, TurnGroup g0) s n i g t c ps h = absent_after (Fresh s) (packet_after (TurnGroup g0) i g t c) ps h
+    either_absent (Fresh s) (same_tag g0 g && eqb t0 t) (Move p a) (Each (λ q y. y)) ps (λ e. absent-move tag_test (Fresh s) p a ps h) (absent-each tag_test (λ q y. y) (Fresh s) ps h)
+packets_unused (z, SetVar g0 t0 p v k new) s n i g t c ps h = absent-each tag_test (packet_after (SetVar g0 t0 p v k new) i g t c) (Fresh s) ps h
+packets_unused (z, SetHead g0 t0 v new) s n i g t c ps h = absent-each tag_test (packet_after (SetHead g0 t0 v new) i g t c) (Fresh s) ps h
+packets_unused (z, AddGroup a bs) s n i g t c ps h = absent-each tag_test (packet_after (AddGroup a bs) i g t c) (Fresh s) ps h
+packets_unused (z, DropGroup g0) s n i g t c ps h = absent-each tag_test (packet_after (DropGroup g0) i g t c) (Fresh s) ps h
+packets_unused (z, Renumber g0 new) s n i g t c ps h = absent-each tag_test (packet_after (Renumber g0 new) i g t c) (Fresh s) ps h
+packets_unused (z, TurnGroup g0) s n i g t c ps h = absent-each tag_test (packet_after (TurnGroup g0) i g t c) (Fresh s) ps h
 
 -- a telegram that is found in a changed group
 pub record WasIn (f : ℕ → Telegram → Telegram) (t : ℕ) (ys : Group) (z : Telegram) : Type 0 where
@@ -78,20 +69,8 @@ was_in e own g t ys u z h =
     (λ n. sym (find-reverse nat_test t zs (distinct-each nat_test (telegram_after e own g) ys u)) ∙ ap (λ b. find eqb t (cond b (reverse zs) zs)) (sym n) ∙ k)
     (λ n. ap (λ b. find eqb t (cond b (reverse zs) zs)) (sym n) ∙ k))
 
--- a telegram that is found stands in a group
-pub record InGroup (g : Tag) (t : ℕ) (plan : Plan) (y : Telegram) : Type 0 where
-  pub group : Group
-  pub has_group : find same_tag g plan ≡ Some group
-  pub has_telegram : find eqb t group ≡ Some y
-
-pub in_group : (g : Tag) → (t : ℕ) → (plan : Plan) → (y : Telegram) → telegram_at g t plan ≡ Some y → InGroup g t plan y
-in_group g t plan y h =
-    found (find same_tag g plan)
-    (λ e. absurd (let k = simp e at h in cc))
-    (λ ys e. let k : find eqb t ys ≡ Some y = simp e at h in record { group = ys; has_group = e; has_telegram = k })
-
 unused_within : (e : Item) → (own : Id) → (plan : Plan) → IsSound plan → (s : ℕ) → s ≢ e.0 → Unused s plan → Unused s (each (group_after e own) plan)
-unused_within e own plan sound s n w = record { groups = absent_after (Fresh s) (group_after e own) plan w.groups; packets = packets }
+unused_within e own plan sound s n w = record { groups = absent-each tag_test (group_after e own) (Fresh s) plan w.groups; packets = packets }
   where
     packets : (g : Tag) → (t : ℕ) → (y : Telegram) → telegram_at g t (each (group_after e own) plan) ≡ Some y → find same_tag (Fresh s) y.packets ≡ None
     packets g t y h =

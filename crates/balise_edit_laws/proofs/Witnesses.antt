@@ -20,7 +20,7 @@ use Rattle.balise_rules.specs.Doing.{refusal}
 use Rattle.balise_rules.specs.Accepting.{Unused, Spelt}
 use Rattle.balise_rules.specs.Addresses.{packet_in}
 use Rattle.balise_rules.specs.Examples.{plan_of, read_groups, word}
-use Rattle.balise_rules.proofs.Lists.{unsome}
+use Rattle.balise_rules.proofs.Cases.{unsome}
 use Rattle.balise_edit_laws.specs.TakenBack.{IsReady}
 use Rattle.balise_edit_laws.specs.Witness.{lines, Witnessed}
 use Rattle.balise_edit_laws.proofs.Refusing.{refused_exactly}

@@ -5,7 +5,7 @@ use Rattle.balise_rules.specs.Tagged.{find, put_behind, put, without, put_found,
 use Rattle.balise_rules.proofs.Tests.{IsTest, split_on, flip_no}
 use Rattle.balise_rules.proofs.Lists.{find-each, find-put_behind, find-without_same}
 
-absent-each : {K A : Type 0} → {same : K → K → Bool} → IsTest same → (f : K → A → A) → (k : K) → (xs : List (K × A)) → find same k xs ≡ None → find same k (each f xs) ≡ None
+pub absent-each : {K A : Type 0} → {same : K → K → Bool} → IsTest same → (f : K → A → A) → (k : K) → (xs : List (K × A)) → find same k xs ≡ None → find same k (each f xs) ≡ None
 absent-each t f k xs n = find-each t f k xs ∙ ap (option_map (f k)) n
 
 pub distinct-each : {K A : Type 0} → {same : K → K → Bool} → IsTest same → (f : K → A → A) → (xs : List (K × A)) → Distinct same xs → Distinct same (each f xs)

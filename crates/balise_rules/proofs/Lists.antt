@@ -4,9 +4,7 @@ use Rattle.std.proofs.lemmas.Bool.{true≢false}
 use Rattle.std.specs.Option.{option_map}
 use Rattle.balise_rules.specs.Tagged.{find, first, behind, next, same_spot, put_behind, put, without, each, Distinct}
 use Rattle.balise_rules.proofs.Tests.{IsTest, split_on, split_keys, apart_from, flip_no}
-
-pub unsome : {A : Type 0} {a b : A} → Some a ≡ Some b → a ≡ b
-unsome e = cc
+use Rattle.balise_rules.proofs.Cases.{unsome}
 
 -- removals commute
 pub without-without : {K A : Type 0} → (same : K → K → Bool) → (p q : K) → (xs : List (K × A)) → without same p (without same q xs) ≡ without same q (without same p xs)

@@ -2,7 +2,8 @@
 use Rattle.std.proofs.Common.{◌≡◌, Bool, false, List, [], ◌∷◌, Option, Some, None, refl, sym, ap, ◌∙◌}
 use Rattle.balise_rules.specs.Tagged.{find, first, behind, same_spot, put, put_before, without, Distinct}
 use Rattle.balise_rules.proofs.Tests.{IsTest, split_on, split_keys}
-use Rattle.balise_rules.proofs.Lists.{unsome, without-absent, behind_found}
+use Rattle.balise_rules.proofs.Lists.{without-absent, behind_found}
+use Rattle.balise_rules.proofs.Cases.{unsome}
 
 pub without-put_same : {K A : Type 0} → {same : K → K → Bool} → IsTest same → (a : Option K) → (z : K × A) → (xs : List (K × A)) → find same z.0 xs ≡ None → without same z.0 (put same a z xs) ≡ xs
 without-put_same {same = same} t None z xs n = let s = t.itself z.0 in simp s (without-absent same z.0 xs n)

@@ -1,7 +1,7 @@
 -- A packet that is spelt is read again, whatever stands behind it; its number is neither 0 nor 255.
 -- From reading again what is spelt, and L_PACKET's place.
 use Rattle.std.proofs.Common.{◌≡◌, ℕ, ◌+◌, ◌≤◌, ◌^◌, Bool, true, false, cond, ltb, eqb, ◌||◌, List, [], ◌++◌, length, take, drop, Ok, Err, refl, sym, ap, ◌∙◌, append_assoc, arith, length-append}
-use Rattle.std.proofs.lemmas.Bool.{le-ltb, ltb-true}
+use Rattle.std.proofs.lemmas.Bool.{le-ltb, ltb-true, or_parts}
 use Rattle.std.proofs.lemmas.List.{take_at, drop_at}
 use Rattle.balise_rules.specs.declared.refusal.Refusal.TheVariants.{PacketCut}
 use Rattle.balise_rules.specs.Bits.{num, bits}
@@ -21,7 +21,7 @@ pub record Front (b : List Bool) : Type 0 where
   pub no_end : eqb number 255 ≡ false
 
 -- packets 0 and 255 have no body
-bodied : (version n : ℕ) (fs : Fields) (rest : List Bool) → Matches (body version n) fs rest → (eqb n 0 || eqb n 255) ≡ false
+pub bodied : (version n : ℕ) (fs : Fields) (rest : List Bool) → Matches (body version n) fs rest → (eqb n 0 || eqb n 255) ≡ false
 unfolding body
 bodied version n fs rest m = at (eqb n 0 || eqb n 255) refl
   where
@@ -29,18 +29,13 @@ bodied version n fs rest m = at (eqb n 0 || eqb n 255) refl
     at false h = h
     at true h = absurd (let k = simp h at m in k)
 
-either : (a b : Bool) → (a || b) ≡ false → (a ≡ false) × (b ≡ false)
-either false false h = (refl, refl)
-either false true h = absurd cc
-either true b h = absurd cc
-
 pub front_of : (version : ℕ) (p : Packet) → IsSpelt version p → Front (bits_of p)
 front_of version p s =
     let b = begins version p.fields p.rest s.form s.numbered in
     let more = spelling b.more ++ p.rest in
     let two = bits 8 b.number ++ bits 2 b.direction in
     let parts : bits_of p ≡ two ++ (bits 13 b.said ++ more) = ap (λ (x : Fields). spelling x ++ p.rest) b.is ∙ three_spelt b.number b.direction b.said b.more p.rest in
-    let n = either (eqb b.number 0) (eqb b.number 255) (bodied version b.number b.more p.rest b.body) in
+    let n = or_parts (eqb b.number 0) (eqb b.number 255) (bodied version b.number b.more p.rest b.body) in
     let one : (behind : List Bool) → bits_of p ++ behind ≡ bits 8 b.number ++ (bits 2 b.direction ++ ((bits 13 b.said ++ more) ++ behind)) =
     λ behind. ap (λ (x : List Bool). x ++ behind) parts ∙ append_assoc two (bits 13 b.said ++ more) behind ∙ append_assoc (bits 8 b.number) (bits 2 b.direction) ((bits 13 b.said ++ more) ++ behind) in
     record {

@@ -1,12 +1,11 @@
 -- A packet's bits have one spelling, and the packet that is read is spelt by the bits in front of those left behind.
 -- From what reading by a form finds; L_PACKET stands 10 bits behind the begin of any packet.
-use Rattle.std.proofs.Common.{◌≡◌, ℕ, ◌+◌, ◌-◌, ◌^◌, ◌≤◌, Bool, true, false, cond, ltb, ◌||◌, List, [], ◌∷◌, ◌++◌, length, take, drop, Option, Some, None, Result, Ok, Err, refl, sym, ap, subst, ◌∙◌, append_assoc, arith, length-append}
+use Rattle.std.proofs.Common.{◌≡◌, ℕ, ◌+◌, ◌-◌, ◌^◌, ◌≤◌, Bool, true, false, cond, ltb, ◌||◌, List, [], ◌∷◌, ◌++◌, length, take, drop, Option, Some, None, Ok, Err, refl, sym, ap, subst, ◌∙◌, append_assoc, arith, length-append}
 use Rattle.std.specs.Prelude.{IsTrue}
 use Rattle.std.proofs.lemmas.Bool.{ltb-false, ltb-true}
 use Rattle.std.proofs.lemmas.List.{take_at, drop_at, take-append-drop, length-take, drop-take, take-take}
 use Rattle.balise_rules.specs.declared.variable.Var.{Var}
 use Rattle.balise_rules.specs.declared.variable.Var.TheVariants.{NidPacket, QDir, LPacket}
-use Rattle.balise_rules.specs.declared.refusal.Refusal.{Refusal}
 use Rattle.balise_rules.specs.declared.refusal.Refusal.TheVariants.{PacketCut}
 use Rattle.balise_rules.specs.Variables.{width_of}
 use Rattle.balise_rules.specs.Bits.{num, bits, fits}
@@ -14,9 +13,9 @@ use Rattle.balise_rules.specs.Tags.{Key}
 use Rattle.balise_rules.specs.Forms.{Fields, Matches, Numbered, count_of, spelling, read_form}
 use Rattle.balise_rules.specs.Packets.{packet, body}
 use Rattle.balise_rules.specs.Packet.{Packet, bits_of, value, Spells, IsSpelt, length_said, is_cut, read_packet, read_body}
-use Rattle.balise_rules.proofs.Lists.{unsome}
 use Rattle.balise_rules.proofs.Numbers.{length-bits, num-bits_fit}
 use Rattle.balise_rules.proofs.Spelt.{read_found, read_again}
+use Rattle.balise_rules.proofs.Cases.{unsome, unok}
 
 packet_from : Fields × List Bool → Packet
 packet_from r = record { fields = r.0; rest = r.1 }
@@ -120,14 +119,11 @@ pub record PacketFound (version : ℕ) (b : List Bool) (r : Packet × List Bool)
   pub spelt : IsSpelt version r.0
   pub parts : b ≡ bits_of r.0 ++ r.1
 
-ok_is : (x y : Packet × List Bool) → ◌≡◌ {A = Result (Packet × List Bool) Refusal} (Ok x) (Ok y) → x ≡ y
-ok_is x y e = cc
-
 found_in : (version : ℕ) (b : List Bool) (r : Packet × List Bool) → Whole b → (o : Option (Fields × List Bool)) → read_form (packet version) [] (take (length_said b) b) ≡ o → read_packet (drop (length_said b) b) o ≡ Ok r → PacketFound version b r
 found_in version b r w None e h = absurd cc
 found_in version b r w (Some q) e h =
     let f = read_found (packet version) [] (take (length_said b) b) q e in
-    let is : (record { fields = q.0; rest = q.1 }, drop (length_said b) b) ≡ r = ok_is (record { fields = q.0; rest = q.1 }, drop (length_said b) b) r h in
+    let is : (record { fields = q.0; rest = q.1 }, drop (length_said b) b) ≡ r = unok h in
     let size : length (take (length_said b) b) ≡ length_said b = omega (arith, length-take (length_said b) b, w.within) in
     let own : take (length_said b) b ≡ spelling q.0 ++ q.1 = f.spelt ∙ ap (λ (x : Fields). spelling x ++ q.1) (sym f.all) in
     let matched = subst (λ (x : Fields). Matches (packet version) x q.1) (sym f.all) f.matched in

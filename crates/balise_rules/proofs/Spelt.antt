@@ -10,6 +10,7 @@ use Rattle.balise_rules.specs.Bits.{num, bits, fits}
 use Rattle.balise_rules.specs.Tags.{Key}
 use Rattle.balise_rules.specs.Forms.{Form, done, shut, never, valued, Fields, Matches, NumberedFrom, count_of, spelling, read_form}
 use Rattle.balise_rules.proofs.Numbers.{length-bits, num-bits_fit, bits-num, num_below}
+use Rattle.balise_rules.proofs.Cases.{unsome}
 
 -- what reading finds: the fields behind those seen before, and the bits behind them
 pub record Found (form : Form) (seen : Fields) (b : List Bool) (r : Fields × List Bool) : Type 0 where
@@ -18,9 +19,6 @@ pub record Found (form : Form) (seen : Fields) (b : List Bool) (r : Fields × Li
   pub matched : Matches form fields r.1
   pub numbered : NumberedFrom seen fields
   pub spelt : b ≡ spelling fields ++ r.1
-
-some_is : (x y : Fields × List Bool) → ◌≡◌ {A = Option (Fields × List Bool)} (Some x) (Some y) → x ≡ y
-some_is x y e = cc
 
 -- a reading that isn't given up goes on
 not_given_up : (b : Bool) (r : Option (Fields × List Bool)) (y : Fields × List Bool) → cond b None r ≡ Some y → (b ≡ false) × (r ≡ Some y)
@@ -38,10 +36,10 @@ spelling-cons f fs rest = append_assoc (bits (width_of f.0.0) f.1) (spelling fs)
 pub read_found : (form : Form) (seen : Fields) (b : List Bool) (r : Fields × List Bool) → read_form form seen b ≡ Some r → Found form seen b r
 unfolding read_form
 read_found done seen b r e =
-    let is : (seen, b) ≡ r = some_is (seen, b) r e in
+    let is : (seen, b) ≡ r = unsome e in
     record { fields = []; all = sym (ap (λ (x : Fields × List Bool). x.0) is) ∙ sym (append-nil seen); matched = tt; numbered = tt; spelt = ap (λ (x : Fields × List Bool). x.1) is ∙ spelling-nil r.1 }
 read_found shut seen [] r e =
-    let is : (seen, []) ≡ r = some_is (seen, []) r e in
+    let is : (seen, []) ≡ r = unsome e in
     record { fields = []; all = sym (ap (λ (x : Fields × List Bool). x.0) is) ∙ sym (append-nil seen); matched = sym (ap (λ (x : Fields × List Bool). x.1) is); numbered = tt; spelt = ap (λ (x : Fields × List Bool). x.1) is ∙ spelling-nil r.1 }
 read_found shut seen (b ∷ bs) r e = absurd cc
 read_found never seen b r e = absurd cc

@@ -17,6 +17,7 @@ use Rattle.balise_rules.specs.Telegram.{header, packets_bits, TaggedFrom, with_m
 use Rattle.balise_rules.proofs.Numbers.{num_injective}
 use Rattle.balise_rules.proofs.Spelt.{read_found}
 use Rattle.balise_rules.proofs.PacketRead.{PacketFound, body_found}
+use Rattle.balise_rules.proofs.Cases.{unok}
 
 -- eight bits of value 255 are ones
 eight_ones : (b : List Bool) → 8 ≤ length b → num (take 8 b) ≡ 255 → take 8 b ≡ ones 8
@@ -32,14 +33,11 @@ pub record PacketsFound (version n : ℕ) (b : List Bool) (r : List (Tag × Pack
 abbrev Packets : Type 0
 Packets = List (Tag × Packet) × List Bool
 
-ok_is : (x y : Packets) → ◌≡◌ {A = Result Packets Refusal} (Ok x) (Ok y) → x ≡ y
-ok_is x y e = cc
-
 with_more_found : (version n : ℕ) (b : List Bool) (p : Packet × List Bool) → PacketFound version b p → (m : Result Packets Refusal) → ((x : Packets) → m ≡ Ok x → PacketsFound version (suc n) p.1 x) → (r : Packets) → with_more (Base n) p.0 m ≡ Ok r → PacketsFound version n b r
 with_more_found version n b p f (Err e) k r h = absurd cc
 with_more_found version n b p f (Ok x) k r h =
     let more = k x refl in
-    let is : ((Base n, p.0) ∷ x.0, x.1) ≡ r = ok_is ((Base n, p.0) ∷ x.0, x.1) r h in
+    let is : ((Base n, p.0) ∷ x.0, x.1) ≡ r = unok h in
     subst (λ (y : Packets). PacketsFound version n b y) is (record {
       tags = (refl, more.tags);
       packets = All-cons (λ (q : Tag × Packet). IsSpelt version q.1) (Base n, p.0) x.0 f.spelt more.packets;
@@ -53,7 +51,7 @@ and_more_found version n b (Ok p) is rest k r h = with_more_found version n b p 
 packets_step : (version n : ℕ) (b : List Bool) (more : Result Packets Refusal) → ((r : Packets) → more ≡ Ok r → PacketsFound version n b r) → (r : Packets) → (short end nil : Bool) → ltb (length b) 8 ≡ short → eqb (num (take 8 b)) 255 ≡ end → cond short (Err NoEnd) (cond end (Ok ([], drop 8 b)) (cond nil (Err PacketZero) more)) ≡ Ok r → PacketsFound version n b r
 packets_step version n b more k r true end nil s e h = absurd cc
 packets_step version n b more k r false true nil s e h =
-    let is : ([], drop 8 b) ≡ r = ok_is ([], drop 8 b) r h in
+    let is : ([], drop 8 b) ≡ r = unok h in
     let eight = eight_ones b (ltb-false (length b) 8 s) (eqb-true (num (take 8 b)) 255 e) in
     subst (λ (y : Packets). PacketsFound version n b y) is (record { tags = tt; packets = All-nil (λ (q : Tag × Packet). IsSpelt version q.1); parts = sym (take-append-drop 8 b) ∙ ap (λ (x : List Bool). x ++ drop 8 b) eight })
 packets_step version n b more k r false false true s e h = absurd cc

@@ -12,14 +12,12 @@ use Rattle.balise_rules.specs.Forms.{spelling}
 use Rattle.balise_rules.specs.Packet.{Packet, bits_of, value}
 use Rattle.balise_rules.specs.Telegram.{Telegram, is_balise, used, packets_bits, IsLength, IsRead, read_packets, read_header, with_header, read_telegram}
 use Rattle.balise_rules.proofs.TelegramRead.{packets_found, header_found}
+use Rattle.balise_rules.proofs.Cases.{unok}
 
 -- header and packet 255 take 58 bits
 pub used_is : (ps : List (Tag × Packet)) → length (packets_bits ps) + 58 ≡ used ps
 used_is [] = refl
 used_is (p ∷ ps) = omega (arith, length-append (bits_of p.1) (packets_bits ps), used_is ps)
-
-ok_is : (x y : Telegram) → ◌≡◌ {A = Result Telegram Refusal} (Ok x) (Ok y) → x ≡ y
-ok_is x y e = cc
 
 length_is : (n : ℕ) → (eqb n 210 || eqb n 830) ≡ true → IsLength n
 length_is n h = at (eqb n 210) (eqb n 830) refl refl h
@@ -63,7 +61,7 @@ telegram_read b y e = sized (eqb (length b) 210 || eqb (length b) 830) refl e
   where
     at_end : IsLength (length b) → is_balise (read_header b) ≡ true → (r : Result (List (Tag × Packet) × List Bool) Refusal) → read_packets (length b) (value MVersion 0 (read_header b)) 0 (drop 50 b) ≡ r → with_header (read_header b) r ≡ Ok y → IsRead b y
     at_end size balise (Err x) h e = absurd cc
-    at_end size balise (Ok r) h e = subst (λ (x : Telegram). IsRead b x) (ok_is (record { head = read_header b; packets = r.0; padding = ones (used r.0) ++ r.1 }) y e) (made_of b size balise r h)
+    at_end size balise (Ok r) h e = subst (λ (x : Telegram). IsRead b x) (unok e) (made_of b size balise r h)
 
     headed : IsLength (length b) → (c : Bool) → is_balise (read_header b) ≡ c → cond (not c) (Err NotABalise) (with_header (read_header b) (read_packets (length b) (value MVersion 0 (read_header b)) 0 (drop 50 b))) ≡ Ok y → IsRead b y
     headed size true h e = at_end size h (read_packets (length b) (value MVersion 0 (read_header b)) 0 (drop 50 b)) refl e

@@ -33,6 +33,10 @@ flip_yes {same = same} t a b e = ap (λ x. same b x) (t.one a b e) ∙ t.itself 
 pub flip_no : {K : Type 0} {same : K → K → Bool} → IsTest same → (a b : K) → same a b ≡ false → same b a ≡ false
 flip_no {same = same} t a b n = split_on (same b a) (λ e. absurd (true≢false (sym (flip_yes t b a e) ∙ n))) (λ e. e)
 
+-- two that are one with a third
+pub both_one : {K : Type 0} {same : K → K → Bool} → IsTest same → (a b c : K) → same b a ≡ true → same c a ≡ true → same c b ≡ true
+both_one {same = same} t a b c h k = ap (same c) (t.one b a h) ∙ k
+
 pub spot_itself : {K : Type 0} {same : K → K → Bool} → IsTest same → (a : Option K) → same_spot same a a ≡ true
 spot_itself t None = refl
 spot_itself t (Some a) = t.itself a

@@ -17,17 +17,19 @@ use Rattle.balise_rules.specs.Doing.{done}
 use Rattle.balise_rules.specs.Accepting.{Stands, AcceptedIn, AcceptedAt, Accepted, Unused}
 use Rattle.balise_rules.specs.Paths.{Whose, Path, meet, changes, needs}
 use Rattle.balise_rules.proofs.Tests.{split_on, tag_test, nat_test}
+use Rattle.balise_rules.proofs.Each.{each-each}
+use Rattle.balise_rules.proofs.Anchors.{anchor-other, stands-put}
+use Rattle.balise_rules.proofs.Found.{place_is}
+use Rattle.balise_rules.proofs.Used.{used-put_there}
 use Rattle.balise_strike_laws.proofs.Headers.{country-kept}
-use Rattle.balise_strike_laws.proofs.Changes.{each-each}
 use Rattle.balise_strike_laws.proofs.Neighbours.{Accepts}
 use Rattle.balise_strike_laws.proofs.Levels.{keep}
 use Rattle.balise_strike_laws.proofs.Places.{In}
 use Rattle.balise_strike_laws.proofs.Facts.{Facts}
-use Rattle.balise_strike_laws.proofs.Locals.{asks-at, at-asks, noted-at, telegram-done, here_is}
-use Rattle.balise_strike_laws.proofs.Rooms.{used-put}
+use Rattle.balise_strike_laws.proofs.Locals.{asks-at, at-asks, noted-at, telegram-done}
 use Rattle.balise_strike_laws.proofs.Identities.{no-group-back, no-group-forward}
 use Rattle.balise_strike_laws.proofs.GroupReaders.{added_real}
-use Rattle.balise_strike_laws.proofs.PutIn.{put-put_in, anchor-other, stands-put, MovesBehind, moves-behind}
+use Rattle.balise_strike_laws.proofs.PutIn.{put-put_in, MovesBehind, moves-behind}
 
 -- h before e is as f after e
 pub record Behind (e f h : Item) (plan : Plan) : Type 0 where
@@ -64,7 +66,7 @@ packets-same : (g : Tag) → (t : ℕ) → (a b c d : Change Tag Packet) → (pl
     changed same_tag (cond (same_tag g g2 && eqb t t2) a keep) (changed same_tag (cond (same_tag g g2 && eqb t t2) b keep) y.packets) ≡
     changed same_tag (cond (same_tag g g2 && eqb t t2) c keep) (changed same_tag (cond (same_tag g g2 && eqb t t2) d keep) y.packets)
 packets-same g t a b c d plan h g2 t2 y q = split_on (same_tag g g2 && eqb t t2)
-    (λ e. simp e (h y (here_is g2 t2 g t plan e ∙ q)))
+    (λ e. simp e (h y (place_is g g2 t t2 plan e ∙ q)))
     (λ e. simp e)
 
 -- an insertion behind an inserted packet
@@ -89,7 +91,7 @@ module _ (s0 : ℕ) (g : Tag) (t : ℕ) (a : Option Tag) (x : Packet) (s1 : ℕ)
       let qh = telegram-done (s1, InsertPacket g t a x1) (noted (InsertPacket g t a x1) plan).own g t plan s tt ∙ ap (option_map (telegram_after (s1, InsertPacket g t a x1) (noted (InsertPacket g t a x1) plan).own g t)) w.1 in
       let k = subst (AcceptedAt (InsertPacket g t (Some (Fresh s0)) x1)) qe af.1 in
       let fits : used (put same_tag a (Fresh s0, x) w.0.packets) + width x1 ≤ length w.0.padding = fits-here g t (Put a (Fresh s0, x)) w.0.packets (width x1) (length w.0.padding) k.1 in
-      let o0 = used-put a (Fresh s0, x) w.0.packets w.2.0 in let o1 = used-put a (Fresh s1, x1) w.0.packets w.2.0 in
+      let o0 = used-put_there a (Fresh s0, x) w.0.packets w.2.0 in let o1 = used-put_there a (Fresh s1, x1) w.0.packets w.2.0 in
       let l = w.2.1 in
       let n1 = anchor-other a (Fresh s1) w.0.packets w.2.0 (u1.packets g t w.0 w.1) in
       let r1 : used w.0.packets + width x1 ≤ length w.0.padding = omega arith in

@@ -23,7 +23,7 @@ use Rattle.balise_rules.specs.Paths.{apart}
 use Rattle.balise_rules.specs.Behind.{becomes}
 use Rattle.balise_rules.specs.Session.{entries, first_dependent}
 use Rattle.balise_rules.specs.Examples.{plan_of, read_groups, word}
-use Rattle.balise_rules.proofs.Lists.{unsome}
+use Rattle.balise_rules.proofs.Cases.{unsome}
 use Rattle.balise_edit_laws.specs.TakenBack.{IsReady}
 use Rattle.balise_edit_laws.specs.Along.{AllUnused}
 use Rattle.balise_edit_laws.proofs.Refusing.{refused_exactly}

@@ -11,7 +11,7 @@ use Rattle.balise_rules.specs.Accepting.{Accepted, Spelt}
 use Rattle.balise_rules.specs.Paths.{apart}
 use Rattle.balise_rules.specs.Behind.{stands_behind, re_anchored, anchored, anchor_of, becomes}
 use Rattle.balise_rules.proofs.Tests.{split_on}
-use Rattle.balise_rules.proofs.Lists.{unsome}
+use Rattle.balise_rules.proofs.Cases.{unsome}
 use Rattle.balise_edit_laws.specs.TakenBack.{IsReady}
 use Rattle.balise_edit_laws.proofs.SpeltKept.{spelt_after, spelt_before}
 use Rattle.balise_strike_laws.specs.Laws.{InTurn}

@@ -1,10 +1,10 @@
 -- Fields: two changes of the fields of one packet commute where they are apart.
--- Proves that no edit changes a country, so that an element keeps what it names unless it is renamed, and that the new value of a field is the same in both orders.
+-- Proves that what an element names stays unless it is renamed, and that the new value of a field is the same in both orders.
 -- From the laws of tagged lists, and number facts over plain variables.
-use Rattle.std.proofs.Common.{◌≡◌, ℕ, ◌-◌, Bool, true, false, cond, ◌&&◌, eqb, List, [], ◌∷◌, Some, refl, sym, ap, ◌∙◌, arith}
-use Rattle.std.proofs.lemmas.Bool.{eqb-true, and_parts, and_left, and_right, both_ways}
+use Rattle.std.proofs.Common.{◌≡◌, ℕ, ◌-◌, Bool, true, false, cond, ◌&&◌, eqb, Some, refl, sym, ap, ◌∙◌, arith}
+use Rattle.std.proofs.lemmas.Bool.{eqb-true, and_parts, both_ways}
 use Rattle.std.proofs.lemmas.Bool.Decides.{nat_tests}
-use Rattle.std.specs.Option.{option_map, unwrap_or}
+use Rattle.std.specs.Option.{option_map}
 use Rattle.balise_rules.specs.declared.tag.Tag.{Tag}
 use Rattle.balise_rules.specs.declared.identity.Id.{Id}
 use Rattle.balise_rules.specs.declared.variable.Var.{Var}
@@ -14,10 +14,14 @@ use Rattle.balise_rules.specs.Tags.{same_tag, same_id, same_var, same_key, Key, 
 use Rattle.balise_rules.specs.Forms.{Fields}
 use Rattle.balise_rules.specs.Packet.{value}
 use Rattle.balise_rules.specs.Names.{country_at, calls, is_it}
-use Rattle.balise_rules.specs.Edits.{Edit, SetVar, SetHead, InsertPacket, DeletePacket, MovePacket, AddGroup, DropGroup, Renumber, TurnGroup, exchanged, field_after}
-use Rattle.balise_rules.proofs.Tests.{split_on, flip_no, flip_yes, tag_test, var_test, key_test, nat_test}
+use Rattle.balise_rules.specs.Edits.{Edit, SetVar, Renumber, TurnGroup, exchanged, field_after}
+use Rattle.balise_rules.proofs.Tests.{split_on, flip_yes, tag_test, var_test, key_test, nat_test, both_one}
 use Rattle.balise_rules.proofs.Lists.{find-each}
-use Rattle.balise_strike_laws.proofs.Cases.{found, parts4, both_set, both_one}
+use Rattle.balise_rules.proofs.Cases.{found, parts4}
+use Rattle.balise_rules.proofs.Each.{each-id}
+use Rattle.balise_rules.proofs.Keys.{not_other}
+use Rattle.balise_rules.proofs.Untouched.{KeepsFields, country_untouched}
+use Rattle.balise_strike_laws.proofs.Cases.{both_set}
 
 -- two renumberings of one number
 pub ren-ren : (c v a0 a1 x b0 b1 y : ℕ) → (eqb a0 b0 && eqb a1 b1) ≡ false → (eqb a0 b0 && eqb x b1) ≡ false → (eqb b0 a0 && eqb y a1) ≡ false →
@@ -42,61 +46,12 @@ swap-swap true false v = refl
 swap-swap false true v = refl
 swap-swap false false v = refl
 
--- what no edit changes: NidC, so an element keeps its country
-abbrev pub Steady : Edit → Type 0
-Steady (SetVar g t p v k x) = same_var NidC v ≡ false
-Steady e = Unit {0}
-
-pub each-id : {K A : Type 0} → (xs : List (K × A)) → each (λ t x. x) xs ≡ xs
-each-id [] = refl
-each-id (y ∷ ys) = ap (λ l. y ∷ l) (each-id ys)
-
 -- an identity of a country and a number
 abbrev pub identity : ℕ → ℕ → Id
 identity c n = record { country = c; number = n }
 
-pub country-each : (h : Key → ℕ → ℕ) → ((key : Key) → (v : ℕ) → is_of NidC key ≡ true → h key v ≡ v) → (c k : ℕ) → (fs : Fields) →
-    country_at c k (each h fs) ≡ country_at c k fs
-country-each h s c k [] = refl
-country-each h s c k (y ∷ ys) =
-    split_on (is_of NidC y.0)
-    (λ e. simp (e, s y.0 y.1 e) (country-each h s y.1 k ys))
-    (λ e. split_on (same_key (NidBg, k) y.0) (λ d. simp (e, d)) (λ d. simp (e, d) (country-each h s c k ys)))
-
-pub of_is : (v : Var) → (key : Key) → is_of v key ≡ true → key ≡ (v, key.1)
-of_is v key e = ap (λ (x : Var). (x, key.1)) (sym (var_test.one v key.0 e))
-
--- a field of one variable isn't one of another
-pub other_key : (v w : Var) → (k : ℕ) → (key : Key) → same_var v w ≡ false → is_of v key ≡ true → same_key (w, k) key ≡ false
-other_key v w k key n e = and_left (same_var w key.0) (eqb k key.1) (ap (same_var w) (sym (var_test.one v key.0 e)) ∙ flip_no var_test v w n)
-
-pub not_other : (v w : Var) → (key : Key) → same_var v w ≡ false → is_of v key ≡ true → is_of w key ≡ false
-not_other v w key n e = ap (same_var w) (sym (var_test.one v key.0 e)) ∙ flip_no var_test v w n
-
-pub steady : (e : Edit) → Steady e → (i : Id) → (g : Tag) → (t c : ℕ) → (p : Tag) → (fs : Fields) → (key : Key) → (v : ℕ) → is_of NidC key ≡ true →
-    field_after e i g t c p fs key v ≡ v
-steady (SetVar g0 t0 p0 v0 k0 x) s i g t c p fs key v e =
-    let n = other_key NidC v0 k0 key s e in
-    let m : (same_tag g0 g && (eqb t0 t && (same_tag p0 p && same_key (v0, k0) key))) ≡ false = and_right (same_tag g0 g) _ (and_right (eqb t0 t) _ (and_right (same_tag p0 p) _ n)) in
-    simp m
-steady (Renumber g0 x) s i g t c p fs key v e = let n = not_other NidC NidBg key refl e in simp n
-steady (TurnGroup g0) s i g t c p fs key v e = let n = not_other NidC QLinkorientation key refl e in let m = not_other NidC QDir key refl e in simp (n, m)
-steady (SetHead g0 t0 v0 x) s i g t c p fs key v e = refl
-steady (InsertPacket g0 t0 a x) s i g t c p fs key v e = refl
-steady (DeletePacket g0 t0 p0) s i g t c p fs key v e = refl
-steady (MovePacket g0 t0 p0 a) s i g t c p fs key v e = refl
-steady (AddGroup a bs) s i g t c p fs key v e = refl
-steady (DropGroup g0) s i g t c p fs key v e = refl
-
-pub country-after : (e : Edit) → Steady e → (i : Id) → (g : Tag) → (t c : ℕ) → (p : Tag) → (k : ℕ) → (fs : Fields) →
-    country_at c k (each (field_after e i g t c p fs) fs) ≡ country_at c k fs
-country-after e s i g t c p k fs = country-each (field_after e i g t c p fs) (steady e s i g t c p fs) c k fs
-
 pub find-fields : (h : Key → ℕ → ℕ) → (v : Var) → (k : ℕ) → (fs : Fields) → find same_key (v, k) (each h fs) ≡ option_map (h (v, k)) (find same_key (v, k) fs)
 find-fields h v k fs = find-each key_test h (v, k) fs
-
-pub value-each : (h : Key → ℕ → ℕ) → (v : Var) → (k : ℕ) → (fs : Fields) → value v k (each h fs) ≡ unwrap_or (option_map (h (v, k)) (find same_key (v, k) fs)) 0
-value-each h v k fs = ap (λ o. unwrap_or o 0) (find-fields h v k fs)
 
 -- what has to be apart for two changes of the fields of one packet
 abbrev pub FieldApart : Edit → Id → Edit → Id → Tag → ℕ → ℕ → Tag → Fields → Type 0
@@ -126,13 +81,13 @@ pub named-ren : (g0 : Tag) → (x : ℕ) → (i j : Id) → (g : Tag) → (t c :
     same_id (identity i.country x) j ≡ false →
     calls c k (each (field_after (Renumber g0 x) i g t c p fs) fs) j ≡ calls c k fs j
 named-ren g0 x i j g t c p k fs n m =
-    rw (country-after (Renumber g0 x) tt i g t c p k fs, find-each key_test (field_after (Renumber g0 x) i g t c p fs) (NidBg, k) fs)
+    rw (country_untouched (Renumber g0 x) refl i g t c p k fs, find-each key_test (field_after (Renumber g0 x) i g t c p fs) (NidBg, k) fs)
     (found (find same_key (NidBg, k) fs) (λ e. simp e) (λ v e. simp e (ren-other (country_at c k fs) v i.country i.number x j.country j.number n m)))
 
 pub named-turn : (g0 : Tag) → (i j : Id) → (g : Tag) → (t c : ℕ) → (p : Tag) → (k : ℕ) → (fs : Fields) →
     calls c k (each (field_after (TurnGroup g0) i g t c p fs) fs) j ≡ calls c k fs j
 named-turn g0 i j g t c p k fs =
-    rw (country-after (TurnGroup g0) tt i g t c p k fs, find-each key_test (field_after (TurnGroup g0) i g t c p fs) (NidBg, k) fs)
+    rw (country_untouched (TurnGroup g0) (refl, refl) i g t c p k fs, find-each key_test (field_after (TurnGroup g0) i g t c p fs) (NidBg, k) fs)
     (found (find same_key (NidBg, k) fs) (λ e. simp e) (λ v e. simp e))
 
 pub at_key : (g g0 : Tag) → (t t0 : ℕ) → (p p0 : Tag) → (key : Key) → (v0 : Var) → (k0 : ℕ) →
@@ -142,12 +97,12 @@ at_key g g0 t t0 p p0 key v0 k0 h =
     let e0 = a.0 in let e1 = a.1 in let e2 = a.2 in
     (simp (e0, e1, e2), key_test.one (v0, k0) key a.3)
 
-pub named-set : (g0 : Tag) → (t0 : ℕ) → (p0 : Tag) → (v0 : Var) → (k0 x : ℕ) → same_var NidC v0 ≡ false → (i j : Id) → (g : Tag) → (t c : ℕ) → (p : Tag) → (k : ℕ) →
+pub named-set : (g0 : Tag) → (t0 : ℕ) → (p0 : Tag) → (v0 : Var) → (k0 x : ℕ) → same_var v0 NidC ≡ false → (i j : Id) → (g : Tag) → (t c : ℕ) → (p : Tag) → (k : ℕ) →
     (fs : Fields) →
     ((same_tag g0 g && (eqb t0 t && same_tag p0 p)) ≡ true → same_var NidBg v0 ≡ true → (same_id (identity (country_at c k0 fs) x) j ≡ false) × (calls c k0 fs j ≡ false)) →
     calls c k (each (field_after (SetVar g0 t0 p0 v0 k0 x) i g t c p fs) fs) j ≡ calls c k fs j
 named-set g0 t0 p0 v0 k0 x s i j g t c p k fs n =
-    rw (country-after (SetVar g0 t0 p0 v0 k0 x) s i g t c p k fs, find-each key_test (field_after (SetVar g0 t0 p0 v0 k0 x) i g t c p fs) (NidBg, k) fs)
+    rw (country_untouched (SetVar g0 t0 p0 v0 k0 x) s i g t c p k fs, find-each key_test (field_after (SetVar g0 t0 p0 v0 k0 x) i g t c p fs) (NidBg, k) fs)
     (found (find same_key (NidBg, k) fs) (λ e. simp e)
     (λ v e. split_on (same_tag g0 g && (eqb t0 t && (same_tag p0 p && same_key (v0, k0) (NidBg, k))))
     (λ a. hit v e a) (λ a. simp (e, a))))
@@ -163,19 +118,19 @@ named-set g0 t0 p0 v0 k0 x s i j g t c p k fs n =
         let w1 : calls c k fs j ≡ false = rw z at w.1 in
         simp (e, a) (w0 ∙ sym (rw e at w1))
 
-pub set-ren : (g0 : Tag) → (t0 : ℕ) → (p0 : Tag) → (v0 : Var) → (k0 x : ℕ) → same_var NidC v0 ≡ false → (g1 : Tag) → (y : ℕ) → (i j : Id) → (g : Tag) → (t c : ℕ) →
+pub set-ren : (g0 : Tag) → (t0 : ℕ) → (p0 : Tag) → (v0 : Var) → (k0 x : ℕ) → same_var v0 NidC ≡ false → (g1 : Tag) → (y : ℕ) → (i j : Id) → (g : Tag) → (t c : ℕ) →
     (p : Tag) → (fs : Fields) →
     FieldApart (SetVar g0 t0 p0 v0 k0 x) i (Renumber g1 y) j g t c p fs → (key : Key) → (v : ℕ) →
     field_after (SetVar g0 t0 p0 v0 k0 x) i g t c p (each (field_after (Renumber g1 y) j g t c p fs) fs) key (field_after (Renumber g1 y) j g t c p fs key v) ≡
     field_after (Renumber g1 y) j g t c p (each (field_after (SetVar g0 t0 p0 v0 k0 x) i g t c p fs) fs) key (field_after (SetVar g0 t0 p0 v0 k0 x) i g t c p fs key v)
 set-ren g0 t0 p0 v0 k0 x s g1 y i j g t c p fs n key v =
-    rw (country-after (SetVar g0 t0 p0 v0 k0 x) s i g t c p key.1 fs)
+    rw (country_untouched (SetVar g0 t0 p0 v0 k0 x) s i g t c p key.1 fs)
     (split_on (same_tag g0 g && (eqb t0 t && (same_tag p0 p && same_key (v0, k0) key)))
     (λ a. let q = at_key g g0 t t0 p p0 key v0 k0 a in simp a (sym (rw (← q.1) (split_on (same_var NidBg v0)
     (λ e. let w = n q.0 e in simp (e, w)) (λ e. simp e)))))
     (λ a. simp a))
 
-pub set-turn : (g0 : Tag) → (t0 : ℕ) → (p0 : Tag) → (v0 : Var) → (k0 x : ℕ) → same_var NidC v0 ≡ false → (g1 : Tag) → (i j : Id) → (g : Tag) → (t c : ℕ) → (p : Tag) →
+pub set-turn : (g0 : Tag) → (t0 : ℕ) → (p0 : Tag) → (v0 : Var) → (k0 x : ℕ) → same_var v0 NidC ≡ false → (g1 : Tag) → (i j : Id) → (g : Tag) → (t c : ℕ) → (p : Tag) →
     (fs : Fields) →
     FieldApart (SetVar g0 t0 p0 v0 k0 x) i (TurnGroup g1) j g t c p fs → (key : Key) → (v : ℕ) →
     field_after (SetVar g0 t0 p0 v0 k0 x) i g t c p (each (field_after (TurnGroup g1) j g t c p fs) fs) key (field_after (TurnGroup g1) j g t c p fs key v) ≡
@@ -198,13 +153,13 @@ pub ren-turn : (g0 : Tag) → (x : ℕ) → (g1 : Tag) → (i j : Id) → (g : T
     field_after (Renumber g0 x) i g t c p (each (field_after (TurnGroup g1) j g t c p fs) fs) key (field_after (TurnGroup g1) j g t c p fs key v) ≡
     field_after (TurnGroup g1) j g t c p (each (field_after (Renumber g0 x) i g t c p fs) fs) key (field_after (Renumber g0 x) i g t c p fs key v)
 ren-turn g0 x g1 i j g t c p fs n key v =
-    rw (named-ren g0 x i j g t c p key.1 fs n.0 n.1, country-after (TurnGroup g1) tt j g t c p key.1 fs)
+    rw (named-ren g0 x i j g t c p key.1 fs n.0 n.1, country_untouched (TurnGroup g1) (refl, refl) j g t c p key.1 fs)
     (split_on (is_of NidBg key)
     (λ e. let d = not_other NidBg QLinkorientation key refl e in let u = not_other NidBg QDir key refl e in simp (e, d, u))
     (λ e. simp e))
 
 -- the new value of a field is the same in both orders
-pub field_commute : (e : Edit) → (i : Id) → (f : Edit) → (j : Id) → Steady e → Steady f → (g : Tag) → (t c : ℕ) → (p : Tag) → (fs : Fields) →
+pub field_commute : (e : Edit) → (i : Id) → (f : Edit) → (j : Id) → KeepsFields e NidC → KeepsFields f NidC → (g : Tag) → (t c : ℕ) → (p : Tag) → (fs : Fields) →
     FieldApart e i f j g t c p fs → (key : Key) → (v : ℕ) →
     field_after e i g t c p (each (field_after f j g t c p fs) fs) key (field_after f j g t c p fs key v) ≡
     field_after f j g t c p (each (field_after e i g t c p fs) fs) key (field_after e i g t c p fs key v)
@@ -216,7 +171,7 @@ field_commute (Renumber g1 y) j (SetVar g0 t0 p0 v0 k0 x) i r s g t c p fs n key
 field_commute (SetVar g0 t0 p0 v0 k0 x) i (TurnGroup g1) j s r g t c p fs n key v = set-turn g0 t0 p0 v0 k0 x s g1 i j g t c p fs n key v
 field_commute (TurnGroup g1) j (SetVar g0 t0 p0 v0 k0 x) i r s g t c p fs n key v = sym (set-turn g0 t0 p0 v0 k0 x s g1 i j g t c p fs n key v)
 field_commute (Renumber g0 x) i (Renumber g1 y) j s r g t c p fs n key v =
-    rw (country-after (Renumber g0 x) tt i g t c p key.1 fs, country-after (Renumber g1 y) tt j g t c p key.1 fs)
+    rw (country_untouched (Renumber g0 x) refl i g t c p key.1 fs, country_untouched (Renumber g1 y) refl j g t c p key.1 fs)
     (split_on (is_of NidBg key)
     (λ e. simp e (ren-ren (country_at c key.1 fs) v i.country i.number x j.country j.number y n.0 n.1 n.2))
     (λ e. simp e))

@@ -1,30 +1,30 @@
 -- The edits of groups, read before and after any edit.
 -- Proves, for each of them, that it is accepted and notes the same, forward and back.
 -- From the list of groups, the group itself, and the identities that it has and names.
-use Rattle.std.proofs.Common.{◌≡◌, ℕ, ◌-◌, Bool, true, false, ◌&&◌, eqb, List, [], ◌∷◌, ◌++◌, length, Option, Some, None, refl, sym, ap, subst, ◌∙◌}
+use Rattle.std.proofs.Common.{◌≡◌, ℕ, ◌-◌, Bool, true, false, List, [], ◌∷◌, ◌++◌, Option, Some, None, refl, sym, ap, subst, ◌∙◌}
 use Rattle.std.proofs.lemmas.Bool.{false≢true}
 use Rattle.balise_rules.specs.declared.tag.Tag.{Tag}
 use Rattle.balise_rules.specs.declared.tag.Tag.TheVariants.{Fresh}
 use Rattle.balise_rules.specs.declared.identity.Id.{Id}
 use Rattle.balise_rules.specs.Tagged.{find, behind, Put, Take}
 use Rattle.balise_rules.specs.Tags.{same_tag}
-use Rattle.balise_rules.specs.Plan.{Group, Plan, reserved, identity_of}
+use Rattle.balise_rules.specs.Plan.{Group, Plan, identity_of}
 use Rattle.balise_rules.specs.Names.{is_real, names_in}
 use Rattle.balise_rules.specs.Edits.{Item, SetVar, SetHead, InsertPacket, DeletePacket, MovePacket, AddGroup, DropGroup, Renumber, TurnGroup, group_of, group_after, groups_change, telegram_after}
 use Rattle.balise_rules.specs.Notes.{Note, nothing, note_group, note_drop, noted}
 use Rattle.balise_rules.specs.Doing.{done}
 use Rattle.balise_rules.specs.Accepting.{NoName, NoGroup, Asks, Accepted, Unused}
 use Rattle.balise_rules.specs.Paths.{At, After, Front, Turn, Name, Whose, Path, meet, anchor, neighbour, changes, needs}
-use Rattle.balise_rules.proofs.Tests.{split_on}
+use Rattle.balise_rules.proofs.Each.{each-same}
+use Rattle.balise_rules.proofs.Names.{real_number}
+use Rattle.balise_edit_laws.proofs.GroupsRead.{group_read}
 use Rattle.balise_strike_laws.proofs.Fields.{identity}
 use Rattle.balise_strike_laws.proofs.Neighbours.{noted_change, Free, takes, takes_out, Leaves, stands-kept, stood, noted-forward, noted-back}
 use Rattle.balise_strike_laws.proofs.Levels.{Inner}
 use Rattle.balise_strike_laws.proofs.Places.{In, first_of, later_of, in-ids, Clear, clear-longer, Reads, front_apart}
-use Rattle.std.specs.Prelude.{nat_le, Result, Ok, Err}
-use Rattle.balise_rules.specs.declared.refusal.Refusal.{Refusal}
-use Rattle.balise_rules.specs.Plan.{checked_group, agree_from, read_telegrams, read_group}
+use Rattle.std.specs.Prelude.{Ok}
+use Rattle.balise_rules.specs.Plan.{read_group}
 use Rattle.balise_strike_laws.proofs.Facts.{Facts}
-use Rattle.balise_strike_laws.proofs.Named.{each-same, real_number}
 use Rattle.balise_strike_laws.proofs.Writers.{flip_side}
 use Rattle.balise_strike_laws.proofs.Kept.{Unnamed}
 use Rattle.balise_strike_laws.proofs.Locals.{telegram-id, real-own}
@@ -33,20 +33,8 @@ use Rattle.balise_strike_laws.proofs.Identities.{no-name-forward, no-name-back, 
 use Rattle.balise_strike_laws.proofs.Wholes.{group-same-names, group-same-after}
 
 -- no group that is added has 16383
-checked_real : (r : Result Group Refusal) → (ys : Group) → checked_group r ≡ Ok ys → is_real (identity_of ys) ≡ true
-checked_real (Err r) ys e = absurd (cc)
-checked_real (Ok zs) ys e =
-    split_on (agree_from (identity_of zs) (length zs - 1) 0 zs)
-    (λ a. split_on (eqb (identity_of zs).number reserved)
-    (λ d. absurd (let k = simp (a, d) at e in cc))
-    (λ d. let k : Ok zs ≡ Ok ys = simp (a, d) at e in let q : zs ≡ ys = cc in ap (λ (u : Group). is_real (identity_of u)) (sym q) ∙ simp d))
-    (λ a. absurd (let k = simp a at e in cc))
-
 pub added_real : (bs : List (List Bool)) → read_group bs ≡ Ok (group_of bs) → is_real (identity_of (group_of bs)) ≡ true
-unfolding read_group
-added_real bs e = split_on (nat_le 1 (length bs) && nat_le (length bs) 8)
-    (λ a. checked_real (read_telegrams 0 bs) (group_of bs) (simp a at e))
-    (λ a. absurd (let k = simp a at e in cc))
+added_real bs e = real_number (identity_of (group_of bs)) (group_read bs (group_of bs) e).sound.number
 
 -- the list of groups
 pub groups-free : (f : Item) → (m : Note) → (j : Id) → (c : Option Tag) → Clear (f, m) (anchor c ∷ After ∷ []) → Free (groups_change f j) c
@@ -189,8 +177,8 @@ module _ (f : Item) (plan : Plan) (s : Facts plan) (b : Accepted f.1 plan) where
             (
               group_after f m1.own g a.1.0,
               k.0,
-              subst (λ u. NoGroup (identity u.country x) (done f plan)) (sym k.1) (no-group-forward plan s f b un (identity (identity_of a.1.0).country x) (real_number (identity_of a.1.0).country x a.0.1) cl a.1.2),
-              subst (λ u. NoName (identity u.country x) (done f plan)) (sym k.1) (no-name-forward plan s f b un (identity (identity_of a.1.0).country x) (real_number (identity_of a.1.0).country x a.0.1) cl a.1.3),
+              subst (λ u. NoGroup (identity u.country x) (done f plan)) (sym k.1) (no-group-forward plan s f b un (identity (identity_of a.1.0).country x) (real_number (identity (identity_of a.1.0).country x) a.0.1) cl a.1.2),
+              subst (λ u. NoName (identity u.country x) (done f plan)) (sym k.1) (no-name-forward plan s f b un (identity (identity_of a.1.0).country x) (real_number (identity (identity_of a.1.0).country x) a.0.1) cl a.1.3),
             ),
           ),
           ap note_group k.0 ∙ ap (λ u. record nothing { old = u.number; own = u }) k.1 ∙ sym n,
@@ -210,8 +198,8 @@ module _ (f : Item) (plan : Plan) (s : Facts plan) (b : Accepted f.1 plan) where
             (
               k.0,
               k.1,
-              subst (λ u. NoGroup (identity u.country x) plan) k.3 (no-group-back plan s f b un (identity (identity_of a.1.0).country x) (real_number (identity_of a.1.0).country x a.0.1) cl a.1.2),
-              subst (λ u. NoName (identity u.country x) plan) k.3 (no-name-back plan s f b un (identity (identity_of a.1.0).country x) (real_number (identity_of a.1.0).country x a.0.1) cl a.1.3),
+              subst (λ u. NoGroup (identity u.country x) plan) k.3 (no-group-back plan s f b un (identity (identity_of a.1.0).country x) (real_number (identity (identity_of a.1.0).country x) a.0.1) cl a.1.2),
+              subst (λ u. NoName (identity u.country x) plan) k.3 (no-name-back plan s f b un (identity (identity_of a.1.0).country x) (real_number (identity (identity_of a.1.0).country x) a.0.1) cl a.1.3),
             ),
           ),
           ap note_group k.1 ∙ ap (λ u. record nothing { old = u.number; own = u }) (sym k.3) ∙ sym n,

@@ -19,13 +19,14 @@ use Rattle.balise_rules.specs.Doing.{done}
 use Rattle.balise_rules.specs.Accepting.{Lawful, Accepted}
 use Rattle.balise_rules.specs.Paths.{Part, At, Turn, Whose, changes}
 use Rattle.balise_rules.proofs.Tests.{split_on, flip_no, tag_test, nat_test, var_test, id_test}
-use Rattle.balise_strike_laws.proofs.Cases.{found, some_is, drop1}
-use Rattle.balise_strike_laws.proofs.Fields.{identity, value-each}
-use Rattle.balise_strike_laws.proofs.Headers.{value-kept, country-kept}
-use Rattle.balise_strike_laws.proofs.Levels.{each-reverse}
+use Rattle.balise_rules.proofs.Cases.{found, some_is}
+use Rattle.balise_rules.proofs.Reversed.{each-reverse, find-reverse}
+use Rattle.balise_rules.proofs.Values.{value-each, value_kept}
+use Rattle.balise_strike_laws.proofs.Cases.{drop1}
+use Rattle.balise_strike_laws.proofs.Fields.{identity}
+use Rattle.balise_strike_laws.proofs.Headers.{country-kept}
 use Rattle.balise_strike_laws.proofs.Places.{In, first_of, later_of, Clear, Reads}
 use Rattle.balise_strike_laws.proofs.Facts.{Facts}
-use Rattle.balise_strike_laws.proofs.Writers.{find-reverse}
 use Rattle.balise_strike_laws.proofs.Settings.{lawful-head}
 use Rattle.balise_strike_laws.proofs.Locals.{spared-from, find-group}
 
@@ -41,7 +42,7 @@ number-kept f l g t n hs v = refl
 pub identity_in-kept : (f : Item) → Lawful f.1 → (j : Id) → (g : Tag) → (t : ℕ) → renames f.1 g ≡ false → (y : Telegram) →
     identity_in (telegram_after f j g t y) ≡ identity_in y
 identity_in-kept f l j g t n y = ap (λ c. identity c (value NidBg 0 (telegram_after f j g t y).head)) (country-kept f.1 (lawful-head f.1 l) g t y.head)
-    ∙ ap (λ v. identity (country_of y) v) (value-kept (head_after f.1 g t y.head) NidBg (number-kept f.1 l g t n y.head) y.head)
+    ∙ ap (λ v. identity (country_of y) v) (value_kept (head_after f.1 g t y.head) NidBg 0 y.head (number-kept f.1 l g t n y.head))
 
 identity-each : (f : Item) → Lawful f.1 → (j : Id) → (g : Tag) → renames f.1 g ≡ false → (xs : Group) → identity_of (each (telegram_after f j g) xs) ≡ identity_of xs
 identity-each f l j g n [] = refl

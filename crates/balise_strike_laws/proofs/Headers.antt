@@ -1,19 +1,22 @@
 -- Headers: two changes of the fields of one header commute where they are apart.
 -- Proves that an edit keeps the country and N_TOTAL, and that the new value of a header's field is the same in both orders.
 -- From what may be set in a header at all: neither country, number, N_PIG nor N_TOTAL.
-use Rattle.std.proofs.Common.{◌≡◌, ℕ, ◌-◌, Bool, true, false, cond, ◌&&◌, eqb, refl, sym, ap, ◌∙◌}
+use Rattle.std.proofs.Common.{◌≡◌, ℕ, ◌-◌, Bool, true, false, cond, ◌&&◌, eqb, refl, sym, ap}
 use Rattle.std.proofs.lemmas.Bool.{both_ways, and_parts}
 use Rattle.balise_rules.specs.declared.tag.Tag.{Tag}
 use Rattle.balise_rules.specs.declared.variable.Var.{Var}
 use Rattle.balise_rules.specs.declared.variable.Var.TheVariants.{NidC, NidBg, NPig, NTotal, MDup}
-use Rattle.balise_rules.specs.Tagged.{find, each}
+use Rattle.balise_rules.specs.Tagged.{each}
 use Rattle.balise_rules.specs.Tags.{same_tag, same_var, same_key, Key, is_of}
 use Rattle.balise_rules.specs.Forms.{Fields}
 use Rattle.balise_rules.specs.Packet.{value}
-use Rattle.balise_rules.specs.Edits.{Edit, SetVar, SetHead, InsertPacket, DeletePacket, MovePacket, AddGroup, DropGroup, Renumber, TurnGroup, exchanged, head_after}
-use Rattle.balise_rules.proofs.Tests.{split_on, flip_no, tag_test, nat_test, var_test, key_test}
-use Rattle.balise_strike_laws.proofs.Cases.{found, parts3, both_set, both_one}
-use Rattle.balise_strike_laws.proofs.Fields.{each-id, value-each, other_key, not_other}
+use Rattle.balise_rules.specs.Edits.{Edit, SetHead, Renumber, TurnGroup, exchanged, head_after}
+use Rattle.balise_rules.proofs.Tests.{split_on, flip_no, tag_test, nat_test, var_test, key_test, both_one}
+use Rattle.balise_rules.proofs.Cases.{parts3}
+use Rattle.balise_rules.proofs.Each.{each-id}
+use Rattle.balise_rules.proofs.Keys.{other_key, not_other}
+use Rattle.balise_rules.proofs.Untouched.{KeepsHead, value_untouched}
+use Rattle.balise_strike_laws.proofs.Cases.{both_set}
 
 -- a field of a header that an edit may set
 abbrev pub SteadyHead : Edit → Type 0
@@ -28,54 +31,24 @@ HeadApart (TurnGroup g1) (SetHead g0 t0 v0 x) = same_var MDup v0 ≡ true → sa
 HeadApart (Renumber g0 x) (Renumber g1 y) = same_tag g1 g0 ≡ false
 HeadApart e f = Unit {0}
 
--- a variable that an edit sets in no header
-abbrev pub Untouched : Edit → Var → Type 0
-Untouched (SetHead g t v x) w = same_var v w ≡ false
-Untouched (Renumber g x) w = same_var NidBg w ≡ false
-Untouched (TurnGroup g) w = (same_var MDup w ≡ false) × (same_var NPig w ≡ false)
-Untouched e w = Unit {0}
-
-pub head-kept : (e : Edit) → (g : Tag) → (t : ℕ) → (hs : Fields) → (w : Var) → Untouched e w → (v : ℕ) → head_after e g t hs (w, 0) v ≡ v
-head-kept (SetHead g0 t0 v0 x) g t hs w n v = simp n
-head-kept (Renumber g0 x) g t hs w n v = simp n
-head-kept (TurnGroup g0) g t hs w n v = let a = n.0 in let b = n.1 in simp (a, b)
-head-kept (SetVar g0 t0 p0 v0 k0 x) g t hs w n v = refl
-head-kept (InsertPacket g0 t0 a x) g t hs w n v = refl
-head-kept (DeletePacket g0 t0 p0) g t hs w n v = refl
-head-kept (MovePacket g0 t0 p0 a) g t hs w n v = refl
-head-kept (AddGroup a bs) g t hs w n v = refl
-head-kept (DropGroup g0) g t hs w n v = refl
-
-total-untouched : (e : Edit) → SteadyHead e → Untouched e NTotal
+-- it is none of these, so they stay
+total-untouched : (e : Edit) → SteadyHead e → KeepsHead e NTotal
 total-untouched (SetHead g t v x) s = flip_no var_test NTotal v s.3
 total-untouched (Renumber g x) s = refl
 total-untouched (TurnGroup g) s = (refl, refl)
-total-untouched (SetVar g0 t0 p0 v0 k0 x) s = tt
-total-untouched (InsertPacket g0 t0 a x) s = tt
-total-untouched (DeletePacket g0 t0 p0) s = tt
-total-untouched (MovePacket g0 t0 p0 a) s = tt
-total-untouched (AddGroup a bs) s = tt
-total-untouched (DropGroup g0) s = tt
+total-untouched e s = tt
 
-country-untouched : (e : Edit) → SteadyHead e → Untouched e NidC
+country-untouched : (e : Edit) → SteadyHead e → KeepsHead e NidC
 country-untouched (SetHead g t v x) s = flip_no var_test NidC v s.0
 country-untouched (Renumber g x) s = refl
 country-untouched (TurnGroup g) s = (refl, refl)
-country-untouched (SetVar g0 t0 p0 v0 k0 x) s = tt
-country-untouched (InsertPacket g0 t0 a x) s = tt
-country-untouched (DeletePacket g0 t0 p0) s = tt
-country-untouched (MovePacket g0 t0 p0 a) s = tt
-country-untouched (AddGroup a bs) s = tt
-country-untouched (DropGroup g0) s = tt
-
-pub value-kept : (h : Key → ℕ → ℕ) → (w : Var) → ((v : ℕ) → h (w, 0) v ≡ v) → (hs : Fields) → value w 0 (each h hs) ≡ value w 0 hs
-value-kept h w k hs = value-each h w 0 hs ∙ found (find same_key (w, 0) hs) (λ e. simp e) (λ v e. simp e (k v))
+country-untouched e s = tt
 
 pub total-kept : (e : Edit) → SteadyHead e → (g : Tag) → (t : ℕ) → (hs : Fields) → value NTotal 0 (each (head_after e g t hs) hs) ≡ value NTotal 0 hs
-total-kept e s g t hs = value-kept (head_after e g t hs) NTotal (head-kept e g t hs NTotal (total-untouched e s)) hs
+total-kept e s g t hs = value_untouched e NTotal (total-untouched e s) g t hs
 
 pub country-kept : (e : Edit) → SteadyHead e → (g : Tag) → (t : ℕ) → (hs : Fields) → value NidC 0 (each (head_after e g t hs) hs) ≡ value NidC 0 hs
-country-kept e s g t hs = value-kept (head_after e g t hs) NidC (head-kept e g t hs NidC (country-untouched e s)) hs
+country-kept e s g t hs = value_untouched e NidC (country-untouched e s) g t hs
 
 pub twice : (F : ℕ → ℕ) → (a b : Bool) → (v : ℕ) → cond a (F (cond b (F v) v)) (cond b (F v) v) ≡ cond b (F (cond a (F v) v)) (cond a (F v) v)
 twice F true true v = refl

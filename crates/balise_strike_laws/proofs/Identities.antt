@@ -17,12 +17,12 @@ use Rattle.balise_rules.specs.Doing.{done}
 use Rattle.balise_rules.specs.Accepting.{NoName, NoGroup, Accepted, Unused}
 use Rattle.balise_rules.specs.Paths.{Whose, Path, meet, changes, needs}
 use Rattle.balise_rules.proofs.Tests.{split_keys, tag_test}
-use Rattle.balise_rules.proofs.Lists.{unsome, find-without_same}
-use Rattle.balise_strike_laws.proofs.Cases.{some_is}
+use Rattle.balise_rules.proofs.Lists.{find-without_same}
+use Rattle.balise_rules.proofs.Cases.{unsome, some_is}
+use Rattle.balise_rules.proofs.Anchors.{find-put_same}
 use Rattle.balise_strike_laws.proofs.Places.{In, first_of, later_of, in-left, in-right, in-ids}
 use Rattle.balise_strike_laws.proofs.Facts.{Facts}
 use Rattle.balise_strike_laws.proofs.Named.{whose_apart}
-use Rattle.balise_strike_laws.proofs.Writers.{find-put-same}
 use Rattle.balise_strike_laws.proofs.Kept.{real-apart}
 use Rattle.balise_strike_laws.proofs.Locals.{GroupSpared, find-group, telegram-done}
 use Rattle.balise_strike_laws.proofs.Groups.{identity-cases}
@@ -36,7 +36,7 @@ GroupSpecial f m plan plan1 g = ((t : ℕ) → (y : Telegram) → telegram_at g 
 
 group-special : (plan : Plan) → (f : Item) → Accepted f.1 plan → Unused f.0 plan → (g : Tag) → GroupSpared f g ⊎ GroupSpecial f (noted f.1 plan) plan (done f plan) g
 group-special plan (s1, AddGroup a1 bs1) a un g = split_keys tag_test g (Fresh s1)
-    (λ d r0. let r : Fresh s1 ≡ g = sym r0 in let there : find same_tag g (put same_tag a1 (Fresh s1, group_of bs1) plan) ≡ Some (group_of bs1) = ap (λ u. find same_tag u (put same_tag a1 (Fresh s1, group_of bs1) plan)) (sym r) ∙ find-put-same (Fresh s1, group_of bs1) a1 plan a.1.0 un.groups in
+    (λ d r0. let r : Fresh s1 ≡ g = sym r0 in let there : find same_tag g (put same_tag a1 (Fresh s1, group_of bs1) plan) ≡ Some (group_of bs1) = ap (λ u. find same_tag u (put same_tag a1 (Fresh s1, group_of bs1) plan)) (sym r) ∙ find-put_same a1 (Fresh s1, group_of bs1) plan a.1.0 un.groups in
     let none : find same_tag g plan ≡ None = ap (λ u. find same_tag u plan) (sym r) ∙ un.groups in
     inr (
       (λ t y h q w. absurd (let k = simp none at h in cc)),

@@ -17,11 +17,16 @@ use Rattle.balise_rules.specs.Notes.{Note}
 use Rattle.balise_rules.specs.Accepting.{Lawful}
 use Rattle.balise_rules.specs.Paths.{At, Nth, Of, Turn, Head, Whose, Entry}
 use Rattle.balise_rules.proofs.Tests.{split_on, id_test}
-use Rattle.balise_strike_laws.proofs.Cases.{found, drop1, drop_field, drop_packet}
-use Rattle.balise_strike_laws.proofs.Fields.{identity, of_is, not_other, country-after}
+use Rattle.balise_rules.proofs.Cases.{found}
+use Rattle.balise_rules.proofs.Each.{each-same}
+use Rattle.balise_rules.proofs.Keys.{of_is, not_other}
+use Rattle.balise_rules.proofs.Names.{real_number}
+use Rattle.balise_rules.proofs.Untouched.{country_untouched}
+use Rattle.balise_strike_laws.proofs.Cases.{drop1, drop_field, drop_packet}
+use Rattle.balise_strike_laws.proofs.Fields.{identity}
 use Rattle.balise_strike_laws.proofs.Headers.{SteadyHead}
 use Rattle.balise_strike_laws.proofs.Places.{In, first_of, later_of, Clear}
-use Rattle.balise_strike_laws.proofs.Named.{each-same, named-among, real_number, whose_apart, ren-same}
+use Rattle.balise_strike_laws.proofs.Named.{named-among, whose_apart, ren-same}
 use Rattle.balise_strike_laws.proofs.Writers.{packet-id}
 
 -- an identity that f doesn't change, or 16383
@@ -53,7 +58,7 @@ pub ren-apart-back : (f : Item) → (m : Note) → (g : Tag) → (t : ℕ) → (
 ren-apart-back (serial, Renumber g1 x) m g t c p fs w k u b l h =
     split_on (same_id (identity (country_at c k fs) u) m.own)
     (λ e. let r = simp (b, e) at h in
-    let q = whose_apart (identity m.own.country x) (identity (country_at c k fs) x) (r (real_number (country_at c k fs) x l.1) (Whose (identity m.own.country x) ∷ []) (later_of (later_of first_of))) in
+    let q = whose_apart (identity m.own.country x) (identity (country_at c k fs) x) (r (real_number (identity (country_at c k fs) x) l.1) (Whose (identity m.own.country x) ∷ []) (later_of (later_of first_of))) in
     let d = and_parts (eqb (country_at c k fs) m.own.country) (eqb u m.own.number) e in
     absurd (both_ways (same_id (identity (country_at c k fs) x) (identity m.own.country x)) q (and_from (eqb (country_at c k fs) m.own.country) (eqb x x) d.0 (eq-eqb x x refl))))
     (λ e. e)
@@ -110,7 +115,7 @@ ren-names-back serial g1 x m g t c p fs (y ∷ ys) l h q i =
     at_bg e ih q (later_of k) = ih (λ r i. h r (simp e (later_of i))) q k
     at_bg e ih q (first_of) =
         let s : Unnamed ((serial, Renumber g1 x), m) (identity (country_at c y.0.1 (each (field_after (Renumber g1 x) m.own g t c p fs) fs)) (field_after (Renumber g1 x) m.own g t c p fs y.0 y.1)) = h (identity (country_at c y.0.1 (each (field_after (Renumber g1 x) m.own g t c p fs) fs)) (field_after (Renumber g1 x) m.own g t c p fs y.0 y.1)) (simp e first_of) in
-        let s2 = rw (country-after (Renumber g1 x) tt m.own g t c p y.0.1 fs) at s in
+        let s2 = rw (country_untouched (Renumber g1 x) refl m.own g t c p y.0.1 fs) at s in
         let o : y.0 ≡ (NidBg, y.0.1) = of_is NidBg y.0 e in
         ren-apart-back (serial, Renumber g1 x) m g t c p fs NidBg y.0.1 y.1 refl l
         (subst (λ key. Unnamed ((serial, Renumber g1 x), m) (identity (country_at c y.0.1 fs) (field_after (Renumber g1 x) m.own g t c p fs key y.1))) o s2)
@@ -121,7 +126,7 @@ turn-names g1 j g t c p fs [] = refl
 turn-names g1 j g t c p fs (y ∷ ys) =
     split_on (is_of NidBg y.0)
     (λ e. let d = not_other NidBg QLinkorientation y.0 refl e in let u = not_other NidBg QDir y.0 refl e in
-    simp (e, d, u, country-after (TurnGroup g1) tt j g t c p y.0.1 fs) (ap (λ l. (identity (country_at c y.0.1 fs) (y.1)) ∷ l) (turn-names g1 j g t c p fs ys)))
+    simp (e, d, u, country_untouched (TurnGroup g1) (refl, refl) j g t c p y.0.1 fs) (ap (λ l. (identity (country_at c y.0.1 fs) (y.1)) ∷ l) (turn-names g1 j g t c p fs ys)))
     (λ e. simp e (turn-names g1 j g t c p fs ys))
 
 pub names-apart-back : (f : Item) → (m : Note) → (g : Tag) → (t : ℕ) → (c : ℕ) → (p : Tag) → (fs : Fields) → RealOwn (f, m) → Lawful f.1 →

@@ -1,8 +1,7 @@
 -- From packets to telegrams, groups and the plan: two edits within the groups make the same in both orders.
 -- Proves it level by level, from what has to be apart at each.
 -- From the fields of packets and headers, and the changes of a list of packets.
-use Rattle.std.proofs.Common.{◌≡◌, ℕ, Bool, true, false, cond, eqb, List, [], ◌∷◌, reverse, Some, refl, sym, ap, ◌∙◌}
-use mathlib.Core.List.{reverse_aux}
+use Rattle.std.proofs.Common.{◌≡◌, ℕ, Bool, true, false, cond, eqb, List, Some, refl, sym, ap, ◌∙◌}
 use Rattle.balise_rules.specs.declared.tag.Tag.{Tag}
 use Rattle.balise_rules.specs.declared.identity.Id.{Id}
 use Rattle.balise_rules.specs.Tagged.{find, each, Distinct, Change, Each, Put, Take, Move, changed}
@@ -13,14 +12,18 @@ use Rattle.balise_rules.specs.Telegram.{Telegram}
 use Rattle.balise_rules.specs.Plan.{Group, Plan, country_of}
 use Rattle.balise_rules.specs.Edits.{Edit, Item, AddGroup, DropGroup, TurnGroup, effect, group_after, groups_change, in_order, telegram_after, packet_after, field_after, head_after, packets_change}
 use Rattle.balise_rules.proofs.Tests.{split_on, tag_test, nat_test, key_test}
-use Rattle.balise_strike_laws.proofs.Changes.{ChangesApart, each-each, changes-commute}
-use Rattle.balise_strike_laws.proofs.Fields.{Steady, FieldApart, field_commute}
+use Rattle.balise_rules.proofs.Reversed.{each-reverse}
+use Rattle.balise_rules.proofs.Each.{each-each}
+use Rattle.balise_rules.proofs.Untouched.{KeepsFields}
+use Rattle.balise_rules.specs.declared.variable.Var.TheVariants.{NidC}
+use Rattle.balise_strike_laws.proofs.Changes.{ChangesApart, changes-commute}
+use Rattle.balise_strike_laws.proofs.Fields.{FieldApart, field_commute}
 use Rattle.balise_strike_laws.proofs.Headers.{SteadyHead, HeadApart, head-commute, country-kept}
 
 abbrev pub set_fields : List Bool → Fields → Packet
 set_fields r fs = record { fields = fs; rest = r }
 
-pub packet-commute : (e : Edit) → (i : Id) → (f : Edit) → (j : Id) → Steady e → Steady f → (g : Tag) → (t : ℕ) → (c : ℕ) → (p : Tag) → (x : Packet) →
+pub packet-commute : (e : Edit) → (i : Id) → (f : Edit) → (j : Id) → KeepsFields e NidC → KeepsFields f NidC → (g : Tag) → (t : ℕ) → (c : ℕ) → (p : Tag) → (x : Packet) →
     Distinct same_key x.fields → FieldApart e i f j g t c p x.fields →
     packet_after e i g t c p (packet_after f j g t c p x) ≡ packet_after f j g t c p (packet_after e i g t c p x)
 packet-commute e i f j s r g t c p x u n =
@@ -28,13 +31,6 @@ packet-commute e i f j s r g t c p x u n =
     (each-each key_test (field_after e i g t c p (each (field_after f j g t c p x.fields) x.fields)) (field_after f j g t c p x.fields)
     (field_after f j g t c p (each (field_after e i g t c p x.fields) x.fields)) (field_after e i g t c p x.fields) x.fields u
     (λ key v h. field_commute e i f j s r g t c p x.fields n key v))
-
-pub each-aux : {K A : Type 0} → (f : K → A → A) → (xs ys : List (K × A)) → each f (reverse_aux xs ys) ≡ reverse_aux (each f xs) (each f ys)
-each-aux f [] ys = refl
-each-aux f (x ∷ xs) ys = each-aux f xs (x ∷ ys)
-
-pub each-reverse : {K A : Type 0} → (f : K → A → A) → (xs : List (K × A)) → each f (reverse xs) ≡ reverse (each f xs)
-each-reverse f xs = each-aux f xs []
 
 abbrev pub telegram_of : List Bool → Fields → List (Tag × Packet) → Telegram
 telegram_of b hs ps = record { head = hs; packets = ps; padding = b }

@@ -18,14 +18,16 @@ use Rattle.balise_rules.specs.Accepting.{AcceptedIn, AcceptedAt, Asks, Accepted}
 use Rattle.balise_rules.specs.Paths.{Part, At, Nth, Of, Front, Head, Path, neighbour, changes, needs}
 use Rattle.balise_rules.proofs.Tests.{split_on, flip_no, tag_test, nat_test}
 use Rattle.balise_rules.proofs.Lists.{find-put, find-without, find-each}
-use Rattle.balise_strike_laws.proofs.Cases.{found, some_is, map_itself, drop1}
-use Rattle.balise_strike_laws.proofs.Fields.{each-id}
+use Rattle.balise_rules.proofs.Cases.{found, some_is, map_itself}
+use Rattle.balise_rules.proofs.Each.{each-id, each-same}
+use Rattle.balise_rules.proofs.Reversed.{find-reverse}
+use Rattle.balise_rules.proofs.Found.{place_is}
+use Rattle.balise_strike_laws.proofs.Cases.{drop1}
 use Rattle.balise_strike_laws.proofs.Neighbours.{Accepts, noted_change, takes, takes_out}
 use Rattle.balise_strike_laws.proofs.Levels.{each-order}
 use Rattle.balise_strike_laws.proofs.Places.{In, first_of, later_of, in-left, Clear, Reads, front_apart}
 use Rattle.balise_strike_laws.proofs.Facts.{Facts}
-use Rattle.balise_strike_laws.proofs.Named.{each-same}
-use Rattle.balise_strike_laws.proofs.Writers.{packet-id, find-reverse}
+use Rattle.balise_strike_laws.proofs.Writers.{packet-id}
 use Rattle.balise_strike_laws.proofs.Kept.{RealOwn}
 use Rattle.balise_strike_laws.proofs.Settings.{own_change}
 use Rattle.balise_strike_laws.proofs.Readers.{Local, home, Room, noted_before, forward-in, back-in}
@@ -113,18 +115,14 @@ noted-at (Renumber g x) h plan y q = absurd h
 noted-at (TurnGroup g) h plan y q = absurd h
 
 -- an accepted edit's change of a telegram's packets is accepted there
-pub here_is : (g : Tag) → (t : ℕ) → (g1 : Tag) → (t1 : ℕ) → (plan : Plan) → (same_tag g1 g && eqb t1 t) ≡ true → telegram_at g1 t1 plan ≡ telegram_at g t plan
-here_is g t g1 t1 plan e = let d = and_parts (same_tag g1 g) (eqb t1 t) e in
-    ap (λ u. telegram_at u t1 plan) (tag_test.one g1 g d.0) ∙ ap (λ u. telegram_at g u plan) (nat_test.one t1 t d.1)
-
 pub accepts-there : (f : Item) → (j : Id) → (g : Tag) → (t : ℕ) → (c : ℕ) → (plan : Plan) → Asks f.1 plan → (y : Telegram) → telegram_at g t plan ≡ Some y →
     Accepts (packets_change f j g t c) y.packets
 accepts-there (s0, InsertPacket g1 t1 b x) j g t c plan a y q =
-    split_on (same_tag g1 g && eqb t1 t) (λ e. simp e (subst (AcceptedAt (InsertPacket g1 t1 b x)) (here_is g t g1 t1 plan e ∙ q) a).0) (λ e. simp e tt)
+    split_on (same_tag g1 g && eqb t1 t) (λ e. simp e (subst (AcceptedAt (InsertPacket g1 t1 b x)) (place_is g1 g t1 t plan e ∙ q) a).0) (λ e. simp e tt)
 accepts-there (serial1, DeletePacket g1 t1 p) j g t c plan a y q =
-    split_on (same_tag g1 g && eqb t1 t) (λ e. simp e (subst (AcceptedAt (DeletePacket g1 t1 p)) (here_is g t g1 t1 plan e ∙ q) a)) (λ e. simp e tt)
+    split_on (same_tag g1 g && eqb t1 t) (λ e. simp e (subst (AcceptedAt (DeletePacket g1 t1 p)) (place_is g1 g t1 t plan e ∙ q) a)) (λ e. simp e tt)
 accepts-there (serial1, MovePacket g1 t1 p b) j g t c plan a y q =
-    split_on (same_tag g1 g && eqb t1 t) (λ e. simp e (subst (AcceptedAt (MovePacket g1 t1 p b)) (here_is g t g1 t1 plan e ∙ q) a)) (λ e. simp e tt)
+    split_on (same_tag g1 g && eqb t1 t) (λ e. simp e (subst (AcceptedAt (MovePacket g1 t1 p b)) (place_is g1 g t1 t plan e ∙ q) a)) (λ e. simp e tt)
 accepts-there f j g t c plan a y q = tt
 
 -- what an edit takes out here stood before what it noted
@@ -136,7 +134,7 @@ noted-there (s0, InsertPacket g1 t1 b x) j g t c plan y q o =
 noted-there (serial1, DeletePacket g1 t1 p) j g t c plan y q o =
     split_on (same_tag g1 g && eqb t1 t)
     (λ e. let d = and_parts (same_tag g1 g) (eqb t1 t) e in
-    let n : (noted (DeletePacket g1 t1 p) plan).before ≡ behind same_tag p y.packets = ap (λ u. (note_at (DeletePacket g1 t1 p) u).before) (here_is g t g1 t1 plan e ∙ q) in
+    let n : (noted (DeletePacket g1 t1 p) plan).before ≡ behind same_tag p y.packets = ap (λ u. (note_at (DeletePacket g1 t1 p) u).before) (place_is g1 g t1 t plan e ∙ q) in
     let eg = (sym (tag_test.one g1 g d.0)) in let et = (sym (nat_test.one t1 t d.1)) in
     simp e (subst (λ u. In (At u ∷ Nth t ∷ neighbour (behind same_tag p y.packets) ∷ Front ∷ []) (changes ((serial1, DeletePacket g1 t1 p), noted (DeletePacket g1 t1 p) plan))) (sym eg)
     (subst (λ u. In (At g1 ∷ Nth u ∷ neighbour (behind same_tag p y.packets) ∷ Front ∷ []) (changes ((serial1, DeletePacket g1 t1 p), noted (DeletePacket g1 t1 p) plan))) (sym et)
@@ -145,7 +143,7 @@ noted-there (serial1, DeletePacket g1 t1 p) j g t c plan y q o =
 noted-there (serial1, MovePacket g1 t1 p b) j g t c plan y q o =
     split_on (same_tag g1 g && eqb t1 t)
     (λ e. let d = and_parts (same_tag g1 g) (eqb t1 t) e in
-    let n : (noted (MovePacket g1 t1 p b) plan).before ≡ behind same_tag p y.packets = ap (λ u. (note_at (MovePacket g1 t1 p b) u).before) (here_is g t g1 t1 plan e ∙ q) in
+    let n : (noted (MovePacket g1 t1 p b) plan).before ≡ behind same_tag p y.packets = ap (λ u. (note_at (MovePacket g1 t1 p b) u).before) (place_is g1 g t1 t plan e ∙ q) in
     let eg = (sym (tag_test.one g1 g d.0)) in let et = (sym (nat_test.one t1 t d.1)) in
     simp e (subst (λ u. In (At u ∷ Nth t ∷ neighbour (behind same_tag p y.packets) ∷ Front ∷ []) (changes ((serial1, MovePacket g1 t1 p b), noted (MovePacket g1 t1 p b) plan))) (sym eg)
     (subst (λ u. In (At g1 ∷ Nth u ∷ neighbour (behind same_tag p y.packets) ∷ Front ∷ []) (changes ((serial1, MovePacket g1 t1 p b), noted (MovePacket g1 t1 p b) plan))) (sym et)

@@ -1,27 +1,20 @@
 -- Names: an element that is found is among the names of its packet, and identities are apart as their places are.
 -- Proves that a renumbering leaves fields that don't name the identity.
 -- From the definition of the names of a packet.
-use Rattle.std.proofs.Common.{◌≡◌, ◌≢◌, ℕ, true, false, ◌&&◌, eqb, List, [], ◌∷◌, filter, Some, refl, sym, ap, ◌∙◌}
-use Rattle.std.proofs.lemmas.Bool.{eqb-true}
+use Rattle.std.proofs.Common.{◌≡◌, ℕ, true, false, ◌&&◌, List, [], ◌∷◌, filter, Some, refl, sym, ap}
 use Rattle.balise_rules.specs.declared.tag.Tag.{Tag}
 use Rattle.balise_rules.specs.declared.identity.Id.{Id}
 use Rattle.balise_rules.specs.declared.variable.Var.TheVariants.{NidBg}
 use Rattle.balise_rules.specs.Tagged.{find, each}
 use Rattle.balise_rules.specs.Tags.{same_id, same_key, Key, is_of}
 use Rattle.balise_rules.specs.Forms.{Fields}
-use Rattle.balise_rules.specs.Plan.{reserved}
 use Rattle.balise_rules.specs.Names.{country_at, is_real, links_among}
 use Rattle.balise_rules.specs.Edits.{Renumber, field_after}
 use Rattle.balise_rules.proofs.Tests.{split_on, split_keys, flip_no, key_test, id_test}
-use Rattle.balise_rules.proofs.Lists.{unsome}
+use Rattle.balise_rules.proofs.Cases.{unsome}
 use Rattle.balise_strike_laws.proofs.Cases.{drop1}
 use Rattle.balise_strike_laws.proofs.Fields.{identity}
 use Rattle.balise_strike_laws.proofs.Places.{In, first_of, later_of}
-
--- changes of nothing
-pub each-same : {K A : Type 0} → (h : K → A → A) → (xs : List (K × A)) → ((t : K) → (x : A) → h t x ≡ x) → each h xs ≡ xs
-each-same h [] k = refl
-each-same h (y ∷ ys) k = ap (λ v. (y.0, v) ∷ each h ys) (k y.0 y.1) ∙ ap (λ l. y ∷ l) (each-same h ys k)
 
 -- a found element is among the names
 pub named-among : (c k v : ℕ) → (fs ys : Fields) → find same_key (NidBg, k) ys ≡ Some v → In (identity (country_at c k fs) v) (links_among c fs ys)
@@ -37,10 +30,6 @@ pub in-real : (i : Id) → (is : List Id) → is_real i ≡ true → In i is →
 in-real i [] n h = elim h [ ]
 in-real i (j ∷ is) n (first_of) = simp n first_of
 in-real i (j ∷ is) n (later_of h) = split_on (is_real j) (λ e. simp e (later_of (in-real i is n h))) (λ e. simp e (in-real i is n h))
-
--- a number that isn't 16383
-pub real_number : (c x : ℕ) → x ≢ reserved → is_real (identity c x) ≡ true
-real_number c x n = split_on (eqb x reserved) (λ e. absurd (n (eqb-true x reserved e))) (λ e. simp e)
 
 -- identities are apart as their places are
 pub whose_apart : (i j : Id) → (same_id i j && true) ≡ false → same_id j i ≡ false

@@ -21,16 +21,20 @@ use Rattle.balise_rules.specs.Notes.{Note, set_note, names_taken, note_at, noted
 use Rattle.balise_rules.specs.Accepting.{NoName, AcceptedIn, AcceptedAt, Accepted, Unused}
 use Rattle.balise_rules.specs.Paths.{Whose, Entry, changes, needs}
 use Rattle.balise_rules.proofs.Tests.{split_on, split_keys, flip_yes, tag_test, var_test, id_test}
-use Rattle.balise_rules.proofs.Lists.{unsome, find-without_same}
-use Rattle.balise_strike_laws.proofs.Cases.{some_is, parts4}
-use Rattle.balise_strike_laws.proofs.Fields.{identity, country-after, find-fields}
+use Rattle.balise_rules.proofs.Lists.{find-without_same}
+use Rattle.balise_rules.proofs.Cases.{unsome, some_is, parts4}
+use Rattle.balise_rules.proofs.Anchors.{find-put_same}
+use Rattle.balise_rules.proofs.Names.{unnamed}
+use Rattle.balise_rules.proofs.Found.{place_is}
+use Rattle.balise_edit_laws.proofs.FieldChanges.{country_stays}
+use Rattle.balise_strike_laws.proofs.Fields.{identity, find-fields}
 use Rattle.balise_strike_laws.proofs.Headers.{country-kept}
 use Rattle.balise_strike_laws.proofs.Places.{In, first_of, later_of, in-left, in-right, in-ids}
 use Rattle.balise_strike_laws.proofs.Facts.{Facts}
 use Rattle.balise_strike_laws.proofs.Named.{in-real, named-among}
-use Rattle.balise_strike_laws.proofs.Writers.{Spares, find-put-same, find-change, by-packets}
-use Rattle.balise_strike_laws.proofs.Settings.{lawful-steady, lawful-head}
-use Rattle.balise_strike_laws.proofs.Locals.{here_is, accepts-there}
+use Rattle.balise_strike_laws.proofs.Writers.{Spares, find-change, by-packets}
+use Rattle.balise_strike_laws.proofs.Settings.{lawful-head}
+use Rattle.balise_strike_laws.proofs.Locals.{accepts-there}
 
 abbrev pub InPacket : ℕ → Fields → Id → Type 0
 InPacket c fs q = (k : ℕ) × (v : ℕ) × (find same_key (NidBg, k) fs ≡ Some v) × (◌≡◌ {A = Id} (identity (country_at c k fs) v) q)
@@ -45,10 +49,7 @@ pub no-name-from : (i : Id) → (plan : Plan) → ((q : Id) → InPlan plan q �
 no-name-from i plan h g t p k w = both_ways (same_id i i) (h i (g, t, w.telegram, w.stands, (p, w.packet, w.has_packet, (k, i.number, w.number, ap (λ c. identity c i.number) w.country)))) (id_test.itself i)
 
 pub no-name-at : (i : Id) → is_real i ≡ true → (plan : Plan) → NoName i plan → (q : Id) → InPlan plan q → same_id q i ≡ false
-no-name-at i real plan h q (g, t, y, a, (p, z, b, (k, v, d, e))) = split_on (same_id q i)
-    (λ c. let r = e ∙ id_test.one q i c in
-    absurd (h g t p k (record { telegram = y; stands = a; packet = z; has_packet = b; number = d ∙ ap (λ (j : Id). Some j.number) r; country = ap (λ (j : Id). j.country) r; real = real })))
-    (λ c. c)
+no-name-at i real plan h q (g, t, y, a, (p, z, b, (k, v, d, e))) = ap (λ u. same_id u i) (sym e) ∙ unnamed i plan h real g t y a p z b k v d
 
 -- f changes or needs this name, or it is 16383
 abbrev pub Touched : Entry → Id → Type 0
@@ -106,7 +107,7 @@ module _ (plan : Plan) (s : Facts plan) (f : Item) (a : Accepted f.1 plan) (un :
           let qk : k ≡ k0 = sym (eqb-true k0 k b.1) in
           let qv : NidBg ≡ v0 = sym (var_test.one v0 NidBg b.0) in
           let n : noted (SetVar g0 t0 p0 v0 k0 x) plan ≡ set_note v0 k0 x c0 (Some z) =
-          ap (note_at (SetVar g0 t0 p0 v0 k0 x)) (here_is g t g0 t0 plan (and_from (same_tag g0 g) (eqb t0 t) w.0 w.1) ∙ at)
+          ap (note_at (SetVar g0 t0 p0 v0 k0 x)) (place_is g0 g t0 t plan (and_from (same_tag g0 g) (eqb t0 t) w.0 w.1) ∙ at)
           ∙ ap (set_note v0 k0 x c0) (ap (λ u. find same_tag u y.packets) (tag_test.one p0 p w.2) ∙ h) in
           let bg = flip_yes var_test v0 NidBg b.0 in
           let ns : (noted (SetVar g0 t0 p0 v0 k0 x) plan).names ≡ filter is_real ((identity (country_at c0 k0 z.fields) (value v0 k0 z.fields)) ∷ (identity (country_at c0 k0 z.fields) x) ∷ []) = ap (λ o. o.names) n ∙ simp bg in
@@ -135,7 +136,7 @@ module _ (plan : Plan) (s : Facts plan) (f : Item) (a : Accepted f.1 plan) (un :
       cases f a = inl refl
 
     country-in : (p : Tag) → (z : Packet) → (k : ℕ) → country_at (country_of y1) k (packet_after f.1 m0.own g t c0 p z).fields ≡ country_at c0 k z.fields
-    country-in p z k = ap (λ c. country_at c k (packet_after f.1 m0.own g t c0 p z).fields) (country-kept f.1 (lawful-head f.1 a.0) g t y.head) ∙ country-after f.1 (lawful-steady f.1 a.0) m0.own g t c0 p k z.fields
+    country-in p z k = ap (λ c. country_at c k (packet_after f.1 m0.own g t c0 p z).fields) (country-kept f.1 (lawful-head f.1 a.0) g t y.head) ∙ country_stays f.1 a.0 m0.own g t c0 p k z.fields
 
     packet-back : (p : Tag) → (z : Packet) → find same_tag p y.packets ≡ Some z → (q : Id) → InPacket c0 z.fields q →
         Either (InPacket (country_of y1) (packet_after f.1 m0.own g t c0 p z).fields q) q
@@ -163,14 +164,14 @@ special : (plan : Plan) → (f : Item) → Accepted f.1 plan → Unused f.0 plan
 special plan (s1, InsertPacket g1 t1 a1 x1) a un g t y at p =
     split_on (same_tag g1 g && eqb t1 t)
     (λ e. split_keys tag_test p (Fresh s1)
-    (λ d r0. let r : Fresh s1 ≡ p = sym r0 in let home_is = here_is g t g1 t1 plan e ∙ at in
+    (λ d r0. let r : Fresh s1 ≡ p = sym r0 in let home_is = place_is g1 g t1 t plan e ∙ at in
     let none : find same_tag (Fresh s1) y.packets ≡ None = un.packets g1 t1 y home_is in
     let stands : AcceptedIn (InsertPacket g1 t1 a1 x1) y = subst (AcceptedAt (InsertPacket g1 t1 a1 x1)) home_is a.1 in
     let n = ap (note_at (InsertPacket g1 t1 a1 x1)) home_is in
     inr (
       (λ x h q w. absurd (let k : find same_tag (Fresh s1) y.packets ≡ Some x = ap (λ u. find same_tag u y.packets) r ∙ h in let b = sym k ∙ none in cc)),
       (λ x h q w. let k0 : find same_tag p (put same_tag a1 (Fresh s1, x1) y.packets) ≡ Some x = simp e at h in
-          let k : Some x1 ≡ Some x = sym (find-put-same (Fresh s1, x1) a1 y.packets stands.0 none) ∙ ap (λ u. find same_tag u (put same_tag a1 (Fresh s1, x1) y.packets)) r ∙ k0 in
+          let k : Some x1 ≡ Some x = sym (find-put_same a1 (Fresh s1, x1) y.packets stands.0 none) ∙ ap (λ u. find same_tag u (put same_tag a1 (Fresh s1, x1) y.packets)) r ∙ k0 in
           touched-names (s1, InsertPacket g1 t1 a1 x1) (noted (InsertPacket g1 t1 a1 x1) plan) (links_among (country_of y) x1.fields x1.fields) (ap (λ o. o.names) n)
           (λ q i. later_of (in-ids q (noted (InsertPacket g1 t1 a1 x1) plan).names i)) q
           (in-names (country_of y) x1.fields q (subst (λ u. InPacket (country_of y) u.fields q) (sym (unsome k)) w))),
@@ -180,7 +181,7 @@ special plan (s1, InsertPacket g1 t1 a1 x1) a un g t y at p =
 special plan (serial1, DeletePacket g1 t1 p1) a un g t y at p =
     split_on (same_tag g1 g && eqb t1 t)
     (λ e. split_keys tag_test p p1
-    (λ d r0. let r : p1 ≡ p = sym r0 in let home_is = here_is g t g1 t1 plan e ∙ at in
+    (λ d r0. let r : p1 ≡ p = sym r0 in let home_is = place_is g1 g t1 t plan e ∙ at in
     let n = ap (note_at (DeletePacket g1 t1 p1)) home_is in
     inr (
       (λ x h q w. let k : find same_tag p1 y.packets ≡ Some x = ap (λ u. find same_tag u y.packets) r ∙ h in

@@ -10,8 +10,9 @@ use Rattle.balise_rules.specs.Tags.{same_tag}
 use Rattle.balise_rules.specs.Accepting.{Stands}
 use Rattle.balise_rules.proofs.Tests.{split_on, flip_spot, spot_itself, tag_test}
 use Rattle.balise_rules.proofs.Lists.{find-put, find-without, find-each, next-put, next-each, next-without, next-gone}
-use Rattle.balise_strike_laws.proofs.Cases.{found}
-use Rattle.balise_strike_laws.proofs.Changes.{ChangesApart, find-move}
+use Rattle.balise_rules.proofs.Cases.{found}
+use Rattle.balise_rules.proofs.Moved.{find-move}
+use Rattle.balise_strike_laws.proofs.Changes.{ChangesApart}
 
 -- what a change asks of the list
 abbrev pub Accepts : {A : Type 0} → Change Tag A → List (Tag × A) → Type 0
@@ -84,14 +85,14 @@ stands-kept y None xs h s = tt
 stands-kept (Each f) (Some t) xs h s = (f t s.0, find-each tag_test f t xs ∙ ap (option_map (f t)) s.1)
 stands-kept (Put a z) (Some t) xs h s = (s.0, find-put same_tag t a z h.1 xs ∙ s.1)
 stands-kept (Take q) (Some t) xs h s = (s.0, find-without tag_test t q h xs ∙ s.1)
-stands-kept (Move q a) (Some t) xs h s = (s.0, find-move t q a h.0 xs ∙ s.1)
+stands-kept (Move q a) (Some t) xs h s = (s.0, find-move tag_test t q a h.0 xs ∙ s.1)
 
 pub stood : {A : Type 0} → (y : Change Tag A) → (c : Option Tag) → (xs : List (Tag × A)) → Free y c → Stands c (changed same_tag y xs) → Stands c xs
 stood y None xs h s = tt
 stood (Each f) (Some t) xs h s = found (find same_tag t xs) (λ e. let k : find same_tag t (each f xs) ≡ None = find-each tag_test f t xs ∙ ap (option_map (f t)) e in let w = s.1 in absurd (cc)) (λ x e. (x, e))
 stood (Put a z) (Some t) xs h s = (s.0, sym (find-put same_tag t a z h.1 xs) ∙ s.1)
 stood (Take q) (Some t) xs h s = (s.0, sym (find-without tag_test t q h xs) ∙ s.1)
-stood (Move q a) (Some t) xs h s = (s.0, sym (find-move t q a h.0 xs) ∙ s.1)
+stood (Move q a) (Some t) xs h s = (s.0, sym (find-move tag_test t q a h.0 xs) ∙ s.1)
 
 pub free-takes : {A : Type 0} → (x : Change Tag A) → (c : Option Tag) → Free x c → takes x c ≡ false
 free-takes (Each f) c h = refl

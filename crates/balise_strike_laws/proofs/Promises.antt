@@ -12,7 +12,7 @@ use Rattle.balise_rules.specs.Paths.{Entry}
 use Rattle.balise_rules.specs.Behind.{independent, serials_behind}
 use Rattle.balise_rules.specs.Session.{State, Removed, lone, Call, Undo, Redo, Strike, Reply, Undone, Redone, Struck, Refused, opened, most_commands, entries, last, later, others, first_dependent, put_back, taken_out, struck_out, answer, answer_in_time, answer_undo, answer_redo, answer_strike, answer_dependent, answer_among}
 use Rattle.balise_rules.proofs.Tests.{split_on}
-use Rattle.balise_rules.proofs.Lists.{unsome}
+use Rattle.balise_rules.proofs.Cases.{unsome}
 use Rattle.balise_strike_laws.specs.Striking.{Standing}
 use Rattle.balise_strike_laws.specs.InSession.{left_of}
 use Rattle.balise_strike_laws.specs.Redoing.{WasStruck, Redoable, Answer, counted}

@@ -3,15 +3,15 @@
 -- From the laws of tagged lists; what was put in was new.
 use Rattle.std.proofs.Common.{◌≡◌, ℕ, ◌+◌, ◌≤◌, false, List, [], ◌∷◌, Option, Some, None, refl, sym, ap, ◌∙◌, arith}
 use Rattle.balise_rules.specs.declared.tag.Tag.{Tag}
-use Rattle.balise_rules.specs.Tagged.{same_spot, find, behind, next, put_behind, put, without, Distinct, move, Move}
+use Rattle.balise_rules.specs.Tagged.{same_spot, find, behind, put_behind, put, without, Distinct, move, Move}
 use Rattle.balise_rules.specs.Tags.{same_tag}
 use Rattle.balise_rules.specs.Packet.{Packet, width}
 use Rattle.balise_rules.specs.Telegram.{used}
 use Rattle.balise_rules.specs.Accepting.{Stands}
-use Rattle.balise_rules.proofs.Tests.{split_on, split_keys, flip_no, flip_spot, tag_test}
+use Rattle.balise_rules.proofs.Tests.{split_on, flip_no, flip_spot, tag_test}
 use Rattle.balise_rules.proofs.Lists.{find-put, find-without, without-put, next-put}
-use Rattle.balise_strike_laws.proofs.Cases.{found}
-use Rattle.balise_strike_laws.proofs.Changes.{find-move}
+use Rattle.balise_rules.proofs.Cases.{found}
+use Rattle.balise_rules.proofs.Anchors.{behind-put_in, stands-move, anchor-other}
 use Rattle.balise_strike_laws.proofs.Neighbours.{Accepts}
 use Rattle.balise_strike_laws.proofs.Rooms.{used-move}
 
@@ -39,31 +39,6 @@ move-put_in a z p n np na xs h = found (find same_tag p xs)
     (λ x e. let g : find same_tag p (put same_tag a z xs) ≡ Some x = find-put same_tag p a z np xs ∙ e in
     simp (e, g) (ap (put same_tag (Some z.0) (p, x)) (without-put tag_test p a z np na xs)
     ∙ put-put_in a z (p, x) n (without same_tag p xs) (find-without tag_test z.0 p (flip_no tag_test p z.0 np) xs ∙ h)))
-
--- an anchor that stands isn't what doesn't
-pub anchor-other : {A : Type 0} → (a : Option Tag) → (z : Tag) → (xs : List (Tag × A)) → Stands a xs → find same_tag z xs ≡ None → same_spot same_tag (Some z) a ≡ false
-anchor-other None z xs s n = refl
-anchor-other (Some t) z xs s n = split_keys tag_test z t (λ e q. absurd (let k = sym s.1 ∙ ap (λ u. find same_tag u xs) (sym q) ∙ n in cc)) (λ e. e)
-
-pub stands-put : {A : Type 0} → (a : Option Tag) → (w : Tag × A) → (xs : List (Tag × A)) → same_spot same_tag (Some w.0) a ≡ false → Stands a xs →
-    Stands a (put same_tag a w xs)
-stands-put None w xs n s = tt
-stands-put (Some t) w xs n s = (s.0, find-put same_tag t (Some t) w (flip_no tag_test w.0 t n) xs ∙ s.1)
-
--- what comes behind what was put in is what came behind its anchor
-behind-put_in : {A : Type 0} → (a : Option Tag) → (z : Tag × A) → (xs : List (Tag × A)) → Stands a xs → find same_tag z.0 xs ≡ None →
-    behind same_tag z.0 (put same_tag a z xs) ≡ next same_tag a xs
-behind-put_in None z xs s n = let r = tag_test.itself z.0 in simp r
-behind-put_in (Some a) z [] s n = let k = s.1 in absurd (cc)
-behind-put_in (Some a) z (y ∷ ys) s n =
-    let r = tag_test.itself z.0 in
-    split_on (same_tag z.0 y.0) (λ d. let k = simp d at n in absurd (cc))
-    (λ d. let k : find same_tag z.0 ys ≡ None = simp d at n in
-    split_on (same_tag a y.0) (λ e. simp (e, d, r)) (λ e. let w : find same_tag a ys ≡ Some s.0 = simp e at s.1 in simp (e, d) (behind-put_in (Some a) z ys (s.0, w) k)))
-
-stands-move : {A : Type 0} → (a : Option Tag) → (p : Tag) → (xs : List (Tag × A)) → same_spot same_tag a (Some p) ≡ false → Stands a xs → Stands a (move same_tag p a xs)
-stands-move None p xs n s = tt
-stands-move (Some t) p xs n s = (s.0, find-move t p (Some t) n xs ∙ s.1)
 
 -- What a move to behind what was put in asks, notes and makes is what a move to its anchor does.
 pub record MovesBehind (a : Option Tag) (z : Tag × Packet) (p : Tag) (room : ℕ) (xs : List (Tag × Packet)) : Type 0 where

@@ -16,7 +16,7 @@ use Rattle.balise_rules.specs.Edits.{Edit, Item, SetVar, SetHead, InsertPacket, 
 use Rattle.balise_rules.specs.Notes.{Note, nothing, set_note, names_taken, note_in}
 use Rattle.balise_rules.specs.Accepting.{Lawful, AcceptedIn}
 use Rattle.balise_rules.specs.Paths.{At, Nth, Of, After, Front, Turn, Head, Whose, anchor, neighbour}
-use Rattle.balise_strike_laws.proofs.Cases.{some_is}
+use Rattle.balise_rules.proofs.Cases.{some_is}
 use Rattle.balise_strike_laws.proofs.Fields.{find-fields}
 use Rattle.balise_strike_laws.proofs.Headers.{country-kept}
 use Rattle.balise_strike_laws.proofs.Neighbours.{Accepts, noted_change, takes, takes_out, Leaves, Differ, noted-forward, noted-back, accepts-back, accepts-forward}

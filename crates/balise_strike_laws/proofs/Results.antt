@@ -20,8 +20,11 @@ use Rattle.balise_rules.specs.Notes.{Note, set_note, note_at, noted}
 use Rattle.balise_rules.specs.Doing.{done}
 use Rattle.balise_rules.specs.Accepting.{Lawful}
 use Rattle.balise_rules.specs.Paths.{At, Nth, Of, Turn, Name, Head, Whose}
-use Rattle.balise_rules.proofs.Tests.{tag_test, nat_test, var_test}
-use Rattle.balise_strike_laws.proofs.Cases.{parts3, drop1, drop_field, both_one}
+use Rattle.balise_rules.proofs.Tests.{tag_test, nat_test, var_test, both_one}
+use Rattle.balise_rules.proofs.Cases.{parts3}
+use Rattle.balise_rules.proofs.Found.{place_is}
+use Rattle.balise_edit_laws.proofs.FieldChanges.{country_kept}
+use Rattle.balise_strike_laws.proofs.Cases.{drop1, drop_field}
 use Rattle.balise_strike_laws.proofs.Fields.{identity, FieldApart}
 use Rattle.balise_strike_laws.proofs.Headers.{HeadApart}
 use Rattle.balise_strike_laws.proofs.Changes.{ChangesApart}
@@ -31,9 +34,9 @@ use Rattle.balise_strike_laws.proofs.Places.{first_of, later_of, Reads}
 use Rattle.balise_strike_laws.proofs.Facts.{Facts}
 use Rattle.balise_strike_laws.proofs.Named.{whose_apart}
 use Rattle.balise_strike_laws.proofs.Kept.{Unnamed, own-apart, turn-apart, ren-apart, turned-other, names-apart, packet-same}
-use Rattle.balise_strike_laws.proofs.Settings.{lawful-steady, lawful-head, own_change, read-name, read-link, read-dir}
+use Rattle.balise_strike_laws.proofs.Settings.{lawful-head, own_change, read-name, read-link, read-dir}
 use Rattle.balise_strike_laws.proofs.Readers.{Local, home, leaves, read-names-insert}
-use Rattle.balise_strike_laws.proofs.Locals.{here_is, real-own}
+use Rattle.balise_strike_laws.proofs.Locals.{real-own}
 
 abbrev pub FieldKind : Edit → Type 0
 FieldKind (SetVar g t p v k x) = Unit {0}
@@ -114,7 +117,7 @@ pub set-noted : (g0 : Tag) → (t0 : ℕ) → (p0 : Tag) → (v : Var) → (k x 
     noted (SetVar g0 t0 p0 v k x) plan ≡ set_note v k x (country_of y) (Some z)
 set-noted g0 t0 p0 v k x plan g t p y z q h a =
     let d = parts3 (same_tag g0 g) (eqb t0 t) (same_tag p0 p) a in
-    ap (note_at (SetVar g0 t0 p0 v k x)) (here_is g t g0 t0 plan (and_from (same_tag g0 g) (eqb t0 t) d.0 d.1) ∙ q)
+    ap (note_at (SetVar g0 t0 p0 v k x)) (place_is g0 g t0 t plan (and_from (same_tag g0 g) (eqb t0 t) d.0 d.1) ∙ q)
     ∙ ap (set_note v k x (country_of y)) (ap (λ u. find same_tag u y.packets) (tag_test.one p0 p d.2) ∙ h)
 
 module _ (serial : ℕ) (g0 : Tag) (t0 : ℕ) (p0 : Tag) (v : Var) (k x : ℕ) (n : Note) (f : Item) (m : Note) (r : Reads ((serial, SetVar g0 t0 p0 v k x), n) (f, m)) (c : ℕ) (z : Packet) (ns : n ≡ set_note v k x c (Some z)) where
@@ -191,7 +194,7 @@ module _ (plan : Plan) (s : Facts plan) (g : Tag) (t : ℕ) (y : Telegram) (q : 
   insert-same s1 g1 t1 a x e r b =
       let d = and_parts (same_tag g1 g) (eqb t1 t) b in
       let f1 = InsertPacket g1 t1 a x in
-      let n = ap (note_at f1) (here_is g t g1 t1 plan b ∙ q) in
+      let n = ap (note_at f1) (place_is g1 g t1 t plan b ∙ q) in
       let k = packet-same e (noted e.1 plan) g1 t1 c1 (Fresh s1) x (r (At g1 ∷ Nth t1 ∷ At (Fresh s1) ∷ []) first_of) (r (At g1 ∷ Turn ∷ []) (later_of (later_of first_of)))
       (names-apart e (noted e.1 plan) c1 x.fields (real-own e plan s) (read-names-insert s1 g1 t1 a x (noted f1 plan) e (noted e.1 plan) r (links_among c1 x.fields x.fields) (ap (λ o. o.names) n))) in
       subst (λ u. packet_after e.1 (noted e.1 plan).own u t c1 (Fresh s1) x ≡ x) (tag_test.one g1 g d.0)
@@ -223,7 +226,7 @@ module _ (plan : Plan) (s : Facts plan) (g : Tag) (t : ℕ) (y : Telegram) (q : 
       by-kind e he
       (λ ke. by-kind f hf
       (λ kf. rw (field-change e ke (noted e.1 plan).own g t c1, field-change f kf (noted f.1 plan).own g t c1)
-      (λ p z h. packet-commute e.1 (noted e.1 plan).own f.1 (noted f.1 plan).own (lawful-steady e.1 le) (lawful-steady f.1 lf) g t c1 p z (s.fields g t p y q z h) (fields-apart e f r1 r2 p z h)))
+      (λ p z h. packet-commute e.1 (noted e.1 plan).own f.1 (noted f.1 plan).own (country_kept e.1 le) (country_kept f.1 lf) g t c1 p z (s.fields g t p y q z h) (fields-apart e f r1 r2 p z h)))
       (λ kf. rw (field-change e ke (noted e.1 plan).own g t c1, list-change f kf (noted f.1 plan).own g t c1)
       (apart-each-here (same_tag (home f.1).0 g && eqb (home f.1).1 t) (packet_after e.1 (noted e.1 plan).own g t c1) (own_change f) y.packets (λ b. (each-list e f kf r2 b).0))))
       (λ ke. by-kind f hf

@@ -1,79 +1,36 @@
 -- Room: how many bits the packets of a telegram take after each change, and when an insertion has room in the other order.
 -- Proves that no change but a deletion makes room, and that an insertion whose bits fit after another edit fits before it, and the other way round.
 -- From the clause of independence that keeps insertions apart from deletions, and the widths of fields.
-use Rattle.std.proofs.Common.{◌≡◌, ℕ, ◌+◌, ◌≤◌, Bool, true, false, cond, ◌&&◌, eqb, List, [], ◌∷◌, length, Option, Some, None, refl, sym, ap, subst, ◌∙◌, arith}
-use Rattle.std.proofs.lemmas.Bool.{and_left, and_right, true≢false}
+use Rattle.std.proofs.Common.{◌≡◌, ℕ, ◌+◌, ◌≤◌, Bool, true, false, cond, ◌&&◌, eqb, List, length, Option, Some, refl, ap, subst, ◌∙◌, arith}
+use Rattle.std.proofs.lemmas.Bool.{and_left, and_right, true≢false, not-true}
 use Rattle.std.specs.Option.{option_map}
 use Rattle.balise_rules.specs.declared.tag.Tag.{Tag}
 use Rattle.balise_rules.specs.declared.tag.Tag.TheVariants.{Fresh}
 use Rattle.balise_rules.specs.declared.identity.Id.{Id}
-use Rattle.balise_rules.specs.Tagged.{find, put, without, each, Distinct, move, Change, Each, Put, Take, Move, changed}
-use Rattle.balise_rules.specs.Tags.{same_tag, Key}
-use Rattle.balise_rules.specs.Forms.{Fields}
+use Rattle.balise_rules.specs.Tagged.{put, without, each, Distinct, move, Change, Each, Put, Take, Move, changed}
+use Rattle.balise_rules.specs.Tags.{same_tag}
 use Rattle.balise_rules.specs.Packet.{Packet, width}
 use Rattle.balise_rules.specs.Telegram.{Telegram, used}
 use Rattle.balise_rules.specs.Plan.{Plan, country_of, telegram_at}
-use Rattle.balise_rules.specs.Edits.{Edit, Item, SetVar, SetHead, InsertPacket, DeletePacket, MovePacket, AddGroup, DropGroup, Renumber, TurnGroup, effect, telegram_after, packet_after, field_after, packets_change}
-use Rattle.balise_rules.specs.Accepting.{Stands, AcceptedIn, AcceptedAt, Asks}
+use Rattle.balise_rules.specs.Edits.{Edit, Item, SetVar, SetHead, InsertPacket, DeletePacket, MovePacket, AddGroup, DropGroup, Renumber, TurnGroup, effect, telegram_after, packet_after, packets_change}
+use Rattle.balise_rules.specs.Accepting.{AcceptedIn, AcceptedAt, Asks}
 use Rattle.balise_rules.specs.Paths.{room_apart}
-use Rattle.balise_rules.proofs.Tests.{split_on, split_keys, flip_no, tag_test, nat_test}
-use Rattle.balise_rules.proofs.Lists.{unsome, without-absent}
-use Rattle.balise_strike_laws.proofs.Cases.{not_true}
-use Rattle.balise_strike_laws.proofs.Changes.{move-found}
+use Rattle.balise_rules.proofs.Tests.{split_on, flip_no, tag_test, nat_test}
 use Rattle.balise_strike_laws.proofs.Neighbours.{Accepts}
 use Rattle.balise_strike_laws.proofs.Levels.{keep}
-use Rattle.std.proofs.Common.{length-append}
-use Rattle.balise_rules.specs.Variables.{width_of}
-use Rattle.balise_rules.specs.Bits.{bits}
-use Rattle.balise_rules.specs.Forms.{spelling}
-use Rattle.balise_rules.proofs.Numbers.{length-bits}
+use Rattle.balise_rules.proofs.Moved.{move_is}
+use Rattle.balise_rules.proofs.Anchors.{stands-without}
+use Rattle.balise_rules.proofs.Used.{used-each, width_kept, used-put_there, used-without_there}
+use Rattle.balise_rules.proofs.Found.{place_is}
 use Rattle.balise_strike_laws.proofs.Facts.{Facts}
-use Rattle.balise_strike_laws.proofs.Writers.{stands-off}
 use Rattle.balise_strike_laws.proofs.Readers.{Local, home, Room}
-use Rattle.balise_strike_laws.proofs.Locals.{here_is, accepts-there, telegram-done}
-
--- room
-pub used-put : (a : Option Tag) → (z : Tag × Packet) → (xs : List (Tag × Packet)) → Stands a xs → used (put same_tag a z xs) ≡ used xs + width z.1
-used-put None z xs s = omega arith
-used-put (Some a) z [] s = let k = s.1 in absurd (cc)
-used-put (Some a) z (y ∷ ys) s =
-    split_on (same_tag a y.0) (λ e. simp e (omega arith))
-    (λ e. let w : find same_tag a ys ≡ Some s.0 = simp e at s.1 in simp e (omega (arith, used-put (Some a) z ys (s.0, w))))
-
-pub used-without : (q : Tag) → (x : Packet) → (xs : List (Tag × Packet)) → Distinct same_tag xs → find same_tag q xs ≡ Some x →
-    used (without same_tag q xs) + width x ≡ used xs
-used-without q x [] u h = absurd (cc)
-used-without q x (y ∷ ys) u h =
-    split_keys tag_test q y.0
-    (λ e p. let g : find same_tag q ys ≡ None = ap (λ k. find same_tag k ys) p ∙ u.0 in let k : Some y.1 ≡ Some x = simp e at h in
-    let l : width x ≡ width y.1 = ap width (sym (unsome k)) in simp (e, without-absent same_tag q ys g) (omega arith))
-    (λ e. let k : find same_tag q ys ≡ Some x = simp e at h in simp e (omega (arith, used-without q x ys u.1 k)))
-
-pub used-each : (h : Tag → Packet → Packet) → ((p : Tag) → (z : Packet) → width (h p z) ≡ width z) → (xs : List (Tag × Packet)) → used (each h xs) ≡ used xs
-used-each h k [] = refl
-used-each h k (y ∷ ys) = let a = k y.0 y.1 in let b = used-each h k ys in omega arith
-
--- a field keeps its width, whatever its value
-spelling-each : (h : Key → ℕ → ℕ) → (fs : Fields) → length (spelling (each h fs)) ≡ length (spelling fs)
-unfolding spelling
-spelling-each h [] = refl
-spelling-each h (f ∷ fs) =
-    let ih = spelling-each h fs in
-    let a = length-append (bits (width_of f.0.0) (h f.0 f.1)) (spelling (each h fs)) in
-    let b = length-append (bits (width_of f.0.0) f.1) (spelling fs) in
-    a ∙ ap (λ n. n + length (spelling (each h fs))) (length-bits (width_of f.0.0) (h f.0 f.1) ∙ sym (length-bits (width_of f.0.0) f.1)) ∙ ap (λ n. length (bits (width_of f.0.0) f.1) + n) ih ∙ sym b
-
-pub width-after : (f : Edit) → (j : Id) → (g : Tag) → (t c : ℕ) → (p : Tag) → (z : Packet) → width (packet_after f j g t c p z) ≡ width z
-width-after f j g t c p z =
-    length-append (spelling (each (field_after f j g t c p z.fields) z.fields)) z.rest
-    ∙ ap (λ n. n + length z.rest) (spelling-each (field_after f j g t c p z.fields) z.fields)
-    ∙ sym (length-append (spelling z.fields) z.rest)
+use Rattle.balise_strike_laws.proofs.Locals.{accepts-there, telegram-done}
 
 pub used-move : (p : Tag) → (a : Option Tag) → (xs : List (Tag × Packet)) → Distinct same_tag xs → Accepts (Move p a) xs → used (move same_tag p a xs) ≡ used xs
 used-move p a xs u s =
-    let k = ap used (move-found p a s.0.0 xs s.0.1) in
-    let b = used-put a (p, s.0.0) (without same_tag p xs) (stands-off a p xs s.2 s.1) in
-    let d = used-without p s.0.0 xs u s.0.1 in omega arith
+    let k = ap used (move_is same_tag p a s.0.0 xs s.0.1) in
+    let b = used-put_there a (p, s.0.0) (without same_tag p xs) (stands-without a p xs s.2 s.1) in
+    let d = used-without_there p s.0.0 xs u s.0.1 in omega arith
 
 -- a change that takes nothing out of the telegram does not make room
 abbrev pub is_take : {A : Type 0} → Change Tag A → Bool
@@ -95,7 +52,7 @@ WidthKept x = Unit {0}
 pub used-change : (x : Change Tag Packet) → (xs : List (Tag × Packet)) → WidthKept x → Distinct same_tag xs → Accepts x xs → is_take x ≡ false →
     used (changed same_tag x xs) ≡ used xs + more x
 used-change (Each f) xs w u s n = let a = used-each f w xs in omega arith
-used-change (Put a z) xs w u s n = used-put a z xs s
+used-change (Put a z) xs w u s n = used-put_there a z xs s
 used-change (Take q) xs w u s n = absurd (true≢false n)
 used-change (Move q a) xs w u s n = let b = used-move q a xs u s in omega arith
 
@@ -107,12 +64,12 @@ pub width-kept : (f : Item) → (j : Id) → (g : Tag) → (t : ℕ) → (c : �
 width-kept (s0, InsertPacket g1 t1 b x) j g t c = here-width (same_tag g1 g && eqb t1 t) (Put b (Fresh s0, x)) tt
 width-kept (serial1, DeletePacket g1 t1 p) j g t c = here-width (same_tag g1 g && eqb t1 t) (Take p) tt
 width-kept (serial1, MovePacket g1 t1 p a) j g t c = here-width (same_tag g1 g && eqb t1 t) (Move p a) tt
-width-kept (serial1, SetVar g1 t1 p v k x) j g t c = width-after (SetVar g1 t1 p v k x) j g t c
-width-kept (serial1, SetHead g1 t1 v x) j g t c = width-after (SetHead g1 t1 v x) j g t c
-width-kept (s0, AddGroup a bs) j g t c = width-after (AddGroup a bs) j g t c
-width-kept (serial1, DropGroup g1) j g t c = width-after (DropGroup g1) j g t c
-width-kept (serial1, Renumber g1 x) j g t c = width-after (Renumber g1 x) j g t c
-width-kept (serial1, TurnGroup g1) j g t c = width-after (TurnGroup g1) j g t c
+width-kept (serial1, SetVar g1 t1 p v k x) j g t c = width_kept (SetVar g1 t1 p v k x) j g t c
+width-kept (serial1, SetHead g1 t1 v x) j g t c = width_kept (SetHead g1 t1 v x) j g t c
+width-kept (s0, AddGroup a bs) j g t c = width_kept (AddGroup a bs) j g t c
+width-kept (serial1, DropGroup g1) j g t c = width_kept (DropGroup g1) j g t c
+width-kept (serial1, Renumber g1 x) j g t c = width_kept (Renumber g1 x) j g t c
+width-kept (serial1, TurnGroup g1) j g t c = width_kept (TurnGroup g1) j g t c
 
 other_place : (g g1 : Tag) → (t t1 : ℕ) → (same_tag g g1 && eqb t t1) ≡ false → (same_tag g1 g && eqb t1 t) ≡ false
 other_place g g1 t t1 h = split_on (same_tag g g1)
@@ -123,7 +80,7 @@ other_place g g1 t t1 h = split_on (same_tag g g1)
 pub no-take : (s0 : ℕ) → (g : Tag) → (t : ℕ) → (b : Option Tag) → (x : Packet) → (f : Item) → room_apart (InsertPacket g t b x) f.1 ≡ true → (j : Id) → (c : ℕ) →
     is_take (packets_change f j g t c) ≡ false
 no-take s0 g t b x (s1, InsertPacket g1 t1 b1 x1) h j c = split_on (same_tag g1 g && eqb t1 t) (λ e. simp e) (λ e. simp e)
-no-take s0 g t b x (serial1, DeletePacket g1 t1 p) h j c = let k = other_place g g1 t t1 (not_true (same_tag g g1 && eqb t t1) h) in simp k
+no-take s0 g t b x (serial1, DeletePacket g1 t1 p) h j c = let k = other_place g g1 t t1 (not-true (same_tag g g1 && eqb t t1) h) in simp k
 no-take s0 g t b x (serial1, MovePacket g1 t1 p a) h j c = split_on (same_tag g1 g && eqb t1 t) (λ e. simp e) (λ e. simp e)
 no-take s0 g t b x f h j c = refl
 
@@ -201,10 +158,10 @@ room-forward (s0, InsertPacket g t b x) h (s1, InsertPacket g1 t1 b1 x1) n plan 
     split_on (same_tag g1 g && eqb t1 t)
     (λ d. let r : used (put same_tag b1 (Fresh s1, x1) y.packets) ≡ used y.packets + width x1 = simp d at r0 in
     let gs = tag_test.itself g in let ts = nat_test.itself t in
-    let here = subst (AcceptedAt (InsertPacket g1 t1 b1 x1)) (here_is g t g1 t1 (effect (s0, InsertPacket g t b x) i plan) d
+    let here = subst (AcceptedAt (InsertPacket g1 t1 b1 x1)) (place_is g1 g t1 t (effect (s0, InsertPacket g t b x) i plan) d
     ∙ telegram-done (s0, InsertPacket g t b x) i g t plan s tt ∙ ap (option_map (telegram_after (s0, InsertPacket g t b x) i g t)) q) fits in
     let l : used (put same_tag b (Fresh s0, x) y.packets) + width x1 ≤ length y.padding = simp (gs, ts) at here.1 in
-    let o = used-put b (Fresh s0, x) y.packets k.0 in
+    let o = used-put_there b (Fresh s0, x) y.packets k.0 in
     simp d (omega arith))
     (λ d. let r : used (each (λ q z. z) y.packets) ≡ used y.packets + 0 = simp d at r0 in simp d (let l = k.1 in omega arith))
   where
@@ -217,7 +174,7 @@ room-forward (s0, InsertPacket g t b x) h (serial1, MovePacket g1 t1 p1 a1) n pl
     let r = used-there (serial1, MovePacket g1 t1 p1 a1) j g t plan s a y q (no-take s0 g t b x (serial1, MovePacket g1 t1 p1 a1) n j (country_of y)) in
     let m = no_more (same_tag g1 g && eqb t1 t) (Move p1 a1) refl in let l = k.1 in omega arith
 room-forward (s0, InsertPacket g t b x) h f n plan s ae a i j fits y q k =
-    let r = used-each (packet_after f.1 j g t (country_of y)) (width-after f.1 j g t (country_of y)) y.packets in let l = k.1 in omega arith
+    let r = used-each (packet_after f.1 j g t (country_of y)) (width_kept f.1 j g t (country_of y)) y.packets in let l = k.1 in omega arith
 room-forward (serial0, SetVar g t p v i0 x) h f n plan s ae a i j fits y q k = tt
 room-forward (serial, SetHead g t v x) h f n plan s ae a i j fits y q k = tt
 room-forward (serial, DeletePacket g t p) h f n plan s ae a i j fits y q k = tt

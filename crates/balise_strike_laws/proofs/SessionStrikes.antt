@@ -17,12 +17,11 @@ use Rattle.balise_rules.specs.Paths.{Entry, apart}
 use Rattle.balise_rules.specs.Behind.{stands_behind, anchor_of, anchored, serials_behind, hung}
 use Rattle.balise_rules.specs.Session.{made, entries, last, others, later, first_dependent, put_by_serial}
 use Rattle.balise_rules.proofs.Tests.{split_on, flip_no, nat_test, tag_test}
-use Rattle.balise_rules.proofs.Lists.{unsome}
+use Rattle.balise_rules.proofs.Cases.{unsome, parts4}
 use Rattle.balise_edit_laws.specs.TakenBack.{IsReady}
 use Rattle.balise_edit_laws.specs.Along.{AllUnused}
 use Rattle.balise_strike_laws.specs.Striking.{AllBecome, Standing, notes_of}
 use Rattle.balise_strike_laws.specs.InSession.{Rising, StruckHere, StrikingHere, UndoingHere, left_of}
-use Rattle.balise_strike_laws.proofs.Cases.{parts4}
 use Rattle.balise_strike_laws.proofs.Past.{Other}
 use Rattle.balise_strike_laws.proofs.StandsBehind.{stands_behind-parts, no_end}
 use Rattle.balise_strike_laws.proofs.Strikes.{striking_under}

@@ -16,7 +16,7 @@ use Rattle.balise_rules.specs.Addresses.{Command, edit_of}
 use Rattle.balise_rules.specs.Session.{State, Removed, lone, Call, Ask, Undo, Redo, Strike, Reply, Done, Undone, Redone, Struck, Refused, opened, held, made, most_commands, entries, last, later, others, first_dependent, put_back, taken_out, struck_out, answer, answer_in_time, answer_accepted, answer_edit, answer_undo, answer_redo, answer_strike, answer_dependent, Answers, top}
 use Rattle.balise_rules.specs.Journal.{Line, all_back}
 use Rattle.balise_rules.specs.Opening.{item_of, most_serial, opened_at, last_serial, with_item, with_entry, with_undone, uncounted}
-use Rattle.balise_rules.proofs.Lists.{unsome}
+use Rattle.balise_rules.proofs.Cases.{unsome}
 use Rattle.balise_edit_laws.specs.TakenBack.{IsReady}
 use Rattle.balise_edit_laws.specs.Along.{AllUnused, AllReady}
 use Rattle.balise_edit_laws.proofs.DoneExactly.{done_along}

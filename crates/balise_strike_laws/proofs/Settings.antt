@@ -2,7 +2,7 @@
 -- Proves that the packet's field keeps its value and the setting its note, forward and back.
 -- From the places that a setting needs: the numbers that it has to do with, the link's own number, and the group's orientation.
 use Rattle.std.proofs.Common.{◌≡◌, ℕ, true, false, List, [], ◌∷◌, filter, Some, refl, sym, ap, subst, ◌∙◌}
-use Rattle.std.proofs.lemmas.Bool.{true≢false, false≢true}
+use Rattle.std.proofs.lemmas.Bool.{false≢true}
 use Rattle.std.specs.Option.{option_map, unwrap_or}
 use Rattle.balise_rules.specs.declared.tag.Tag.{Tag}
 use Rattle.balise_rules.specs.declared.tag.Tag.TheVariants.{Fresh}
@@ -14,51 +14,31 @@ use Rattle.balise_rules.specs.Tags.{same_var, same_key}
 use Rattle.balise_rules.specs.Forms.{Fields}
 use Rattle.balise_rules.specs.Packet.{Packet, value}
 use Rattle.balise_rules.specs.Names.{country_at, is_real}
-use Rattle.balise_rules.specs.Edits.{Edit, Item, SetVar, SetHead, InsertPacket, DeletePacket, MovePacket, AddGroup, DropGroup, Renumber, TurnGroup, packet_after, field_after}
+use Rattle.balise_rules.specs.Edits.{Edit, Item, SetVar, SetHead, InsertPacket, DeletePacket, MovePacket, packet_after, field_after}
 use Rattle.balise_rules.specs.Notes.{Note, nothing, names_set, set_note}
 use Rattle.balise_rules.specs.Accepting.{Lawful}
 use Rattle.balise_rules.specs.Paths.{At, Nth, Of, Turn, Whose}
-use Rattle.balise_rules.proofs.Tests.{split_on, var_test}
-use Rattle.balise_strike_laws.proofs.Cases.{found}
-use Rattle.balise_strike_laws.proofs.Fields.{identity, Steady, country-after, value-each}
+use Rattle.balise_rules.proofs.Tests.{split_on, var_test, flip_no}
+use Rattle.balise_rules.proofs.Cases.{found}
+use Rattle.balise_rules.proofs.Values.{value-each}
+use Rattle.balise_edit_laws.proofs.FieldChanges.{country_stays}
+use Rattle.balise_edit_laws.proofs.HeadChanges.{free_other}
+use Rattle.balise_strike_laws.proofs.Fields.{identity}
 use Rattle.balise_strike_laws.proofs.Headers.{SteadyHead}
 use Rattle.balise_strike_laws.proofs.Levels.{keep}
 use Rattle.balise_strike_laws.proofs.Places.{In, first_of, later_of, in-ids, Clear, Reads}
-use Rattle.std.specs.Prelude.{IsTrue}
-use Rattle.balise_rules.specs.Variables.{steers, is_free_in_header}
+use Rattle.balise_rules.specs.Variables.{is_free_in_header}
 use Rattle.balise_strike_laws.proofs.Named.{in-real}
 use Rattle.balise_strike_laws.proofs.Kept.{Unnamed, RealOwn, RenApart, ren-apart, ren-apart-back, turn-apart, field-kept}
 
--- what an accepted edit sets is set in place: no country, and in a header neither country, number, place nor total
-steers_country : (v : Var) → steers v ≡ false → same_var NidC v ≡ false
-unfolding steers
-steers_country v h = split_on (same_var NidC v) (λ e. absurd (true≢false (ap steers (var_test.one NidC v e) ∙ h))) (λ e. e)
-
-free_other : (v w : Var) → is_free_in_header w ≡ false → IsTrue (is_free_in_header v) → same_var w v ≡ false
-free_other v w n h = split_on (same_var w v) (λ e. absurd (true≢false (sym h ∙ ap is_free_in_header (sym (var_test.one w v e)) ∙ n))) (λ e. e)
-
-pub lawful-steady : (f : Edit) → Lawful f → Steady f
-lawful-steady (SetVar g t p v k x) l = steers_country v l.0
-lawful-steady (SetHead g t v x) l = tt
-lawful-steady (InsertPacket g t a x) l = tt
-lawful-steady (DeletePacket g t p) l = tt
-lawful-steady (MovePacket g t p a) l = tt
-lawful-steady (AddGroup a bs) l = tt
-lawful-steady (DropGroup g) l = tt
-lawful-steady (Renumber g x) l = tt
-lawful-steady (TurnGroup g) l = tt
-
+-- what an accepted edit sets in a header is neither country, number, place nor total
 pub lawful-head : (f : Edit) → Lawful f → SteadyHead f
 unfolding is_free_in_header
-lawful-head (SetHead g t v x) l = (free_other v NidC refl l.0, free_other v NidBg refl l.0, free_other v NPig refl l.0, free_other v NTotal refl l.0)
-lawful-head (SetVar g t p v k x) l = tt
-lawful-head (InsertPacket g t a x) l = tt
-lawful-head (DeletePacket g t p) l = tt
-lawful-head (MovePacket g t p a) l = tt
-lawful-head (AddGroup a bs) l = tt
-lawful-head (DropGroup g) l = tt
-lawful-head (Renumber g x) l = tt
-lawful-head (TurnGroup g) l = tt
+lawful-head (SetHead g t v x) l = (other NidC refl, other NidBg refl, other NPig refl, other NTotal refl)
+  where
+    other : (w : Var) → is_free_in_header w ≡ false → same_var w v ≡ false
+    other w n = flip_no var_test v w (free_other v w l.0 n)
+lawful-head e l = tt
 
 -- what an edit does to the packets of its own telegram
 abbrev pub own_change : Item → Change Tag Packet
@@ -102,7 +82,7 @@ module _ (serial : ℕ) (g : Tag) (t : ℕ) (p : Tag) (v : Var) (k x : ℕ) (n :
   fs1 = each (field_after f.1 m.own g t c p z.fields) z.fields
 
   country-same : country_at c k fs1 ≡ country_at c k z.fields
-  country-same = country-after f.1 (lawful-steady f.1 l) m.own g t c p k z.fields
+  country-same = country_stays f.1 l m.own g t c p k z.fields
 
   value-is : (w : Var) → value w k fs1 ≡ unwrap_or (option_map (field_after f.1 m.own g t c p z.fields (w, k)) (find same_key (w, k) z.fields)) 0
   value-is w = value-each (field_after f.1 m.own g t c p z.fields) w k z.fields

@@ -4,7 +4,7 @@
 use Rattle.balise_rules.specs.Paths.{any_meets}
 use Rattle.balise_rules.specs.Behind.{put_in, anchored_on, same_path, one_path, behind_path, changes_but, stands_behind, re_anchored}
 use Rattle.std.proofs.Common.{◌≡◌, ℕ, Bool, true, false, ◌&&◌, not, eqb, List, [], ◌∷◌, ◌++◌, filter, Option, Some, None, refl, subst, ◌∙◌}
-use Rattle.std.proofs.lemmas.Bool.{and_parts, false≢true}
+use Rattle.std.proofs.lemmas.Bool.{and_parts, false≢true, not-true}
 use Rattle.balise_rules.specs.declared.tag.Tag.{Tag}
 use Rattle.balise_rules.specs.declared.tag.Tag.TheVariants.{Fresh}
 use Rattle.balise_rules.specs.declared.identity.Id.{Id}
@@ -19,7 +19,7 @@ use Rattle.balise_rules.specs.Doing.{done}
 use Rattle.balise_rules.specs.Accepting.{AcceptedAt, Accepted}
 use Rattle.balise_rules.specs.Paths.{At, Nth, After, Whose, Path, meet, anchor, Entry, changes, needs, room_apart}
 use Rattle.balise_rules.proofs.Tests.{split_on, flip_no, tag_test, nat_test}
-use Rattle.balise_strike_laws.proofs.Cases.{parts4, not_true}
+use Rattle.balise_rules.proofs.Cases.{parts4}
 use Rattle.balise_strike_laws.proofs.Places.{In, first_of, later_of, in-left, in-right, in-either, side_apart}
 use Rattle.balise_strike_laws.specs.Laws.{InTurn, CommutesBehind, CommutingBehind}
 use Rattle.balise_strike_laws.proofs.Places.{meet-sym, any_meets-false}
@@ -43,8 +43,8 @@ stands_behind-parts e f h =
     let c = and_parts (not (any_meets (needs e) (changes_but e.0 f))) (room_apart e.0.1 f.0.1) b.1 in (
       a.0,
       record {
-        changed = λ i j. any_meets-false (not_true (any_meets (changes e) (changes_but e.0 f ++ needs f)) b.0) i j;
-        needed = λ i j. any_meets-false (not_true (any_meets (needs e) (changes_but e.0 f)) c.0) i j;
+        changed = λ i j. any_meets-false (not-true (any_meets (changes e) (changes_but e.0 f ++ needs f)) b.0) i j;
+        needed = λ i j. any_meets-false (not-true (any_meets (needs e) (changes_but e.0 f)) c.0) i j;
       },
     )
 

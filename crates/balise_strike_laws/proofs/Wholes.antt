@@ -18,12 +18,12 @@ use Rattle.balise_rules.specs.Notes.{Note}
 use Rattle.balise_rules.specs.Accepting.{Lawful}
 use Rattle.balise_rules.specs.Paths.{At, Nth, Of, Front, Turn, Name, Head}
 use Rattle.balise_rules.proofs.Tests.{split_on}
+use Rattle.balise_rules.proofs.Each.{each-id, each-same}
 use Rattle.balise_strike_laws.proofs.Cases.{drop1}
-use Rattle.balise_strike_laws.proofs.Fields.{each-id}
 use Rattle.balise_strike_laws.proofs.Headers.{country-kept}
 use Rattle.balise_strike_laws.proofs.Levels.{Inner}
 use Rattle.balise_strike_laws.proofs.Places.{In, first_of, later_of, in-left, in-right, Clear, clear-longer}
-use Rattle.balise_strike_laws.proofs.Named.{in-real, each-same}
+use Rattle.balise_strike_laws.proofs.Named.{in-real}
 use Rattle.balise_strike_laws.proofs.Writers.{packet-id}
 use Rattle.balise_strike_laws.proofs.Kept.{Unnamed, RealOwn, NamesApart, names-apart, names-apart-back, packet-same}
 use Rattle.balise_strike_laws.proofs.Settings.{lawful-head}

@@ -1,29 +1,29 @@
 -- What an edit leaves of the packets of a telegram, by the places that it doesn't change.
 -- Proves, for each kind of edit as a writer, that its change of a list leaves alone what comes after a clear place, and that a packet that it spares is found again, changed field by field.
 -- From the places that each kind changes, one kind at a time.
-use Rattle.std.proofs.Common.{◌≡◌, ℕ, Bool, true, false, cond, ◌&&◌, eqb, List, [], ◌∷◌, ◌++◌, reverse, Option, Some, None, refl, sym, ap, ◌∙◌}
+use Rattle.std.proofs.Common.{◌≡◌, ℕ, Bool, true, false, cond, ◌&&◌, eqb, List, [], ◌∷◌, Option, Some, None, refl, sym, ap, ◌∙◌}
 use Rattle.std.specs.Option.{option_map}
 use Rattle.balise_rules.specs.declared.tag.Tag.{Tag}
 use Rattle.balise_rules.specs.declared.tag.Tag.TheVariants.{Fresh}
 use Rattle.balise_rules.specs.declared.identity.Id.{Id}
-use Rattle.balise_rules.specs.Tagged.{same_spot, find, put, without, each, Distinct, move, Change, Each, Put, Take, Move, changed}
+use Rattle.balise_rules.specs.Tagged.{same_spot, find, put, without, each, move, Change, Each, Put, Take, Move, changed}
 use Rattle.balise_rules.specs.Tags.{same_tag}
 use Rattle.balise_rules.specs.Packet.{Packet}
 use Rattle.balise_rules.specs.Telegram.{Telegram}
 use Rattle.balise_rules.specs.Plan.{country_of}
 use Rattle.balise_rules.specs.Edits.{Item, InsertPacket, DeletePacket, MovePacket, telegram_after, packet_after, packets_change}
 use Rattle.balise_rules.specs.Notes.{Note}
-use Rattle.balise_rules.specs.Accepting.{Stands}
 use Rattle.balise_rules.specs.Paths.{At, Nth, After, Front, Path, same_part, anchor, neighbour}
-use Rattle.balise_rules.proofs.Tests.{IsTest, split_on, split_keys, flip_no, flip_spot, tag_test}
+use Rattle.balise_rules.proofs.Tests.{split_on, split_keys, flip_no, flip_spot, tag_test}
 use Rattle.balise_rules.proofs.Lists.{find-put, find-without, find-each, find-without_same}
-use Rattle.balise_strike_laws.proofs.Cases.{found, map_itself, drop1}
-use Rattle.balise_strike_laws.proofs.Fields.{each-id}
-use Rattle.balise_strike_laws.proofs.Changes.{find-move}
+use Rattle.balise_rules.proofs.Cases.{found, map_itself}
+use Rattle.balise_rules.proofs.Each.{each-id}
+use Rattle.balise_rules.proofs.Anchors.{find-put_same, stands-without}
+use Rattle.balise_rules.proofs.Moved.{find-move}
+use Rattle.balise_strike_laws.proofs.Cases.{drop1}
 use Rattle.balise_strike_laws.proofs.Neighbours.{Accepts, Free, takes}
 use Rattle.balise_strike_laws.proofs.Levels.{keep}
 use Rattle.balise_strike_laws.proofs.Places.{first_of, later_of, Clear, side_apart, front_apart}
-use Rattle.std.proofs.lemmas.List.{reverse-append}
 
 pub flip_side : (a c : Option Tag) → (same_part (anchor a) (anchor c) && true) ≡ false → same_spot same_tag c a ≡ false
 flip_side a c h = flip_spot tag_test a c (side_apart a c h)
@@ -62,22 +62,6 @@ clear-takes (serial1, MovePacket g1 t1 p a) m j g t c0 b k =
     (λ e d. front_apart (Some p) b (simp (e, d) at (k (At g1 ∷ Nth t1 ∷ At p ∷ Front ∷ []) first_of)))
 clear-takes f m j g t c0 b k = refl
 
--- what is put in is found
-pub find-put-same : {A : Type 0} → (z : Tag × A) → (a : Option Tag) → (xs : List (Tag × A)) → Stands a xs → find same_tag z.0 xs ≡ None →
-    find same_tag z.0 (put same_tag a z xs) ≡ Some z.1
-find-put-same z None xs s n = let r = tag_test.itself z.0 in simp r
-find-put-same z (Some a) [] s n = let k = s.1 in absurd (cc)
-find-put-same z (Some a) (y ∷ ys) s n =
-    let r = tag_test.itself z.0 in
-    split_on (same_tag z.0 y.0) (λ d. let k = simp d at n in absurd (cc))
-    (λ d. let k : find same_tag z.0 ys ≡ None = simp d at n in
-    split_on (same_tag a y.0) (λ e. simp (e, d, r)) (λ e. let w : find same_tag a ys ≡ Some s.0 = simp e at s.1 in simp (e, d) (find-put-same z (Some a) ys (s.0, w) k)))
-
-pub stands-off : {A : Type 0} → (a : Option Tag) → (p : Tag) → (xs : List (Tag × A)) → same_spot same_tag a (Some p) ≡ false → Stands a xs →
-    Stands a (without same_tag p xs)
-stands-off None p xs n s = tt
-stands-off (Some a) p xs n s = (s.0, find-without tag_test a p n xs ∙ s.1)
-
 -- a change spares an item: neither puts it in nor takes it out
 abbrev pub Spares : {A : Type 0} → Change Tag A → Tag → Type 0
 Spares (Each f) p = Unit {0}
@@ -99,8 +83,8 @@ find-change (Take q) p xs s n = find-without tag_test p q n xs
 find-change (Move q a) p xs s n =
     split_keys tag_test p q
     (λ e r. let h : find same_tag q xs ≡ Some s.0.0 = s.0.1 in
-    ap (λ u. find same_tag u (move same_tag q a xs)) r ∙ ap (λ l. find same_tag q l) (moved h) ∙ find-put-same (q, s.0.0) a (without same_tag q xs) (stands-off a q xs s.2 s.1) (find-without_same same_tag q xs) ∙ sym h ∙ ap (λ u. find same_tag u xs) (sym r))
-    (λ e. find-move p q a e xs)
+    ap (λ u. find same_tag u (move same_tag q a xs)) r ∙ ap (λ l. find same_tag q l) (moved h) ∙ find-put_same a (q, s.0.0) (without same_tag q xs) (stands-without a q xs s.2 s.1) (find-without_same same_tag q xs) ∙ sym h ∙ ap (λ u. find same_tag u xs) (sym r))
+    (λ e. find-move tag_test p q a e xs)
   where
     moved : find same_tag q xs ≡ Some s.0.0 → move same_tag q a xs ≡ put same_tag a (q, s.0.0) (without same_tag q xs)
     moved h = simp h
@@ -147,23 +131,3 @@ pub packet-found : (f : Item) → (m : Note) → (j : Id) → (g : Tag) → (t :
     find same_tag p (telegram_after f j g t y).packets ≡ option_map (packet_after f.1 j g t (country_of y) p) (find same_tag p y.packets)
 packet-found f m j g t p r y s k =
     find-change (packets_change f j g t (country_of y)) p y.packets s (clear-spares f m j g t (country_of y) p r k) ∙ by-packets f j g t (country_of y) p (find same_tag p y.packets)
-
--- turning keeps what is found
-find-append : {K A : Type 0} {same : K → K → Bool} → IsTest same → (k : K) → (xs ys : List (K × A)) → find same k xs ≡ None → find same k (xs ++ ys) ≡ find same k ys
-find-append t k [] ys h = refl
-find-append {same = same} t k (x ∷ xs) ys h = split_on (same k x.0) (λ e. let n = simp e at h in absurd (cc)) (λ e. let n = simp e at h in simp e (find-append t k xs ys n))
-
-find-append-some : {K A : Type 0} {same : K → K → Bool} → IsTest same → (k : K) → (x : A) → (xs ys : List (K × A)) → find same k xs ≡ Some x →
-    find same k (xs ++ ys) ≡ Some x
-find-append-some t k x [] ys h = absurd (cc)
-find-append-some {same = same} t k x (y ∷ xs) ys h = split_on (same k y.0) (λ e. let n = simp e at h in simp e n) (λ e. let n = simp e at h in simp e (find-append-some t k x xs ys n))
-
-pub find-reverse : {K A : Type 0} {same : K → K → Bool} → IsTest same → (k : K) → (xs : List (K × A)) → Distinct same xs → find same k (reverse xs) ≡ find same k xs
-find-reverse t k [] u = refl
-find-reverse {same = same} t k (y ∷ ys) u =
-    rw (reverse-append (y ∷ []) ys)
-    (split_keys t k y.0
-    (λ e p. let g : find same k (reverse ys) ≡ None = find-reverse t k ys u.1 ∙ ap (λ s. find same s ys) p ∙ u.0 in let l : find same k (y ∷ []) ≡ find same k (y ∷ ys) = simp e in find-append t k (reverse ys) (y ∷ []) g ∙ l)
-    (λ e. found (find same k ys)
-    (λ n. let g : find same k (reverse ys) ≡ None = find-reverse t k ys u.1 ∙ n in let r : find same k (y ∷ ys) ≡ None = simp e n in let l : find same k (y ∷ []) ≡ None = simp e in find-append t k (reverse ys) (y ∷ []) g ∙ l ∙ sym r)
-    (λ x n. let g : find same k (reverse ys) ≡ Some x = find-reverse t k ys u.1 ∙ n in let r : find same k (y ∷ ys) ≡ Some x = simp e n in find-append-some t k x (reverse ys) (y ∷ []) g ∙ sym r)))

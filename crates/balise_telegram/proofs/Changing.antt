@@ -11,12 +11,13 @@ use Rattle.balise_rules.specs.Telegram.{Telegram}
 use Rattle.balise_rules.specs.Edits.{exchanged}
 use Rattle.balise_rules.proofs.Tests.{split_on, tag_test}
 use Rattle.balise_rules.proofs.Distincts.{distinct-each}
+use Rattle.balise_rules.proofs.Used.{used-each}
 use Rattle.balise_layout.specs.Setting.{turned, flipped, renamed}
 use Rattle.balise_layout.proofs.Setting.{width-with_field}
 use Rattle.balise_telegram.specs.Reading.{IsHeld}
 use Rattle.balise_telegram.specs.Setting.{with_changed}
 use Rattle.balise_telegram.proofs.Settings.{telegram}
-use Rattle.balise_telegram.proofs.Tagging.{Packets, is_tagged, StandsAt, with_packet, not_found, set_each, used-each, each_absent}
+use Rattle.balise_telegram.proofs.Tagging.{Packets, is_tagged, StandsAt, with_packet, not_found, set_each, each_absent}
 
 -- a packet that isn't there isn't changed
 pub unchanged : (tag : Tag) (f : Packet → Packet) (y : Telegram) → None ≡ position (is_tagged tag) y.packets → y ≡ with_changed tag f y

@@ -12,6 +12,7 @@ use Rattle.balise_rules.specs.Telegram.{Telegram, used}
 use Rattle.balise_rules.proofs.Tests.{split_on, flip_no, tag_test}
 use Rattle.balise_rules.proofs.Lists.{without-absent}
 use Rattle.balise_rules.proofs.Distincts.{distinct-without}
+use Rattle.balise_rules.proofs.Used.{used-without}
 use Rattle.balise_telegram.specs.Reading.{IsHeld}
 use Rattle.balise_rules.specs.Back.{with_packets}
 use Rattle.balise_telegram.specs.Moving.{inserted, Takes}
@@ -69,10 +70,6 @@ none_before tag z (y ∷ ys) n =
     (λ e. let h : find same_tag tag ys ≡ None = simp e at n in simp e (ap (λ l. y ∷ l) (none_before tag z ys h)))
 
 -- ---- what a telegram keeps
-
-used-without : (tag : Tag) (ps : Packets) → used (without same_tag tag ps) ≤ used ps
-used-without tag [] = omega arith
-used-without tag (y ∷ ys) = let ih = used-without tag ys in split_on (same_tag tag y.0) (λ e. simp e (omega (arith, ih))) (λ e. simp e (omega (arith, ih)))
 
 pub held_without : (tag : Tag) (ps : Packets) (padding : List Bool) → IsHeld ps padding → IsHeld (without same_tag tag ps) padding
 held_without tag ps padding h = let u = used-without tag ps in record { tags = distinct-without same_tag tag ps h.tags; size = h.size; fits = omega (arith, u, h.fits) }

@@ -14,6 +14,7 @@ use Rattle.balise_rules.specs.Telegram.{Telegram}
 use Rattle.balise_rules.specs.Doing.{when, first_of, too_wide}
 use Rattle.balise_rules.proofs.Tests.{split_on, tag_test}
 use Rattle.balise_rules.proofs.Distincts.{distinct-each}
+use Rattle.balise_rules.proofs.Used.{used-each}
 use Rattle.balise_layout.specs.declared.fault.LayoutFault.{LayoutFault}
 use Rattle.balise_layout.specs.Held.{with_field as with_packet_field}
 use Rattle.balise_layout.specs.Setting.{Sets, set_refusal}
@@ -23,7 +24,7 @@ use Rattle.balise_telegram.specs.Faults.{of_layout}
 use Rattle.balise_telegram.specs.Reading.{IsHeld}
 use Rattle.balise_telegram.specs.Setting.{field_refusal, SetsField}
 use Rattle.balise_telegram.proofs.Passing.{same_refusal, error_is}
-use Rattle.balise_telegram.proofs.Tagging.{Packets, StandsAt, with_packet, found, set_each, used-each}
+use Rattle.balise_telegram.proofs.Tagging.{Packets, StandsAt, with_packet, found, set_each}
 
 -- a telegram of these parts
 abbrev pub telegram : Fields → Packets → List Bool → Telegram

@@ -15,7 +15,8 @@ use Rattle.balise_rules.specs.Packet.{Packet, width}
 use Rattle.balise_rules.specs.Telegram.{Telegram, used}
 use Rattle.balise_rules.specs.Doing.{when, first_of, same_place}
 use Rattle.balise_rules.proofs.Tests.{split_on, flip_yes, flip_no, tag_test}
-use Rattle.balise_rules.proofs.Lists.{unsome, find-without_same}
+use Rattle.balise_rules.proofs.Lists.{find-without_same}
+use Rattle.balise_rules.proofs.Cases.{unsome}
 use Rattle.balise_telegram.specs.Reading.{IsHeld}
 use Rattle.balise_telegram.specs.Moving.{place_after, shift_refusal, Shifts}
 use Rattle.balise_telegram.proofs.Settings.{telegram}

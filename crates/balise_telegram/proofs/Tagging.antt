@@ -1,18 +1,17 @@
 -- Packets under their tags: where the packet with a tag stands, and what setting it there makes of them.
 -- From the place at which the tag is first found to what is found under it.
-use Rattle.std.proofs.Common.{◌≡◌, ◌∙◌, ℕ, zero, suc, ◌+◌, ◌<◌, Bool, true, false, cond, eqb, List, [], ◌∷◌, length, get_or, slice_set, Some, None, Ok, refl, sym, ap, arith}
+use Rattle.std.proofs.Common.{◌≡◌, ◌∙◌, ℕ, zero, suc, ◌+◌, ◌<◌, Bool, true, false, cond, List, [], ◌∷◌, length, get_or, slice_set, Some, None, Ok, refl, sym, ap, arith}
 use Rattle.std.specs.List.{position, position_from}
-use Rattle.std.proofs.lemmas.Bool.{ne_eqb}
 use Rattle.std.proofs.lemmas.List.Quantifiers.{position-Some}
 use Rattle.std.proofs.lemmas.Iterator.Adapters.{position_from-zero}
 use Rattle.balise_rules.specs.declared.tag.Tag.{Tag}
-use Rattle.balise_rules.specs.declared.tag.Tag.TheVariants.{Base}
 use Rattle.balise_rules.specs.Tagged.{find, each, Distinct}
 use Rattle.balise_rules.specs.Tags.{same_tag}
-use Rattle.balise_rules.specs.Packet.{Packet, width}
-use Rattle.balise_rules.specs.Telegram.{TaggedFrom, used, read_packets}
+use Rattle.balise_rules.specs.Packet.{Packet}
+use Rattle.balise_rules.specs.Telegram.{read_packets}
 use Rattle.balise_rules.proofs.TelegramRead.{packets_found}
 use Rattle.balise_rules.proofs.Tests.{split_on, tag_test}
+use Rattle.balise_rules.proofs.TaggedFrom.{tagged_distinct}
 
 abbrev pub Packets : Type 0
 Packets = List (Tag × Packet)
@@ -75,23 +74,7 @@ set_each tag f (y ∷ ys) (suc i) x u s =
     let e : same_tag tag y.0 ≡ false = s.first zero (omega arith) in
     simp e (ap (λ l. y ∷ l) (set_each tag f ys i x u.1 (stands_behind tag y ys i x s)))
 
--- changes that keep the width of each packet keep the bits that all take
-pub used-each : (f : Tag → Packet → Packet) → ((q : Tag) (x : Packet) → width (f q x) ≡ width x) → (ps : Packets) → used (each f ps) ≡ used ps
-used-each f h [] = refl
-used-each f h (y ∷ ys) = let a = h y.0 y.1 in let b = used-each f h ys in omega (arith, a, b)
-
 -- ---- tags of what was read
-
-tagged_absent : (m n : ℕ) (ps : Packets) → TaggedFrom n ps → m < n → find same_tag (Base m) ps ≡ None
-tagged_absent m n [] u l = refl
-tagged_absent m n (y ∷ ys) u l =
-    let e : eqb m n ≡ false = ne_eqb m n (λ q. omega (arith, q, l)) in
-    let d : same_tag (Base m) y.0 ≡ false = ap (same_tag (Base m)) u.0 ∙ e in
-    simp d (tagged_absent m (suc n) ys u.1 (omega (arith, l)))
-
-pub tagged_distinct : (n : ℕ) (ps : Packets) → TaggedFrom n ps → Distinct same_tag ps
-tagged_distinct n [] u = tt
-tagged_distinct n (y ∷ ys) u = (ap (λ t. find same_tag t ys) u.0 ∙ tagged_absent n (suc n) ys u.1 (omega arith), tagged_distinct (suc n) ys u.1)
 
 pub read_distinct : (most version : ℕ) (b : List Bool) (r : Packets × List Bool) → read_packets most version 0 b ≡ Ok r → Distinct same_tag r.0
 read_distinct most version b r h = tagged_distinct 0 r.0 (packets_found most version 0 b r h).tags

@@ -1,5 +1,28 @@
-use Rattle.balise_rules.proofs.RowsHold as rows
+use Rattle.std.proofs.Common.{refl}
+use Rattle.balise_rules.specs.Variables.{width_of, steers, is_free_in_header, is_distance}
+use Rattle.balise_rules.specs.Bits.{num, bits}
+use Rattle.balise_rules.specs.Digits.{digit_bits, digits_in}
+use Rattle.balise_rules.specs.Forms.{spelling, read_form}
+use Rattle.balise_rules.specs.Packets.{counted, link, linking, gradient, gradients, difference, section, speeds, level, levels, restriction, revocation, infill, is_known, known_body, body, packet}
+use Rattle.balise_rules.specs.Packet.{read_body}
+use Rattle.balise_rules.specs.Telegram.{header, read_packets, read_header, read_telegram}
+use Rattle.balise_rules.specs.Plan.{read_telegrams, read_group}
+use Rattle.balise_rules.specs.Edits.{group_of}
+use Rattle.balise_rules.specs.Addresses.{packet_in}
 use Rattle.balise_rules.proofs.rows.telegram_rows.Goals as goal
 
+-- each side of a row computes to the other
 pub returns : goal.returns
-returns c = record { unchanged = rows.unchanged; set_and_undone = rows.set_and_undone; inserted_and_undone = rows.inserted_and_undone; spare_refused = rows.spare_refused; padding_kept = rows.padding_kept; filled = rows.filled; digits_refused = rows.digits_refused; link_set = rows.link_set; profile_set = rows.profile_set; others_set = rows.others_set }
+unfolding width_of steers is_free_in_header is_distance num bits digit_bits digits_in spelling read_form counted link linking gradient gradients difference section speeds level levels restriction revocation infill is_known known_body body packet read_body header read_packets read_header read_telegram read_telegrams read_group group_of packet_in
+returns c = record {
+  unchanged = (refl, refl, refl);
+  set_and_undone = (refl, refl, refl);
+  inserted_and_undone = (refl, refl);
+  spare_refused = (refl, refl);
+  padding_kept = (refl, refl, refl, refl);
+  filled = refl;
+  digits_refused = refl;
+  link_set = refl;
+  profile_set = (refl, refl);
+  others_set = (refl, refl, refl);
+}

@@ -1,8 +1,7 @@
 -- What soundness says of a group, telegram, packet and field that is found.
 -- From the records of soundness and the numbering of fields.
 -- The laws speak of what is found under tags, never of places in lists.
-use Rattle.std.proofs.Common.{◌≡◌, ℕ, suc, ◌+◌, ◌-◌, ◌≤◌, Bool, eqb, IsTrue, All, List, [], ◌∷◌, length, Option, Some, None, refl, sym, ap, subst, ◌∙◌, arith}
-use Rattle.std.proofs.lemmas.List.Elements.{All-head, All-tail}
+use Rattle.std.proofs.Common.{◌≡◌, ℕ, suc, ◌+◌, ◌-◌, ◌≤◌, Bool, eqb, IsTrue, List, [], ◌∷◌, length, Some, sym, ap, subst, ◌∙◌, arith}
 use Rattle.balise_rules.specs.declared.tag.Tag.{Tag}
 use Rattle.balise_rules.specs.declared.identity.Id.{Id}
 use Rattle.balise_rules.specs.Variables.{width_of}
@@ -14,21 +13,13 @@ use Rattle.balise_rules.specs.Packet.{Packet, IsSpelt}
 use Rattle.balise_rules.specs.Telegram.{Telegram, version_of}
 use Rattle.balise_rules.specs.Plan.{Group, Plan, identity_of, telegram_at, IsSoundTelegram, SoundFrom, IsSoundGroup, IsSound}
 use Rattle.balise_rules.proofs.Tests.{split_on, split_keys, key_test}
-use Rattle.balise_rules.proofs.Lists.{unsome}
-use Rattle.balise_edit_laws.proofs.Keys.{numbered_distinct}
-
--- by cases on what is found
-pub found : {P A : Type 0} → (o : Option A) → (o ≡ None → P) → ((a : A) → o ≡ Some a → P) → P
-found None f g = f refl
-found (Some a) f g = g a refl
-
--- what all items have, the one that is found has
-pub all_found : {K A : Type 0} → (P : A → Type 0) → (same : K → K → Bool) → (xs : List (K × A)) → All (λ y. P y.1) xs → (k : K) → (x : A) → find same k xs ≡ Some x → P x
-all_found P same [] a k x h = cc
-all_found P same (y ∷ ys) a k x h =
-    split_on (same k y.0)
-    (λ e. let w : Some y.1 ≡ Some x = simp e at h in subst P (unsome w) (All-head (λ z. P z.1) y ys a))
-    (λ e. let w : find same k ys ≡ Some x = simp e at h in all_found P same ys (All-tail (λ z. P z.1) y ys a) k x w)
+use Rattle.balise_rules.proofs.Cases.{found, unsome}
+use Rattle.balise_rules.proofs.AllItems.{all_found}
+use Rattle.balise_rules.proofs.Keys.{numbered_distinct}
+use Rattle.std.proofs.lemmas.Bool.{and_parts}
+use Rattle.balise_rules.proofs.Cases.{found, unsome}
+use Rattle.balise_rules.proofs.Tests.{tag_test, nat_test}
+use Rattle.std.proofs.Common.{◌&&◌, true}
 
 pub group_sound : (plan : Plan) → IsSound plan → (g : Tag) → (ys : Group) → find same_tag g plan ≡ Some ys → IsSoundGroup ys
 group_sound plan s g ys h = all_found IsSoundGroup same_tag plan s.groups g ys h
@@ -51,6 +42,18 @@ placed ys s t y h =
     let r = placed_from (identity_of ys) (length ys - 1) 0 ys s.telegrams t y h in let b = r.1 in
     record { place = r.0; within = omega (arith, b); sound = r.2 }
 
+-- a telegram that is found stands in a group
+pub record InGroup (g : Tag) (t : ℕ) (plan : Plan) (y : Telegram) : Type 0 where
+  pub group : Group
+  pub has_group : find same_tag g plan ≡ Some group
+  pub has_telegram : find eqb t group ≡ Some y
+
+pub in_group : (g : Tag) → (t : ℕ) → (plan : Plan) → (y : Telegram) → telegram_at g t plan ≡ Some y → InGroup g t plan y
+in_group g t plan y h =
+    found (find same_tag g plan)
+    (λ e. absurd (let k = simp e at h in cc))
+    (λ ys e. let k : find eqb t ys ≡ Some y = simp e at h in record { group = ys; has_group = e; has_telegram = k })
+
 -- a telegram of the plan, with its group
 pub record Stood (g : Tag) (t : ℕ) (plan : Plan) (y : Telegram) : Type 0 where
   pub group : Group
@@ -61,10 +64,9 @@ pub record Stood (g : Tag) (t : ℕ) (plan : Plan) (y : Telegram) : Type 0 where
 
 pub stood : (g : Tag) → (t : ℕ) → (plan : Plan) → IsSound plan → (y : Telegram) → telegram_at g t plan ≡ Some y → Stood g t plan y
 stood g t plan s y h =
-    found (find same_tag g plan)
-    (λ e. let k = simp e at h in absurd cc)
-    (λ ys e. let k : find eqb t ys ≡ Some y = simp e at h in let w = group_sound plan s g ys e in
-    record { group = ys; has_group = e; has_telegram = k; group_is = w; placed = placed ys w t y k })
+    let i = in_group g t plan y h in
+    let w = group_sound plan s g i.group i.has_group in
+    record { group = i.group; has_group = i.has_group; has_telegram = i.has_telegram; group_is = w; placed = placed i.group w t y i.has_telegram }
 
 -- keys are distinct
 pub head_distinct : {i : Id} {last n : ℕ} → (y : Telegram) → IsSoundTelegram i last n y → Distinct same_key y.head
@@ -88,3 +90,9 @@ field_fits (valued v next) (f ∷ fs) rest m key n h =
     let z : v ≡ key.0 = sym m.0 ∙ ap (λ (c : Key). c.0) (sym q) in
     subst (λ a. IsTrue (fits (width_of key.0) a)) (unsome w) (subst (λ a. IsTrue (fits (width_of a) f.1)) z m.1))
     (λ e. let w : find same_key key fs ≡ Some n = simp e at h in field_fits (next f.1) fs rest m.2 key n w)
+
+-- the same place
+pub place_is : (g0 g : Tag) → (t0 t : ℕ) → (plan : Plan) → (same_tag g0 g && eqb t0 t) ≡ true → telegram_at g0 t0 plan ≡ telegram_at g t plan
+place_is g0 g t0 t plan e =
+    let h = and_parts (same_tag g0 g) (eqb t0 t) e in
+    ap (λ u. telegram_at u t0 plan) (tag_test.one g0 g h.0) ∙ ap (λ u. telegram_at g u plan) (nat_test.one t0 t h.1)

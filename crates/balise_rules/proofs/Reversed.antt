@@ -1,15 +1,20 @@
--- A list turned round: its length, its keys, and what is found in it.
+-- Lists joined and turned round: their keys, what is found in them, and a change of each item.
 -- From the law that the head comes last.
 -- A turned group has its telegrams in the other order.
-use Rattle.std.proofs.Common.{◌≡◌, suc, Bool, List, [], ◌∷◌, ◌++◌, length, reverse, Some, None, refl, sym, ap, ◌∙◌}
+use Rattle.std.proofs.Common.{◌≡◌, Bool, List, [], ◌∷◌, ◌++◌, reverse, Some, None, refl, sym, ap, ◌∙◌}
 use Rattle.std.proofs.lemmas.List.{reverse-append}
 use Rattle.balise_rules.specs.Tagged.{find, each, Distinct}
 use Rattle.balise_rules.proofs.Tests.{IsTest, split_on, split_keys, flip_no}
-use Rattle.balise_edit_laws.proofs.Found.{found}
+use Rattle.balise_rules.proofs.Cases.{found}
+use Rattle.balise_rules.proofs.Cases.{found}
+use mathlib.Core.List.{reverse_aux}
 
-pub length_after : {K A : Type 0} → (f : K → A → A) → (xs : List (K × A)) → length (each f xs) ≡ length xs
-length_after f [] = refl
-length_after f (y ∷ ys) = ap suc (length_after f ys)
+each-aux : {K A : Type 0} → (f : K → A → A) → (xs ys : List (K × A)) → each f (reverse_aux xs ys) ≡ reverse_aux (each f xs) (each f ys)
+each-aux f [] ys = refl
+each-aux f (x ∷ xs) ys = each-aux f xs (x ∷ ys)
+
+pub each-reverse : {K A : Type 0} → (f : K → A → A) → (xs : List (K × A)) → each f (reverse xs) ≡ reverse (each f xs)
+each-reverse f xs = each-aux f xs []
 
 pub find-append : {K A : Type 0} → (same : K → K → Bool) → (k : K) → (xs ys : List (K × A)) → find same k xs ≡ None → find same k (xs ++ ys) ≡ find same k ys
 find-append same k [] ys h = refl

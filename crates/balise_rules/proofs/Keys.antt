@@ -1,12 +1,23 @@
--- Numbered fields have each key once, and under a variable they have the keys from 0 on.
+-- Keys of fields: a key of one variable isn't of another; and numbered fields have each key once, under a variable those from 0 on.
 -- From the numbering alone: a field's number is the count of its variable among the fields before it.
 -- Header and packets rest on it.
-use Rattle.std.proofs.Common.{◌≡◌, ℕ, suc, ◌+◌, ◌<◌, ◌≤◌, true, false, [], ◌∷◌, ◌++◌, Some, None, refl, sym, ap, ◌∙◌, arith}
+use Rattle.std.proofs.Common.{eqb, ◌≡◌, ℕ, suc, ◌+◌, ◌<◌, ◌≤◌, true, false, [], ◌∷◌, ◌++◌, Some, None, refl, sym, ap, ◌∙◌, arith}
+use Rattle.std.proofs.lemmas.Bool.{and_left}
 use Rattle.balise_rules.specs.declared.variable.Var.{Var}
 use Rattle.balise_rules.specs.Tagged.{find, Distinct}
 use Rattle.balise_rules.specs.Tags.{Key, same_var, same_key, is_of}
 use Rattle.balise_rules.specs.Forms.{Fields, count_of, NumberedFrom}
-use Rattle.balise_rules.proofs.Tests.{split_on, split_keys, var_test, key_test}
+use Rattle.balise_rules.proofs.Tests.{flip_no, split_on, split_keys, var_test, key_test}
+
+pub of_is : (v : Var) → (key : Key) → is_of v key ≡ true → key ≡ (v, key.1)
+of_is v key e = ap (λ (x : Var). (x, key.1)) (sym (var_test.one v key.0 e))
+
+-- a field of one variable isn't one of another
+pub other_key : (v w : Var) → (k : ℕ) → (key : Key) → same_var v w ≡ false → is_of v key ≡ true → same_key (w, k) key ≡ false
+other_key v w k key n e = and_left (same_var w key.0) (eqb k key.1) (ap (same_var w) (sym (var_test.one v key.0 e)) ∙ flip_no var_test v w n)
+
+pub not_other : (v w : Var) → (key : Key) → same_var v w ≡ false → is_of v key ≡ true → is_of w key ≡ false
+not_other v w key n e = ap (same_var w) (sym (var_test.one v key.0 e)) ∙ flip_no var_test v w n
 
 pub count-append : (v : Var) → (xs ys : Fields) → count_of v (xs ++ ys) ≡ count_of v xs + count_of v ys
 count-append v [] ys = omega arith

@@ -1,0 +1,38 @@
+-- By cases: on what is found, on what was read, and on tests joined by 'and'.
+-- From nothing but the cases themselves.
+use Rattle.std.proofs.Common.{◌≡◌, Bool, true, false, ◌&&◌, Option, Some, None, Result, Ok, refl, sym, ap}
+use Rattle.std.specs.Option.{option_map}
+
+pub unsome : {A : Type 0} {a b : A} → Some a ≡ Some b → a ≡ b
+unsome e = cc
+
+pub unok : {A E : Type 0} → {a b : A} → ◌≡◌ {A = Result A E} (Ok a) (Ok b) → a ≡ b
+unok e = cc
+
+-- by cases on what is found
+pub found : {A : Type 0} {P : Type 0} → (o : Option A) → (o ≡ None → P) → ((x : A) → o ≡ Some x → P) → P
+found None n s = n refl
+found (Some x) n s = s x refl
+
+-- what a change made of something was made of something
+pub some_is : {A : Type 0} → (o : Option A) → (h : A → A) → (b : A) → option_map h o ≡ Some b → {P : Type 0} → ((a : A) → o ≡ Some a → b ≡ h a → P) → P
+some_is None h b e k = absurd (cc)
+some_is (Some a) h b e k = k a refl (sym (unsome e))
+
+-- a change of nothing
+pub map_itself : {A : Type 0} → (h : A → A) → ((x : A) → h x ≡ x) → (o : Option A) → o ≡ option_map h o
+map_itself h k None = refl
+map_itself h k (Some x) = ap Some (sym (k x))
+
+pub parts3 : (a b c : Bool) → (a && (b && c)) ≡ true → (a ≡ true) × (b ≡ true) × (c ≡ true)
+parts3 true true true h = (refl, refl, refl)
+parts3 true true false h = cc
+parts3 true false c h = cc
+parts3 false b c h = cc
+
+pub parts4 : (a b c d : Bool) → (a && (b && (c && d))) ≡ true → (a ≡ true) × (b ≡ true) × (c ≡ true) × (d ≡ true)
+parts4 true true true true h = (refl, refl, refl, refl)
+parts4 true true true false h = cc
+parts4 true true false d h = cc
+parts4 true false c d h = cc
+parts4 false b c d h = cc

@@ -1,0 +1,25 @@
+-- Packets tagged by their places, as what was read alone: each tag stands once, and no serial tags any.
+-- From the numbering of the places.
+use Rattle.std.proofs.Common.{◌≡◌, ℕ, suc, ◌<◌, false, eqb, List, [], ◌∷◌, None, refl, ap, ◌∙◌, arith}
+use Rattle.std.proofs.lemmas.Bool.{ne_eqb}
+use Rattle.balise_rules.specs.declared.tag.Tag.{Tag}
+use Rattle.balise_rules.specs.declared.tag.Tag.TheVariants.{Base, Fresh}
+use Rattle.balise_rules.specs.Tagged.{find, Distinct}
+use Rattle.balise_rules.specs.Tags.{same_tag}
+use Rattle.balise_rules.specs.Packet.{Packet}
+use Rattle.balise_rules.specs.Telegram.{TaggedFrom}
+
+tagged_absent : (m n : ℕ) → (ps : List (Tag × Packet)) → TaggedFrom n ps → m < n → find same_tag (Base m) ps ≡ None
+tagged_absent m n [] u l = refl
+tagged_absent m n (y ∷ ys) u l =
+    let e : eqb m n ≡ false = ne_eqb m n (λ q. omega (arith, q, l)) in
+    let d : same_tag (Base m) y.0 ≡ false = ap (same_tag (Base m)) u.0 ∙ e in
+    simp d (tagged_absent m (suc n) ys u.1 (omega (arith, l)))
+
+pub tagged_distinct : (n : ℕ) → (ps : List (Tag × Packet)) → TaggedFrom n ps → Distinct same_tag ps
+tagged_distinct n [] u = tt
+tagged_distinct n (y ∷ ys) u = (ap (λ t. find same_tag t ys) u.0 ∙ tagged_absent n (suc n) ys u.1 (omega arith), tagged_distinct (suc n) ys u.1)
+
+pub never_fresh : (s n : ℕ) → (ps : List (Tag × Packet)) → TaggedFrom n ps → find same_tag (Fresh s) ps ≡ None
+never_fresh s n [] u = refl
+never_fresh s n (y ∷ ys) u = let d : same_tag (Fresh s) y.0 ≡ false = ap (same_tag (Fresh s)) u.0 in simp d (never_fresh s (suc n) ys u.1)

@@ -1,6 +1,6 @@
 -- An edit of a field that was accepted is taken back by setting the old value, which is accepted on what the edit made.
 -- From the field, which still stands, and the old value, which stood in a sound plan and so fits.
-use Rattle.std.proofs.Common.{◌≡◌, ℕ, IsTrue, eqb, Option, Some, None, option_map, option_and_then, refl, sym, ap, subst, ◌∙◌}
+use Rattle.std.proofs.Common.{◌≡◌, ℕ, IsTrue, eqb, Some, None, option_map, option_and_then, refl, sym, ap, subst, ◌∙◌}
 use Rattle.balise_rules.specs.declared.identity.Id.{Id}
 use Rattle.balise_rules.specs.declared.tag.Tag.{Tag}
 use Rattle.balise_rules.specs.declared.variable.Var.{Var}
@@ -14,23 +14,19 @@ use Rattle.balise_rules.specs.Edits.{SetVar, SetHead, effect, group_after, teleg
 use Rattle.balise_rules.specs.Edits as rules
 use Rattle.balise_rules.specs.Notes.{noted, note_at, set_note, nothing}
 use Rattle.balise_rules.specs.Doing.{done, refusal}
-use Rattle.balise_rules.specs.Accepting.{Accepted, AcceptedAt, AcceptedIn}
+use Rattle.balise_rules.specs.Accepting.{Accepted, AcceptedAt}
 use Rattle.balise_rules.specs.Back.{back}
 use Rattle.balise_rules.proofs.Tests.{tag_test, nat_test, key_test}
 use Rattle.balise_rules.proofs.Lists.{find-each}
 use Rattle.balise_rules.proofs.Found.{stood, packet_spelt, field_fits}
 use Rattle.balise_rules.proofs.Values.{value_found}
+use Rattle.balise_rules.proofs.Accepted.{accepted_here}
 use Rattle.balise_edit_laws.proofs.Refusing.{refused_exactly}
 use Rattle.balise_edit_laws.proofs.TakingBack.{taking_back}
 use Rattle.balise_cli.specs.declared.edit.Edit.{Edit}
 use Rattle.balise_cli.specs.declared.edit.Edit.TheVariants as edit
 use Rattle.balise_cli.specs.Held.{IsHeld, edit_of, setting}
 use Rattle.balise_cli.proofs.Ready.{held_kept}
-
--- the telegram of an edit, and what the edit asks of it
-there : (e : rules.Edit) → (o : Option Telegram) → AcceptedAt e o → (y : Telegram) × (o ≡ Some y) × AcceptedIn e y
-there e None h = absurd h
-there e (Some y) h = (y, refl, h)
 
 -- the telegram that stands under its tags after a setting
 telegram_then : (e : Edit) → (s : ℕ) → (i : Id) → (g : Tag) → (t : ℕ) → (plan : Plan) → IsSound plan → (y : Telegram) → telegram_at g t plan ≡ Some y → telegram_at g t (effect (s, edit_of e) i plan) ≡ Some (telegram_after (s, edit_of e) i g t y)
@@ -49,7 +45,7 @@ field_again : (s : ℕ) → (g : Tag) → (t : ℕ) → (p : Tag) → (v : Var) 
 field_again s g t p v k n plan sound a =
     let e : rules.Edit = SetVar g t p v k n in
     let own = (noted e plan).own in
-    let w = there e (telegram_at g t plan) a.1 in
+    let w = accepted_here e (telegram_at g t plan) a.1 in
     let y = w.0 in
     let x = w.2.0 in
     let old = w.2.2.0 in
@@ -66,7 +62,7 @@ head_again : (s : ℕ) → (g : Tag) → (t : ℕ) → (v : Var) → (n : ℕ) �
 head_again s g t v n plan sound a =
     let e : rules.Edit = SetHead g t v n in
     let own = (noted e plan).own in
-    let w = there e (telegram_at g t plan) a.1 in
+    let w = accepted_here e (telegram_at g t plan) a.1 in
     let y = w.0 in
     let old = w.2.0 in
     let st = stood g t plan sound y w.1 in

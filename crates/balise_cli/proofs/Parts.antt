@@ -1,9 +1,10 @@
 -- The parts of a text, one after another: the first ends where the separator stands first.
-use Rattle.std.proofs.Common.{◌≡◌, ℕ, suc, ◌+◌, Bool, true, false, cond, ltb, List, [], ◌∷◌, length, take, drop, Option, Some, None, refl, sym, ap, ◌∙◌, arith}
+use Rattle.std.proofs.Common.{◌≡◌, ℕ, suc, ◌+◌, true, false, cond, ltb, List, [], ◌∷◌, length, take, drop, Option, Some, None, refl, sym, ap, ◌∙◌, arith}
 use Rattle.std.specs.Prelude.{position, ◌==◌}
 use Rattle.std.specs.List.{position_or_len}
 use Rattle.std.proofs.lemmas.Bool.{lt-ltb, le-ltb, ltb-true, ltb-false}
 use Rattle.balise_cli.specs.Words.{Word, onto_first, parts_of}
+use Rattle.balise_rules.proofs.Tests.{split_on}
 
 abbrev place : ℕ → Word → ℕ
 place mark w = position_or_len (λ b. b == mark) w
@@ -11,10 +12,6 @@ place mark w = position_or_len (λ b. b == mark) w
 -- the parts, cut at a place
 abbrev cut : ℕ → Word → ℕ → List Word
 cut mark w n = cond (ltb n (length w)) (take n w ∷ parts_of mark (drop (suc n) w)) (w ∷ [])
-
-split_on : {P : Type 0} → (b : Bool) → (b ≡ true → P) → (b ≡ false → P) → P
-split_on true f g = f refl
-split_on false f g = g refl
 
 -- one byte more in front
 longer : (mark b : ℕ) (bs : Word) (n : ℕ) → onto_first b (cut mark bs n) ≡ cut mark (b ∷ bs) (suc n)

@@ -60,11 +60,7 @@ fields_fit (TurnGroup g0) l i g t c p fs key n h =
     (λ e. fits_if (is_of QDir key && same_tag g0 g) (width_of key.0) (exchanged 0 1 n) n
     (λ d. let w = (and_parts (is_of QDir key) (same_tag g0 g) d).0 in wide QDir key (exchanged 0 1 n) w (swapped_fits n (narrow QDir key n w h))) (λ d. h))
 fields_fit (SetHead g0 t0 v0 new) l i g t c p fs key n h = h
-fields_fit (InsertPacket g0 t0 a x) l i g t c p fs key n h = h
-fields_fit (DeletePacket g0 t0 q) l i g t c p fs key n h = h
-fields_fit (MovePacket g0 t0 q a) l i g t c p fs key n h = h
-fields_fit (AddGroup a bs) l i g t c p fs key n h = h
-fields_fit (DropGroup g0) l i g t c p fs key n h = h
+fields_fit e l i g t c p fs key n h = h
 
 length_steers : steers LPacket ≡ true
 unfolding steers

@@ -83,25 +83,11 @@ turns e g = false
 
 pub order_is : (e : Edit) → (g : Tag) → (ys : Group) → in_order e g ys ≡ cond (turns e g) (reverse ys) ys
 order_is (TurnGroup g0) g ys = refl
-order_is (SetVar g0 t0 p v k new) g ys = refl
-order_is (SetHead g0 t0 v0 new) g ys = refl
-order_is (Renumber g0 new) g ys = refl
-order_is (InsertPacket g0 t0 a x) g ys = refl
-order_is (DeletePacket g0 t0 q) g ys = refl
-order_is (MovePacket g0 t0 q a) g ys = refl
-order_is (AddGroup a bs) g ys = refl
-order_is (DropGroup g0) g ys = refl
+order_is e g ys = refl
 
 place_is_turned : (e : Edit) → (g : Tag) → (last n : ℕ) → new_place e g last n ≡ cond (turns e g) (last - n) n
 place_is_turned (TurnGroup g0) g last n = refl
-place_is_turned (SetVar g0 t0 p v k new) g last n = refl
-place_is_turned (SetHead g0 t0 v0 new) g last n = refl
-place_is_turned (Renumber g0 new) g last n = refl
-place_is_turned (InsertPacket g0 t0 a x) g last n = refl
-place_is_turned (DeletePacket g0 t0 q) g last n = refl
-place_is_turned (MovePacket g0 t0 q a) g last n = refl
-place_is_turned (AddGroup a bs) g last n = refl
-place_is_turned (DropGroup g0) g last n = refl
+place_is_turned e g last n = refl
 
 -- what is known of a group after an edit
 pub record GroupKept (j : Id) (ys : Group) : Type 0 where

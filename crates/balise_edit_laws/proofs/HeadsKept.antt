@@ -79,11 +79,7 @@ head_fits (TurnGroup g0) l g t hs w key n h =
     (λ e. fits_if (is_of NPig key && same_tag g0 g) (width_of key.0) (value NTotal 0 hs - n) n
     (λ d. wide NPig key (value NTotal 0 hs - n) (and_parts (is_of NPig key) (same_tag g0 g) d).0 (counted_back (value NTotal 0 hs) n w)) (λ d. h))
 head_fits (SetVar g0 t0 p v k new) l g t hs w key n h = h
-head_fits (InsertPacket g0 t0 a x) l g t hs w key n h = h
-head_fits (DeletePacket g0 t0 q) l g t hs w key n h = h
-head_fits (MovePacket g0 t0 q a) l g t hs w key n h = h
-head_fits (AddGroup a bs) l g t hs w key n h = h
-head_fits (DropGroup g0) l g t hs w key n h = h
+head_fits e l g t hs w key n h = h
 
 -- the value of a variable that the header has, after a change
 value_after : (h : Key → ℕ → ℕ) → (v : Var) → (hs : Fields) → Matches header hs [] → Numbered hs → count_in v header_variables ≡ 1 → value v 0 (each h hs) ≡ h (v, 0) (value v 0 hs)
@@ -115,35 +111,16 @@ not_free_place = refl
 number_after : (e : Edit) → Lawful e → (i : Id) → (g : Tag) → (t : ℕ) → (hs : Fields) → head_after e g t hs (NidBg, 0) i.number ≡ (new_identity e g i).number
 number_after (SetHead g0 t0 v0 new) l i g t hs = let a = free_other v0 NidBg l.0 not_free_number in simp a
 number_after (Renumber g0 new) l i g t hs = split_on (same_tag g0 g) (λ e. simp e) (λ e. simp e)
-number_after (TurnGroup g0) l i g t hs = refl
-number_after (SetVar g0 t0 p v k new) l i g t hs = refl
-number_after (InsertPacket g0 t0 a x) l i g t hs = refl
-number_after (DeletePacket g0 t0 q) l i g t hs = refl
-number_after (MovePacket g0 t0 q a) l i g t hs = refl
-number_after (AddGroup a bs) l i g t hs = refl
-number_after (DropGroup g0) l i g t hs = refl
+number_after e l i g t hs = refl
 
 country_after : (e : Edit) → (i : Id) → (g : Tag) → (new_identity e g i).country ≡ i.country
 country_after (Renumber g0 new) i g = split_on (same_tag g0 g) (λ e. simp e) (λ e. simp e)
-country_after (SetVar g0 t0 p v k new) i g = refl
-country_after (SetHead g0 t0 v0 new) i g = refl
-country_after (TurnGroup g0) i g = refl
-country_after (InsertPacket g0 t0 a x) i g = refl
-country_after (DeletePacket g0 t0 q) i g = refl
-country_after (MovePacket g0 t0 q a) i g = refl
-country_after (AddGroup a bs) i g = refl
-country_after (DropGroup g0) i g = refl
+country_after e i g = refl
 
 place_after : (e : Edit) → Lawful e → (g : Tag) → (t : ℕ) → (hs : Fields) → (last n : ℕ) → value NTotal 0 hs ≡ last → head_after e g t hs (NPig, 0) n ≡ new_place e g last n
 place_after (SetHead g0 t0 v0 new) l g t hs last n q = let a = free_other v0 NPig l.0 not_free_place in simp a
-place_after (Renumber g0 new) l g t hs last n q = refl
 place_after (TurnGroup g0) l g t hs last n q = ap (λ a. cond (same_tag g0 g) (a - n) n) q
-place_after (SetVar g0 t0 p v k new) l g t hs last n q = refl
-place_after (InsertPacket g0 t0 a x) l g t hs last n q = refl
-place_after (DeletePacket g0 t0 p) l g t hs last n q = refl
-place_after (MovePacket g0 t0 p a) l g t hs last n q = refl
-place_after (AddGroup a bs) l g t hs last n q = refl
-place_after (DropGroup g0) l g t hs last n q = refl
+place_after e l g t hs last n q = refl
 
 pub head_kept : (e : Edit) → Lawful e → (i : Id) → (last n : ℕ) → (g : Tag) → (t : ℕ) → (hs : Fields) → HeadSound i last n hs → HeadSound (new_identity e g i) last (new_place e g last n) (each (head_after e g t hs) hs)
 head_kept e l i last n g t hs s =

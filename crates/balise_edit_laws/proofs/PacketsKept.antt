@@ -59,8 +59,4 @@ packets_kept (s, MovePacket g0 t0 p a) l i g t c version most ps w n =
     either (same_tag g0 g && eqb t0 t) (Move p a) (Each (λ q y. y)) version most ps
     (λ e. let f = w.fits in record { tags = distinct-move tag_test p a ps w.tags; packets = all-move (IsSpelt version) same_tag p a ps w.packets; fits = omega (arith, used-move p a ps, f) }) (stay version most ps w)
 packets_kept (s, SetVar g0 t0 p v k new) l i g t c version most ps w n = after_each (SetVar g0 t0 p v k new) l i g t c version most ps w
-packets_kept (s, SetHead g0 t0 v new) l i g t c version most ps w n = after_each (SetHead g0 t0 v new) l i g t c version most ps w
-packets_kept (s, AddGroup a bs) l i g t c version most ps w n = after_each (AddGroup a bs) l i g t c version most ps w
-packets_kept (s, DropGroup g0) l i g t c version most ps w n = after_each (DropGroup g0) l i g t c version most ps w
-packets_kept (s, Renumber g0 new) l i g t c version most ps w n = after_each (Renumber g0 new) l i g t c version most ps w
-packets_kept (s, TurnGroup g0) l i g t c version most ps w n = after_each (TurnGroup g0) l i g t c version most ps w
+packets_kept e l i g t c version most ps w n = after_each e.1 l i g t c version most ps w

@@ -1,7 +1,7 @@
 -- The law that a command that isn't refused asks for an edit that is ready.
 -- From the equivalence of refusal and acceptance, and for an insertion from the reading of its digits.
 -- The telegram that is found by its address is the one under its tags, so the packet is spelt in its version.
-use Rattle.std.proofs.Common.{◌≡◌, ℕ, zero, suc, ◌+◌, Bool, true, false, not, cond, eqb, ltb, List, [], ◌∷◌, length, take, drop, Option, Some, None, Result, Ok, Err, option_and_then, refl, sym, ap, subst, ◌∙◌}
+use Rattle.std.proofs.Common.{◌≡◌, ℕ, zero, suc, ◌+◌, Bool, not, cond, eqb, ltb, List, [], ◌∷◌, length, take, drop, Option, Some, None, Result, Ok, Err, option_and_then, refl, sym, ap, subst, ◌∙◌}
 use Rattle.balise_rules.specs.declared.refusal.Refusal.TheVariants.{PacketCut, NoSuchGroup, NoSuchTelegram, NoSuchPacket}
 use Rattle.balise_rules.specs.Refusals.{and_then}
 use Rattle.balise_rules.specs.Digits.{fill, all_zero}
@@ -24,7 +24,7 @@ use Rattle.balise_rules.specs.Accepting.{Unused, Spelt}
 use Rattle.balise_rules.specs.Edits.{Edit, SetVar, SetHead, InsertPacket, DeletePacket, MovePacket, AddGroup, DropGroup, Renumber, TurnGroup}
 use Rattle.balise_edit_laws.specs.TakenBack.{IsReady}
 use Rattle.balise_rules.proofs.Tests.{split_on, tag_test, nat_test}
-use Rattle.balise_rules.proofs.Cases.{unsome, unok}
+use Rattle.balise_rules.proofs.Cases.{unsome, unok, unless}
 use Rattle.balise_rules.proofs.Each.{found_later}
 use Rattle.balise_rules.proofs.Found.{group_sound}
 use Rattle.balise_edit_laws.proofs.Refusing.{refused_exactly}
@@ -56,10 +56,6 @@ in_turn (Ok x) f y h = record { first = x; is = refl; then_is = h }
 or_some : {A : Type 0} → (o : Option A) → (r : Refusal) → (x : A) → ok_or o r ≡ Ok x → o ≡ Some x
 or_some None r x h = absurd cc
 or_some (Some y) r x h = cc
-
-unless : {A : Type 0} → (c : Bool) → (r : Refusal) → (q : Result A Refusal) → (y : A) → cond c (Err r) q ≡ Ok y → (c ≡ false) × (q ≡ Ok y)
-unless true r q y h = absurd cc
-unless false r q y h = (refl, h)
 
 -- what is read with nothing behind it is read with anything behind it
 read_before : (behind : List Bool) → (o : Option (Fields × List Bool)) → (r : Packet × List Bool) → read_packet [] o ≡ Ok r → read_packet behind o ≡ Ok (r.0, behind)

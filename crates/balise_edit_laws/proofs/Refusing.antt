@@ -2,7 +2,7 @@
 -- From the table of refusals, line by line: none of its tests holds exactly where each part of acceptance does.
 -- Soundness gives that room is what is left of the padding, and that tags are distinct.
 use Rattle.std.proofs.Common.{◌≡◌, ℕ, ◌↔◌, nat_lt, Bool, true, false, not, eqb, ltb, List, [], ◌∷◌, is_some, is_none, Option, Some, None, Result, Ok, Err, option_and_then, refl, sym, ap, subst, ◌∙◌, arith}
-use Rattle.std.proofs.lemmas.Bool.{true≢false, or_parts, or_from, ltb-false, le-ltb, ne_eqb, eqb-false, not-false, not_from_true}
+use Rattle.std.proofs.lemmas.Bool.{or_parts, or_from, ltb-false, le-ltb, ne_eqb, eqb-false, not-false, not_from_true}
 use Rattle.balise_rules.specs.declared.tag.Tag.{Tag}
 use Rattle.balise_rules.specs.declared.refusal.Refusal.{Refusal}
 use Rattle.balise_rules.specs.declared.variable.Var.{Var}
@@ -16,10 +16,11 @@ use Rattle.balise_rules.specs.Telegram.{Telegram, room}
 use Rattle.balise_rules.specs.Plan.{Plan, Group, reserved, identity_of, telegram_at, packet_at, field_at, group_named, read_group, IsSound}
 use Rattle.balise_rules.specs.Names.{is_named}
 use Rattle.balise_rules.specs.Doing.{renumbered, refusal, first_of, when, taken, group_fault, no_group, in_telegram, same_place}
-use Rattle.balise_rules.specs.Accepting.{Accepted, AcceptedAt, AcceptedIn, Stands, NoGroup}
+use Rattle.balise_rules.specs.Accepting.{Accepted, Stands, NoGroup}
 use Rattle.balise_rules.specs.Edits.{Edit, SetVar, SetHead, InsertPacket, DeletePacket, MovePacket, AddGroup, DropGroup, Renumber, TurnGroup, group_of, group_or_none}
 use Rattle.balise_rules.proofs.Cases.{found}
 use Rattle.balise_rules.proofs.Found.{stood}
+use Rattle.balise_rules.proofs.Accepted.{there, is_there, isnt, stands_to, stands_from, accepted_here, accepted_at}
 use Rattle.balise_edit_laws.proofs.Naming.{no_group_from, no_group_to, no_name_from, no_name_to}
 
 abbrev pub Both : Edit → Plan → Type 0
@@ -39,26 +40,6 @@ last_none false r e = refl
 last_pass : (b : Bool) → (r : Refusal) → b ≡ false → when b r ≡ None
 last_pass b r e = ap (λ c. when c r) e
 
-there : {A : Type 0} → (o : Option A) → is_none o ≡ false → (a : A) × (o ≡ Some a)
-there None e = absurd (true≢false e)
-there (Some a) e = (a, refl)
-
-is_there : {A : Type 0} → (o : Option A) → (a : A) → o ≡ Some a → is_none o ≡ false
-is_there o a e = ap is_none e
-
-isnt : {A : Type 0} → (o : Option A) → is_some o ≡ false → o ≡ None
-isnt None e = refl
-isnt (Some a) e = absurd (true≢false e)
-
--- an anchor stands
-stands_to : {A : Type 0} → (a : Option Tag) → (xs : List (Tag × A)) → not (stands same_tag a xs) ≡ false → Stands a xs
-stands_to None xs e = tt
-stands_to (Some t) xs e = found (find same_tag t xs) (λ n. absurd (let w = simp n at e in true≢false w)) (λ x q. (x, q))
-
-stands_from : {A : Type 0} → (a : Option Tag) → (xs : List (Tag × A)) → Stands a xs → not (stands same_tag a xs) ≡ false
-stands_from None xs s = refl
-stands_from (Some t) xs s = ap (λ o. not (is_some o)) s.1
-
 -- look-ups in the telegram that is found
 packet_here : (g : Tag) → (t : ℕ) → (p : Tag) → (plan : Plan) → (y : Telegram) → telegram_at g t plan ≡ Some y → packet_at g t p plan ≡ find same_tag p y.packets
 packet_here g t p plan y h = ap (option_and_then (λ (z : Telegram). find same_tag p z.packets)) h
@@ -68,13 +49,6 @@ field_here g t p v k plan x h = ap (option_and_then (λ (z : Packet). field_of v
 
 tested_here : (f : Telegram → Bool) → (g : Tag) → (t : ℕ) → (plan : Plan) → (y : Telegram) → telegram_at g t plan ≡ Some y → in_telegram (telegram_at g t plan) f ≡ f y
 tested_here f g t plan y h = ap (λ o. in_telegram o f) h
-
-accepted_here : (e : Edit) → (o : Option Telegram) → AcceptedAt e o → (y : Telegram) × (o ≡ Some y) × AcceptedIn e y
-accepted_here e None h = absurd h
-accepted_here e (Some y) h = (y, refl, h)
-
-accepted_at : (e : Edit) → (o : Option Telegram) → (y : Telegram) → o ≡ Some y → AcceptedIn e y → AcceptedAt e o
-accepted_at e o y q h = subst (AcceptedAt e) (sym q) h
 
 group_there : (g : Tag) → (t : ℕ) → (plan : Plan) → (y : Telegram) → telegram_at g t plan ≡ Some y → is_none (find same_tag g plan) ≡ false
 group_there g t plan y h = found (find same_tag g plan) (λ e. absurd (let w = simp e at h in cc)) (λ ys e. ap is_none e)

@@ -31,26 +31,12 @@ fitted (s, InsertPacket g0 t0 a x) plan r g t y q = λ c.
     let here : telegram_at g0 t0 plan ≡ Some y = place_is g0 g t0 t plan c ∙ q in
     let w : AcceptedIn (InsertPacket g0 t0 a x) y = subst (AcceptedAt (InsertPacket g0 t0 a x)) here r.accepted.1 in
     (r.unused.packets g t y q, r.spelt y here, w.1)
-fitted (s, SetVar g0 t0 p v k n) plan r g t y q = tt
-fitted (s, SetHead g0 t0 v n) plan r g t y q = tt
-fitted (s, DeletePacket g0 t0 p) plan r g t y q = tt
-fitted (s, MovePacket g0 t0 p a) plan r g t y q = tt
-fitted (s, AddGroup a bs) plan r g t y q = tt
-fitted (s, DropGroup g0) plan r g t y q = tt
-fitted (s, Renumber g0 n) plan r g t y q = tt
-fitted (s, TurnGroup g0) plan r g t y q = tt
+fitted e plan r g t y q = tt
 
 -- no group gets the reserved number
 number_free : (e : Edit) → Lawful e → (g : Tag) → (i : Id) → i.number ≢ reserved → (new_identity e g i).number ≢ reserved
 number_free (Renumber g0 n) l g i h = split_on (same_tag g0 g) (λ e. simp e l.1) (λ e. simp e h)
-number_free (SetVar g0 t0 p v k n) l g i h = h
-number_free (SetHead g0 t0 v n) l g i h = h
-number_free (InsertPacket g0 t0 a x) l g i h = h
-number_free (DeletePacket g0 t0 p) l g i h = h
-number_free (MovePacket g0 t0 p a) l g i h = h
-number_free (AddGroup a bs) l g i h = h
-number_free (DropGroup g0) l g i h = h
-number_free (TurnGroup g0) l g i h = h
+number_free e l g i h = h
 
 -- two groups have two identities after an edit
 stay_apart : (e : Edit) → (plan : Plan) → Accepted e plan → AllApart plan → (g h : Tag) → (ys zs : Group) → find same_tag g plan ≡ Some ys → find same_tag h plan ≡ Some zs → same_tag g h ≡ false →
@@ -67,13 +53,7 @@ stay_apart (Renumber g0 n) plan a all g h ys zs b c d =
     simp (e, f) v)
     (λ f. simp (e, f) (all g h ys zs b c d)))
 stay_apart (SetVar g0 t0 p v k n) plan a all g h ys zs b c d = all g h ys zs b c d
-stay_apart (SetHead g0 t0 v n) plan a all g h ys zs b c d = all g h ys zs b c d
-stay_apart (InsertPacket g0 t0 x y) plan a all g h ys zs b c d = all g h ys zs b c d
-stay_apart (DeletePacket g0 t0 p) plan a all g h ys zs b c d = all g h ys zs b c d
-stay_apart (MovePacket g0 t0 p x) plan a all g h ys zs b c d = all g h ys zs b c d
-stay_apart (AddGroup x bs) plan a all g h ys zs b c d = all g h ys zs b c d
-stay_apart (DropGroup g0) plan a all g h ys zs b c d = all g h ys zs b c d
-stay_apart (TurnGroup g0) plan a all g h ys zs b c d = all g h ys zs b c d
+stay_apart e plan a all g h ys zs b c d = all g h ys zs b c d
 
 -- an edit within the groups
 sound_within : (e : Item) → (own : Id) → (plan : Plan) → IsReady e plan → IsSound (each (group_after e own) plan)
@@ -110,12 +90,6 @@ sound_dropped g plan s =
     }
 
 pub sound_kept : (e : Item) → (plan : Plan) → IsReady e plan → IsSound (done e plan)
-sound_kept (s, SetVar g t p v k n) plan r = sound_within (s, SetVar g t p v k n) (noted (SetVar g t p v k n) plan).own plan r
-sound_kept (s, SetHead g t v n) plan r = sound_within (s, SetHead g t v n) (noted (SetHead g t v n) plan).own plan r
-sound_kept (s, InsertPacket g t a x) plan r = sound_within (s, InsertPacket g t a x) (noted (InsertPacket g t a x) plan).own plan r
-sound_kept (s, DeletePacket g t p) plan r = sound_within (s, DeletePacket g t p) (noted (DeletePacket g t p) plan).own plan r
-sound_kept (s, MovePacket g t p a) plan r = sound_within (s, MovePacket g t p a) (noted (MovePacket g t p a) plan).own plan r
-sound_kept (s, Renumber g n) plan r = sound_within (s, Renumber g n) (noted (Renumber g n) plan).own plan r
-sound_kept (s, TurnGroup g) plan r = sound_within (s, TurnGroup g) (noted (TurnGroup g) plan).own plan r
 sound_kept (s, AddGroup a bs) plan r = sound_added s a bs plan r
 sound_kept (s, DropGroup g) plan r = sound_dropped g plan r.sound
+sound_kept e plan r = sound_within e (noted e.1 plan).own plan r

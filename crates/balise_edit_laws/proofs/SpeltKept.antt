@@ -1,7 +1,7 @@
 -- The law that a packet to be inserted stays spelt for its telegram, before and after an accepted edit.
 -- From the version of a telegram, which no edit changes, and its place in the plan before and after.
 -- Acceptance says that the telegram stands, so that it isn't one that the other edit brought or took.
-use Rattle.std.proofs.Common.{◌≡◌, ℕ, Bool, eqb, List, Option, Some, None, option_and_then, option_map, refl, sym, ap, subst, ◌∙◌}
+use Rattle.std.proofs.Common.{◌≡◌, ℕ, Bool, eqb, List, Option, Some, option_and_then, option_map, sym, ap, subst, ◌∙◌}
 use Rattle.balise_rules.specs.declared.tag.Tag.{Tag}
 use Rattle.balise_rules.specs.declared.tag.Tag.TheVariants.{Fresh}
 use Rattle.balise_rules.specs.declared.identity.Id.{Id}
@@ -13,13 +13,14 @@ use Rattle.balise_rules.specs.Telegram.{Telegram, version_of}
 use Rattle.balise_rules.specs.Plan.{Plan, telegram_at, IsSound}
 use Rattle.balise_rules.specs.Notes.{noted}
 use Rattle.balise_rules.specs.Doing.{done}
-use Rattle.balise_rules.specs.Accepting.{Accepted, AcceptedAt, Lawful, Unused, Spelt}
+use Rattle.balise_rules.specs.Accepting.{Accepted, Lawful, Unused, Spelt}
 use Rattle.balise_rules.specs.Edits.{Edit, Item, SetVar, SetHead, InsertPacket, DeletePacket, MovePacket, AddGroup, DropGroup, Renumber, TurnGroup, group_of, group_after}
 use Rattle.balise_edit_laws.specs.TakenBack.{IsReady}
 use Rattle.balise_rules.proofs.Tests.{split_keys, tag_test}
 use Rattle.balise_rules.proofs.Lists.{find-put, find-without, find-without_same, find-each}
 use Rattle.balise_rules.proofs.Cases.{unsome}
 use Rattle.balise_rules.proofs.Found.{group_sound, in_group}
+use Rattle.balise_rules.proofs.Accepted.{accepted_here}
 use Rattle.balise_edit_laws.proofs.HeadChanges.{fixed_kept, version_fixed}
 use Rattle.balise_edit_laws.proofs.UnusedKept.{was_in}
 
@@ -45,42 +46,18 @@ version_dropped h plan g t y z p q =
 
 -- a telegram that stands before and after has one version
 pub version_kept : (e : Item) → (plan : Plan) → IsReady e plan → (g : Tag) → (t : ℕ) → (y z : Telegram) → telegram_at g t plan ≡ Some y → telegram_at g t (done e plan) ≡ Some z → version_of z ≡ version_of y
-version_kept (s, SetVar g0 t0 p v k n) plan r g t y z a b = version_within (s, SetVar g0 t0 p v k n) r.accepted.0 (noted (SetVar g0 t0 p v k n) plan).own plan r.sound g t y z a b
-version_kept (s, SetHead g0 t0 v n) plan r g t y z a b = version_within (s, SetHead g0 t0 v n) r.accepted.0 (noted (SetHead g0 t0 v n) plan).own plan r.sound g t y z a b
-version_kept (s, InsertPacket g0 t0 x p) plan r g t y z a b = version_within (s, InsertPacket g0 t0 x p) r.accepted.0 (noted (InsertPacket g0 t0 x p) plan).own plan r.sound g t y z a b
-version_kept (s, DeletePacket g0 t0 p) plan r g t y z a b = version_within (s, DeletePacket g0 t0 p) r.accepted.0 (noted (DeletePacket g0 t0 p) plan).own plan r.sound g t y z a b
-version_kept (s, MovePacket g0 t0 p x) plan r g t y z a b = version_within (s, MovePacket g0 t0 p x) r.accepted.0 (noted (MovePacket g0 t0 p x) plan).own plan r.sound g t y z a b
-version_kept (s, Renumber g0 n) plan r g t y z a b = version_within (s, Renumber g0 n) r.accepted.0 (noted (Renumber g0 n) plan).own plan r.sound g t y z a b
-version_kept (s, TurnGroup g0) plan r g t y z a b = version_within (s, TurnGroup g0) r.accepted.0 (noted (TurnGroup g0) plan).own plan r.sound g t y z a b
 version_kept (s, AddGroup x bs) plan r g t y z a b = version_added s x bs plan r.unused g t y z a b
 version_kept (s, DropGroup g0) plan r g t y z a b = version_dropped g0 plan g t y z a b
-
-stands_at : (f : Edit) → (o : Option Telegram) → AcceptedAt f o → (y : Telegram) × (o ≡ Some y)
-stands_at f None h = absurd h
-stands_at f (Some y) h = (y, refl)
+version_kept e plan r g t y z a b = version_within e r.accepted.0 (noted e.1 plan).own plan r.sound g t y z a b
 
 pub spelt_after : (e : Item) → (f : Edit) → (plan : Plan) → IsReady e plan → Accepted f plan → Spelt f plan → Spelt f (done e plan)
 spelt_after e (InsertPacket g t a x) plan r acc s = λ z q.
-    let y = stands_at (InsertPacket g t a x) (telegram_at g t plan) acc.1 in
+    let y = accepted_here (InsertPacket g t a x) (telegram_at g t plan) acc.1 in
     subst (λ v. IsSpelt v x) (sym (version_kept e plan r g t y.0 z y.1 q)) (s y.0 y.1)
-spelt_after e (SetVar g t p v k n) plan r acc s = tt
-spelt_after e (SetHead g t v n) plan r acc s = tt
-spelt_after e (DeletePacket g t p) plan r acc s = tt
-spelt_after e (MovePacket g t p a) plan r acc s = tt
-spelt_after e (AddGroup a bs) plan r acc s = tt
-spelt_after e (DropGroup g) plan r acc s = tt
-spelt_after e (Renumber g n) plan r acc s = tt
-spelt_after e (TurnGroup g) plan r acc s = tt
+spelt_after e f plan r acc s = tt
 
 pub spelt_before : (e : Item) → (f : Edit) → (plan : Plan) → IsReady e plan → Accepted f (done e plan) → Spelt f (done e plan) → Spelt f plan
 spelt_before e (InsertPacket g t a x) plan r acc s = λ y q.
-    let z = stands_at (InsertPacket g t a x) (telegram_at g t (done e plan)) acc.1 in
+    let z = accepted_here (InsertPacket g t a x) (telegram_at g t (done e plan)) acc.1 in
     subst (λ v. IsSpelt v x) (version_kept e plan r g t y z.0 q z.1) (s z.0 z.1)
-spelt_before e (SetVar g t p v k n) plan r acc s = tt
-spelt_before e (SetHead g t v n) plan r acc s = tt
-spelt_before e (DeletePacket g t p) plan r acc s = tt
-spelt_before e (MovePacket g t p a) plan r acc s = tt
-spelt_before e (AddGroup a bs) plan r acc s = tt
-spelt_before e (DropGroup g) plan r acc s = tt
-spelt_before e (Renumber g n) plan r acc s = tt
-spelt_before e (TurnGroup g) plan r acc s = tt
+spelt_before e f plan r acc s = tt

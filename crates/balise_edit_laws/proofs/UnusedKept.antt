@@ -42,11 +42,7 @@ packets_unused (z, DeletePacket g0 t0 p) s n i g t c ps h =
 packets_unused (z, MovePacket g0 t0 p a) s n i g t c ps h =
     either_absent (Fresh s) (same_tag g0 g && eqb t0 t) (Move p a) (Each (λ q y. y)) ps (λ e. absent-move tag_test (Fresh s) p a ps h) (absent-each tag_test (λ q y. y) (Fresh s) ps h)
 packets_unused (z, SetVar g0 t0 p v k new) s n i g t c ps h = absent-each tag_test (packet_after (SetVar g0 t0 p v k new) i g t c) (Fresh s) ps h
-packets_unused (z, SetHead g0 t0 v new) s n i g t c ps h = absent-each tag_test (packet_after (SetHead g0 t0 v new) i g t c) (Fresh s) ps h
-packets_unused (z, AddGroup a bs) s n i g t c ps h = absent-each tag_test (packet_after (AddGroup a bs) i g t c) (Fresh s) ps h
-packets_unused (z, DropGroup g0) s n i g t c ps h = absent-each tag_test (packet_after (DropGroup g0) i g t c) (Fresh s) ps h
-packets_unused (z, Renumber g0 new) s n i g t c ps h = absent-each tag_test (packet_after (Renumber g0 new) i g t c) (Fresh s) ps h
-packets_unused (z, TurnGroup g0) s n i g t c ps h = absent-each tag_test (packet_after (TurnGroup g0) i g t c) (Fresh s) ps h
+packets_unused e s n i g t c ps h = absent-each tag_test (packet_after e.1 i g t c) (Fresh s) ps h
 
 -- a telegram that is found in a changed group
 pub record WasIn (f : ℕ → Telegram → Telegram) (t : ℕ) (ys : Group) (z : Telegram) : Type 0 where
@@ -106,12 +102,6 @@ unused_dropped p plan s w = record { groups = absent-without same_tag (Fresh s) 
         w.packets g t y (ap (option_and_then (find eqb t)) k ∙ st.has_telegram))
 
 pub unused_kept : (e : Item) → (plan : Plan) → IsReady e plan → (s : ℕ) → s ≢ e.0 → Unused s plan → Unused s (done e plan)
-unused_kept (z, SetVar g t p v k n) plan r s d w = unused_within (z, SetVar g t p v k n) (noted (SetVar g t p v k n) plan).own plan r.sound s d w
-unused_kept (z, SetHead g t v n) plan r s d w = unused_within (z, SetHead g t v n) (noted (SetHead g t v n) plan).own plan r.sound s d w
-unused_kept (z, InsertPacket g t a x) plan r s d w = unused_within (z, InsertPacket g t a x) (noted (InsertPacket g t a x) plan).own plan r.sound s d w
-unused_kept (z, DeletePacket g t p) plan r s d w = unused_within (z, DeletePacket g t p) (noted (DeletePacket g t p) plan).own plan r.sound s d w
-unused_kept (z, MovePacket g t p a) plan r s d w = unused_within (z, MovePacket g t p a) (noted (MovePacket g t p a) plan).own plan r.sound s d w
-unused_kept (z, Renumber g n) plan r s d w = unused_within (z, Renumber g n) (noted (Renumber g n) plan).own plan r.sound s d w
-unused_kept (z, TurnGroup g) plan r s d w = unused_within (z, TurnGroup g) (noted (TurnGroup g) plan).own plan r.sound s d w
 unused_kept (z, AddGroup a bs) plan r s d w = unused_added z a bs plan r s d w
 unused_kept (z, DropGroup g) plan r s d w = unused_dropped g plan s w
+unused_kept e plan r s d w = unused_within e (noted e.1 plan).own plan r.sound s d w

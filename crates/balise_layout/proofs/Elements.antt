@@ -9,9 +9,10 @@ use Rattle.balise_rules.specs.Tags.{Key, same_var, same_key, is_of}
 use Rattle.balise_rules.specs.Forms.{Fields, Numbered, NumberedFrom, count_of}
 use Rattle.balise_rules.specs.Packet.{Packet}
 use Rattle.balise_rules.specs.Names.{country_at, links_among, links_of}
+use Rattle.balise_rules.proofs.Tests.{test-sym, var_test, key_test, equal_yes}
+use Rattle.balise_rules.proofs.Keys.{count-more, count_grows}
 use Rattle.balise_layout.specs.Walks.{kept}
 use Rattle.balise_layout.specs.Linked.{link}
-use Rattle.balise_layout.proofs.Keys.{same_var_is, same_var_self, other_var, same_key_is, same_key_self, count_of-push_same, count_of-push_le}
 
 -- the country in force behind some fields
 abbrev country_after : ℕ → Fields → ℕ
@@ -39,7 +40,7 @@ NoNumber-push k (g ∷ fs) f m e = (m.0, NoNumber-push k fs f m.1 e)
 country_before : (c k : ℕ) (before : Fields) (f : Key × ℕ) (fs : Fields) → NoNumber k before → (NidBg, k) ≡ f.0 → country_at c k (before ++ f ∷ fs) ≡ country_after c before
 country_before c k [] f fs m e =
     let other : is_of NidC f.0 ≡ false = ap (is_of NidC) (sym e) in
-    let here : same_key (NidBg, k) f.0 ≡ true = same_key_self (NidBg, k) f.0 e in
+    let here : same_key (NidBg, k) f.0 ≡ true = equal_yes key_test (NidBg, k) f.0 e in
     rw (other, here) refl
 country_before c k (g ∷ before) f fs m e = at (is_of NidC g.0) (country_before g.1 k before f fs m.1 e) (country_before c k before f fs m.1 e)
   where
@@ -52,19 +53,18 @@ abbrev Later : Fields → Type 0
 Later seen = (k : ℕ) → count_of NidBg seen ≤ k → NoNumber k seen
 
 later-push : (seen : Fields) (f : Key × ℕ) → f.0.1 ≡ count_of f.0.0 seen → Later seen → Later (seen ++ f ∷ [])
-later-push seen f m later k h = NoNumber-push k seen f (later k (omega (arith, h, count_of-push_le NidBg seen f))) (at (same_key (NidBg, k) f.0) refl)
+later-push seen f m later k h = NoNumber-push k seen f (later k (omega (arith, h, count_grows NidBg seen f))) (at (same_key (NidBg, k) f.0) refl)
   where
     at : (b : Bool) → same_key (NidBg, k) f.0 ≡ b → b ≡ false
     at false e = refl
     at true e =
-        let key : (NidBg, k) ≡ f.0 = same_key_is (NidBg, k) f.0 e in
+        let key : (NidBg, k) ≡ f.0 = key_test.one (NidBg, k) f.0 e in
         let k_is : k ≡ count_of NidBg seen = ap (λ (x : Key). x.1) key ∙ m ∙ ap (λ (x : Key). count_of x.0 seen) (sym key) in
-        let more : count_of NidBg (seen ++ f ∷ []) ≡ suc (count_of NidBg seen) = count_of-push_same NidBg seen f (same_var_self NidBg f.0.0 (ap (λ (x : Key). x.0) key)) in
+        let more : count_of NidBg (seen ++ f ∷ []) ≡ suc (count_of NidBg seen) = count-more NidBg seen f (equal_yes var_test NidBg f.0.0 (ap (λ (x : Key). x.0) key)) in
         absurd (omega (arith, h, k_is, more))
 
 same_var-swap : (a b : Var) (x : Bool) → same_var a b ≡ x → same_var b a ≡ x
-same_var-swap a b true e = same_var_self b a (sym (same_var_is a b e))
-same_var-swap a b false e = other_var b a (λ h. let bad : true ≡ false = sym (same_var_self a b (sym h)) ∙ e in absurd cc)
+same_var-swap a b x e = test-sym var_test b a ∙ e
 
 abbrev an_id : ℕ → ℕ → Id
 an_id c n = record { country = c; number = n }
@@ -75,13 +75,13 @@ links_from c n seen (f ∷ fs) ids m later = at (same_var f.0.0 NidC) (same_var 
   where
     at : (a b : Bool) → same_var f.0.0 NidC ≡ a → same_var f.0.0 NidBg ≡ b → ((more : List Id) → (kept link (country_after c (seen ++ f ∷ []), more) (n - width_of f.0.0) fs).1 ≡ more ++ links_among c (seen ++ f ∷ fs) fs) → (kept link (cond a (f.1, ids) (cond b (country_after c seen, ids ++ an_id (country_after c seen) f.1 ∷ []) (country_after c seen, ids))) (n - width_of f.0.0) fs).1 ≡ ids ++ cond (is_of NidBg f.0) (an_id (country_at c f.0.1 (seen ++ f ∷ fs)) f.1 ∷ links_among c (seen ++ f ∷ fs) fs) (links_among c (seen ++ f ∷ fs) fs)
     at true b is is' rest =
-        let v : f.0.0 ≡ NidC = same_var_is f.0.0 NidC is in
+        let v : f.0.0 ≡ NidC = var_test.one f.0.0 NidC is in
         let country : country_after c (seen ++ f ∷ []) ≡ f.1 = country_after-push c seen f ∙ ap (λ (x : Bool). cond x f.1 (country_after c seen)) (same_var-swap f.0.0 NidC true is) in
         let other : is_of NidBg f.0 ≡ false = ap (same_var NidBg) v in
         let P : ℕ → Type 0 = λ x. (kept link (x, ids) (n - width_of f.0.0) fs).1 ≡ ids ++ links_among c (seen ++ f ∷ fs) fs in
         rw other (subst P country (rest ids))
     at false true is is' rest =
-        let v : NidBg ≡ f.0.0 = sym (same_var_is f.0.0 NidBg is') in
+        let v : NidBg ≡ f.0.0 = sym (var_test.one f.0.0 NidBg is') in
         let country : country_after c (seen ++ f ∷ []) ≡ country_after c seen = country_after-push c seen f ∙ ap (λ (x : Bool). cond x f.1 (country_after c seen)) (same_var-swap f.0.0 NidC false is) in
         let own : is_of NidBg f.0 ≡ true = same_var-swap f.0.0 NidBg true is' in
         let key : (NidBg, f.0.1) ≡ f.0 = ap (λ (x : Var). (x, f.0.1)) v in

@@ -7,12 +7,13 @@ use Rattle.balise_rules.specs.Bits.{num, bits, put_at}
 use Rattle.balise_rules.specs.Forms.{Form, Fields, Matches, read_form}
 use Rattle.balise_rules.specs.Packets.{packet, is_known, body}
 use Rattle.balise_rules.specs.Packet.{Packet, bits_of, width, length_said, IsSpelt}
+use Rattle.balise_rules.proofs.Cases.{unok}
 use Rattle.balise_layout.specs.declared.fault.LayoutFault.{LayoutFault}
 use Rattle.balise_layout.specs.declared.fault.LayoutFault.TheVariants.{LayoutMismatch}
 use Rattle.balise_layout.specs.Walks.{walk, kept, collect}
 use Rattle.balise_layout.specs.Held.{headed, held, Holds, IsHeld, Steady, before, with_field}
 use Rattle.balise_layout.specs.Versions.{SpeltWhere}
-use Rattle.balise_layout.proofs.Walks.{good, some_is, walk_again, walk_found, walk_fails, walk_fault, found_or_none, read_form_is}
+use Rattle.balise_layout.proofs.Walks.{good, walk_again, walk_found, walk_fails, walk_fault, found_or_none, read_form_is}
 use Rattle.balise_layout.proofs.Spelt.{read_spelling, head_of, Front, front_alone, holds_read, read_holds, held_is, is_held}
 use Rattle.balise_layout.proofs.Setting.{Holds-put}
 use Rattle.balise_layout.proofs.Places.{standing}
@@ -46,7 +47,7 @@ walk_is {A = A} step next a b p n old h all start =
 
 pub visited : {A : Type 0} (step : A → ℕ → Var → ℕ → A) (next : ℕ → Form) (a : A) (b : List Bool) (p : Packet) (n : ℕ) (old after : A × List Bool) → Holds next b p → n ≡ length b → old ≡ (a, take (n - 0) (drop 0 b)) → walk step (headed next) old ≡ Ok after → after.0 ≡ kept step a (width p) p.fields
 visited {A = A} step next a b p n old after h all start e =
-    ap (λ (x : A × List Bool). x.0) (some_is after (kept step a (width p) p.fields, p.rest) (sym e ∙ walk_is step next a b p n old h all start))
+    ap (λ (x : A × List Bool). x.0) (unok (sym e ∙ walk_is step next a b p n old h all start))
 
 pub not_stuck : {A : Type 0} (step : A → ℕ → Var → ℕ → A) (next : ℕ → Form) (a : A) (b : List Bool) (p : Packet) (n : ℕ) (old : A × List Bool) (e : LayoutFault) → Holds next b p → n ≡ length b → old ≡ (a, take (n - 0) (drop 0 b)) → walk step (headed next) old ≡ Err e → ⊥
 not_stuck {A = A} step next a b p n old e h all start is = differ (kept step a (width p) p.fields, p.rest) e (sym (walk_is step next a b p n old h all start) ∙ is)

@@ -1,7 +1,6 @@
 pub mod Walks
 pub mod Spelt
 pub mod First
-pub mod Keys
 pub mod Places
 pub mod Setting
 pub mod Held

@@ -1,17 +1,20 @@
 -- Where a field of a packet stands among its bits, and what another value put there spells.
-use Rattle.std.proofs.Common.{◌≡◌, ℕ, suc, ◌+◌, ◌^◌, ◌<◌, ◌≤◌, Bool, true, false, cond, List, [], ◌∷◌, ◌++◌, length, take, drop, Option, Some, None, refl, sym, ap, subst, ◌∙◌, append_assoc, arith, length-append}
+use Rattle.std.proofs.Common.{◌≡◌, ℕ, suc, ◌+◌, ◌^◌, ◌<◌, ◌≤◌, Bool, true, false, cond, List, [], ◌∷◌, ◌++◌, length, take, drop, Option, Some, None, refl, sym, ap, ◌∙◌, append_assoc, arith, length-append}
 use Rattle.std.proofs.lemmas.List.{take_at, drop_at}
 use Rattle.balise_rules.specs.declared.variable.Var.{Var}
 use Rattle.balise_rules.specs.Variables.{width_of}
 use Rattle.balise_rules.specs.Bits.{bits, put_at}
 use Rattle.balise_rules.specs.Tags.{Key, same_key}
 use Rattle.balise_rules.specs.Tagged.{find, Distinct}
-use Rattle.balise_rules.specs.Forms.{Form, done, shut, never, valued, Fields, Matches, spelling}
+use Rattle.balise_rules.specs.Forms.{Form, Fields, Matches, spelling}
 use Rattle.balise_rules.specs.Packet.{field_of, with_value}
 use Rattle.balise_rules.proofs.Numbers.{length-bits}
+use Rattle.balise_rules.proofs.Tests.{key_test}
+use Rattle.balise_rules.proofs.Cases.{unsome}
+use Rattle.balise_rules.proofs.Each.{each-absent}
 use Rattle.balise_layout.specs.Held.{before, further}
-use Rattle.balise_layout.proofs.Keys.{same_key_is}
 use Rattle.balise_layout.proofs.Walks.{fits_is}
+use Rattle.balise_rules.proofs.Found as rules
 
 -- a field that stands behind so many bits
 pub record Standing (v : Var) (k : ℕ) (fs : Fields) (raw : List Bool) (d : ℕ) : Type 0 where
@@ -19,9 +22,6 @@ pub record Standing (v : Var) (k : ℕ) (fs : Fields) (raw : List Bool) (d : ℕ
   pub is : field_of v k fs ≡ Some value
   pub within : d + width_of v ≤ length (spelling fs ++ raw)
   pub reads : take (width_of v) (drop d (spelling fs ++ raw)) ≡ bits (width_of v) value
-
-some_num : (a b : ℕ) → Some a ≡ Some b → a ≡ b
-some_num a b e = cc
 
 -- further on by a field
 pub record Further (w : ℕ) (p : Option ℕ) (d : ℕ) : Type 0 where
@@ -31,7 +31,7 @@ pub record Further (w : ℕ) (p : Option ℕ) (d : ℕ) : Type 0 where
 
 further_is : (w : ℕ) (p : Option ℕ) (d : ℕ) → further w p ≡ Some d → Further w p d
 further_is w None d e = absurd cc
-further_is w (Some n) d e = record { from = n; is = refl; sum = sym (some_num (w + n) d e) }
+further_is w (Some n) d e = record { from = n; is = refl; sum = sym (unsome e) }
 
 drop_further : (a b : List Bool) (d : ℕ) → drop (length a + d) (a ++ b) ≡ drop d b
 drop_further [] b d = ap (λ (n : ℕ). drop n b) (let e : 0 + d ≡ d = omega arith in e)
@@ -60,9 +60,9 @@ standing v k (f ∷ fs) raw d e = at (same_key (v, k) f.0) refl e (λ c i. stand
 
     at : (b : Bool) → same_key (v, k) f.0 ≡ b → cond b (Some 0) (further (width_of f.0.0) (before (v, k) fs)) ≡ Some d → ((c : ℕ) → before (v, k) fs ≡ Some c → Standing v k fs raw c) → Standing v k (f ∷ fs) raw d
     at true is h later =
-        let key : (v, k) ≡ f.0 = same_key_is (v, k) f.0 is in
+        let key : (v, k) ≡ f.0 = key_test.one (v, k) f.0 is in
         let w : width_of f.0.0 ≡ width_of v = ap (λ (x : Key). width_of x.0) (sym key) in
-        let zero_is : 0 ≡ d = some_num 0 d h in
+        let zero_is : 0 ≡ d = unsome h in
         record {
           value = f.1;
           is = ap (λ (b : Bool). cond b (Some f.1) (find same_key (v, k) fs)) is;
@@ -95,12 +95,7 @@ missing v k (f ∷ fs) e = at (same_key (v, k) f.0) e (missing v k fs)
 
 -- what isn't there isn't changed
 pub with_value-missing : (v : Var) (k n : ℕ) (fs : Fields) → field_of v k fs ≡ None → with_value v k n fs ≡ fs
-with_value-missing v k n [] e = refl
-with_value-missing v k n (f ∷ fs) e = at (same_key (v, k) f.0) e (with_value-missing v k n fs)
-  where
-    at : (b : Bool) → cond b (Some f.1) (find same_key (v, k) fs) ≡ None → (field_of v k fs ≡ None → with_value v k n fs ≡ fs) → (f.0, cond b n f.1) ∷ with_value v k n fs ≡ f ∷ fs
-    at true h later = absurd cc
-    at false h later = ap (λ (l : Fields). f ∷ l) (later h)
+with_value-missing v k n fs e = each-absent same_key (v, k) (λ old. n) fs e
 
 -- another value put where a field stands spells the fields with that value
 pub put_spelling : (v : Var) (k n : ℕ) (fs : Fields) (raw : List Bool) (d : ℕ) → Distinct same_key fs → before (v, k) fs ≡ Some d → put_at d (bits (width_of v) n) (spelling fs ++ raw) ≡ spelling (with_value v k n fs) ++ raw
@@ -116,9 +111,9 @@ put_spelling v k n (f ∷ fs) raw d dist e = at (same_key (v, k) f.0) refl e (λ
 
     at : (b : Bool) → same_key (v, k) f.0 ≡ b → cond b (Some 0) (further (width_of f.0.0) (before (v, k) fs)) ≡ Some d → ((c : ℕ) → before (v, k) fs ≡ Some c → put_at c (bits (width_of v) n) (spelling fs ++ raw) ≡ spelling (with_value v k n fs) ++ raw) → put_at d (bits (width_of v) n) ((bits (width_of f.0.0) f.1 ++ spelling fs) ++ raw) ≡ (bits (width_of f.0.0) (cond b n f.1) ++ spelling (with_value v k n fs)) ++ raw
     at true is h later =
-        let key : (v, k) ≡ f.0 = same_key_is (v, k) f.0 is in
+        let key : (v, k) ≡ f.0 = key_test.one (v, k) f.0 is in
         let w : width_of v ≡ width_of f.0.0 = ap (λ (x : Key). width_of x.0) key in
-        let zero_is : d ≡ 0 = sym (some_num 0 d h) in
+        let zero_is : d ≡ 0 = sym (unsome h) in
         let gone : field_of v k fs ≡ None = ap (λ (x : Key). find same_key x fs) key ∙ dist.0 in
         let behind : drop (0 + length (bits (width_of f.0.0) n)) (bits (width_of f.0.0) f.1 ++ (spelling fs ++ raw)) ≡ spelling fs ++ raw = drop_at (bits (width_of f.0.0) f.1) (spelling fs ++ raw) (0 + length (bits (width_of f.0.0) n)) (omega (arith, size, length-bits (width_of f.0.0) n)) in
         rw (zero_is, w, whole, behind, with_value-missing v k n fs gone) (sym (append_assoc (bits (width_of f.0.0) n) (spelling fs) raw))
@@ -129,18 +124,4 @@ put_spelling v k n (f ∷ fs) raw d dist e = at (same_key (v, k) f.0) refl e (λ
 
 -- each field fits its width
 pub field_fits : (form : Form) (fs : Fields) (raw : List Bool) (v : Var) (k n : ℕ) → Matches form fs raw → field_of v k fs ≡ Some n → n < 2 ^ width_of v
-field_fits done [] raw v k n m e = absurd cc
-field_fits done (f ∷ fs) raw v k n m e = absurd m
-field_fits shut [] raw v k n m e = absurd cc
-field_fits shut (f ∷ fs) raw v k n m e = absurd m
-field_fits never fs raw v k n m e = absurd m
-field_fits (valued w next) [] raw v k n m e = absurd m
-field_fits (valued w next) (f ∷ fs) raw v k n m e = at (same_key (v, k) f.0) refl e (field_fits (next f.1) fs raw v k n m.2)
-  where
-    at : (b : Bool) → same_key (v, k) f.0 ≡ b → cond b (Some f.1) (find same_key (v, k) fs) ≡ Some n → (field_of v k fs ≡ Some n → n < 2 ^ width_of v) → n < 2 ^ width_of v
-    at true is h later =
-        let key : (v, k) ≡ f.0 = same_key_is (v, k) f.0 is in
-        let w_is : width_of w ≡ width_of v = ap width_of (sym m.0) ∙ ap (λ (x : Key). width_of x.0) (sym key) in
-        let n_is : f.1 ≡ n = some_num f.1 n h in
-        subst (λ (x : ℕ). n < 2 ^ x) w_is (subst (λ (x : ℕ). x < 2 ^ width_of w) n_is (fits_is (width_of w) f.1 m.1))
-    at false is h later = later h
+field_fits form fs raw v k n m e = fits_is (width_of v) n (rules.field_fits form fs raw m (v, k) n e)

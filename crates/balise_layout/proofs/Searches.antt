@@ -6,11 +6,13 @@ use Rattle.balise_rules.specs.declared.variable.Var.{Var}
 use Rattle.balise_rules.specs.Variables.{width_of}
 use Rattle.balise_rules.specs.Tags.{Key, same_var, same_key}
 use Rattle.balise_rules.specs.Forms.{Fields, Numbered, NumberedFrom, count_of, spelling}
+use Rattle.balise_rules.proofs.Tests.{var_test, equal_yes, other_no}
+use Rattle.balise_rules.proofs.Keys.{count-more, count-other}
+use Rattle.balise_rules.proofs.Cases.{unsome}
 use Rattle.balise_layout.specs.declared.search.Search.{Search}
 use Rattle.balise_layout.specs.Walks.{kept}
 use Rattle.balise_layout.specs.Held.{before, further}
 use Rattle.balise_layout.specs.Search.{look}
-use Rattle.balise_layout.proofs.Keys.{same_var_is, same_var_self, other_var, count_of-push_same, count_of-push_other}
 use Rattle.balise_layout.proofs.Places.{standing}
 
 abbrev pub searching : Var → ℕ → Search
@@ -38,13 +40,13 @@ look_later v k left w n = let one : suc k - 1 ≡ k = omega arith in rw (eqb-suc
 
 -- the test of a field's key, where the variable is the one sought
 key_same : (v : Var) (k : ℕ) (f : Key × ℕ) (b : Bool) → v ≡ f.0.0 → eqb k f.0.1 ≡ b → same_key (v, k) f.0 ≡ b
-key_same v k f b e h = at (same_var v f.0.0) (same_var_self v f.0.0 e)
+key_same v k f b e h = at (same_var v f.0.0) (equal_yes var_test v f.0.0 e)
   where
     at : (x : Bool) → x ≡ true → (x && eqb k f.0.1) ≡ b
     at x p = rw p h
 
 key_other : (v : Var) (k : ℕ) (f : Key × ℕ) → same_var f.0.0 v ≡ false → same_key (v, k) f.0 ≡ false
-key_other v k f h = at (same_var v f.0.0) (other_var v f.0.0 (λ e. no (same_var_self f.0.0 v (sym e))))
+key_other v k f h = at (same_var v f.0.0) (other_no var_test v f.0.0 (λ e. no (equal_yes var_test f.0.0 v (sym e))))
   where
     no : same_var f.0.0 v ≡ true → ⊥
     no e = let bad : true ≡ false = sym e ∙ h in absurd cc
@@ -59,12 +61,12 @@ search_from v zero total seen (f ∷ fs) m = here (same_var f.0.0 v) refl (λ h.
   where
     here : (b : Bool) → same_var f.0.0 v ≡ b → (same_var f.0.0 v ≡ false → (kept look (searching v 0) (total - width_of f.0.0) fs).found ≡ left_from (total - width_of f.0.0) (before (v, count_of v (seen ++ f ∷ []) + 0) fs)) → (kept look (cond b (found_at v 0 total) (searching v 0)) (total - width_of f.0.0) fs).found ≡ left_from total (cond (same_key (v, count_of v seen + 0) f.0) (Some 0) (further (width_of f.0.0) (before (v, count_of v seen + 0) fs)))
     here true is later =
-        let v_is : v ≡ f.0.0 = sym (same_var_is f.0.0 v is) in
+        let v_is : v ≡ f.0.0 = sym (var_test.one f.0.0 v is) in
         let k_is : count_of v seen + 0 ≡ f.0.1 = omega (arith, m.0, ap (λ (x : Var). count_of x seen) v_is) in
         rw (key_same v (count_of v seen + 0) f true v_is (eq-eqb _ _ k_is)) (found_stays v 0 total (total - width_of f.0.0) fs ∙ ap Some (let e : total ≡ total - 0 = omega arith in e))
     here false is later =
         let gone : same_key (v, count_of v seen + 0) f.0 ≡ false = key_other v (count_of v seen + 0) f is in
-        let same : count_of v (seen ++ f ∷ []) ≡ count_of v seen = count_of-push_other v seen f (other_var v f.0.0 (λ e. apart is (same_var_self f.0.0 v (sym e)))) in
+        let same : count_of v (seen ++ f ∷ []) ≡ count_of v seen = count-other v seen f (other_no var_test v f.0.0 (λ e. apart is (equal_yes var_test f.0.0 v (sym e)))) in
         rw gone (later is ∙ ap (λ (n : ℕ). left_from (total - width_of f.0.0) (before (v, n + 0) fs)) same ∙ left_further total (width_of f.0.0) (before (v, count_of v seen + 0) fs))
       where
         apart : same_var f.0.0 v ≡ false → same_var f.0.0 v ≡ true → ⊥
@@ -75,14 +77,14 @@ search_from v (suc skip) total seen (f ∷ fs) m =
   where
     here : (b : Bool) → same_var f.0.0 v ≡ b → ((k : ℕ) → (kept look (searching v k) (total - width_of f.0.0) fs).found ≡ left_from (total - width_of f.0.0) (before (v, count_of v (seen ++ f ∷ []) + k) fs)) → (kept look (cond b (searching v skip) (searching v (suc skip))) (total - width_of f.0.0) fs).found ≡ left_from total (cond (same_key (v, count_of v seen + suc skip) f.0) (Some 0) (further (width_of f.0.0) (before (v, count_of v seen + suc skip) fs)))
     here true is later =
-        let v_is : v ≡ f.0.0 = sym (same_var_is f.0.0 v is) in
+        let v_is : v ≡ f.0.0 = sym (var_test.one f.0.0 v is) in
         let k_is : count_of v seen ≡ f.0.1 = ap (λ (x : Var). count_of x seen) v_is ∙ sym m.0 in
         let gone : same_key (v, count_of v seen + suc skip) f.0 ≡ false = key_same v (count_of v seen + suc skip) f false v_is (ne_eqb _ _ (λ e. absurd (omega (arith, e, k_is)))) in
-        let next : count_of v (seen ++ f ∷ []) + skip ≡ count_of v seen + suc skip = omega (arith, count_of-push_same v seen f (same_var_self v f.0.0 v_is)) in
+        let next : count_of v (seen ++ f ∷ []) + skip ≡ count_of v seen + suc skip = omega (arith, count-more v seen f (equal_yes var_test v f.0.0 v_is)) in
         rw gone (later skip ∙ ap (λ (n : ℕ). left_from (total - width_of f.0.0) (before (v, n) fs)) next ∙ left_further total (width_of f.0.0) (before (v, count_of v seen + suc skip) fs))
     here false is later =
         let gone : same_key (v, count_of v seen + suc skip) f.0 ≡ false = key_other v (count_of v seen + suc skip) f is in
-        let same : count_of v (seen ++ f ∷ []) ≡ count_of v seen = count_of-push_other v seen f (other_var v f.0.0 (λ e. apart is (same_var_self f.0.0 v (sym e)))) in
+        let same : count_of v (seen ++ f ∷ []) ≡ count_of v seen = count-other v seen f (other_no var_test v f.0.0 (λ e. apart is (equal_yes var_test f.0.0 v (sym e)))) in
         rw gone (later (suc skip) ∙ ap (λ (n : ℕ). left_from (total - width_of f.0.0) (before (v, n + suc skip) fs)) same ∙ left_further total (width_of f.0.0) (before (v, count_of v seen + suc skip) fs))
       where
         apart : same_var f.0.0 v ≡ false → same_var f.0.0 v ≡ true → ⊥
@@ -92,16 +94,13 @@ search_from v (suc skip) total seen (f ∷ fs) m =
 pub search_is : (v : Var) (k total : ℕ) (fs : Fields) → Numbered fs → (kept look (searching v k) total fs).found ≡ left_from total (before (v, k) fs)
 search_is v k total fs m = search_from v k total [] fs m ∙ ap (λ (n : ℕ). left_from total (before (v, n) fs)) (let e : 0 + k ≡ k = omega arith in e)
 
-some_same : (a b : ℕ) → Some a ≡ Some b → a ≡ b
-some_same a b e = cc
-
 pub search_found : (v : Var) (k : ℕ) (fs : Fields) (raw : List Bool) (s : Search) (left : ℕ) → Numbered fs → s ≡ kept look (searching v k) (length (spelling fs ++ raw)) fs → s.found ≡ Some left → (left ≤ length (spelling fs ++ raw)) × (Some (length (spelling fs ++ raw) - left) ≡ before (v, k) fs)
 search_found v k fs raw s left m is some = at (before (v, k) fs) refl (sym some ∙ ap (λ (x : Search). x.found) is ∙ search_is v k (length (spelling fs ++ raw)) fs m)
   where
     at : (p : Option ℕ) → before (v, k) fs ≡ p → Some left ≡ left_from (length (spelling fs ++ raw)) p → (left ≤ length (spelling fs ++ raw)) × (Some (length (spelling fs ++ raw) - left) ≡ p)
     at None e h = absurd cc
     at (Some d) e h =
-        let l = some_same _ _ h in
+        let l = unsome h in
         let w = (standing v k fs raw d e).within in
         (omega (arith, l), ap Some (omega (arith, l, w)))
 

@@ -1,17 +1,20 @@
 -- A packet with another value of one of its fields is a packet still, of the same form and length, spelt by the same versions.
-use Rattle.std.proofs.Common.{◌≡◌, ℕ, suc, ◌+◌, ◌^◌, ◌<◌, Bool, true, false, IsTrue, cond, List, [], ◌∷◌, ◌++◌, length, Option, Some, unwrap_or, refl, sym, ap, subst, ◌∙◌, arith, length-append}
+use Rattle.std.proofs.Common.{◌≡◌, ℕ, suc, ◌+◌, ◌^◌, ◌<◌, Bool, true, false, IsTrue, cond, List, [], ◌∷◌, ◌++◌, length, Option, Some, unwrap_or, refl, sym, ap, subst, ◌∙◌}
 use Rattle.balise_rules.specs.declared.variable.Var.{Var}
 use Rattle.balise_rules.specs.declared.variable.Var.TheVariants.{LPacket}
 use Rattle.balise_rules.specs.Variables.{width_of, steers}
 use Rattle.balise_rules.specs.Bits.{bits, fits, put_at}
 use Rattle.balise_rules.specs.Tags.{Key, same_key, is_of}
-use Rattle.balise_rules.specs.Forms.{Form, done, shut, never, valued, Fields, Matches, Numbered, NumberedFrom, count_of, spelling}
+use Rattle.balise_rules.specs.Forms.{Form, done, shut, never, valued, Fields, Matches, Numbered, NumberedFrom, count_of}
 use Rattle.balise_rules.specs.Packets.{body}
 use Rattle.balise_rules.specs.Packet.{Packet, field_of, value, with_value, bits_of, width, IsSpelt}
-use Rattle.balise_rules.proofs.Numbers.{length-bits}
+use Rattle.balise_rules.proofs.Tests.{key_test, other_no}
+use Rattle.balise_rules.proofs.Keys.{count-append, numbered_distinct}
+use Rattle.balise_rules.proofs.Used.{width-each}
+use Rattle.balise_rules.proofs.Lists.{find-each}
+use Rattle.balise_rules.proofs.Cases.{map_itself}
 use Rattle.balise_layout.specs.Held.{headed, Holds, Steady, with_field, before}
 use Rattle.balise_layout.specs.Steadies.{steady_body}
-use Rattle.balise_layout.proofs.Keys.{same_key_is, other_key, distinct}
 use Rattle.balise_layout.proofs.Places.{put_spelling}
 use Rattle.balise_layout.proofs.Walks.{is_fit}
 use Rattle.balise_layout.proofs.First.{spells_holds, holds_spells}
@@ -28,7 +31,7 @@ Matches-with_value (valued w next) (f ∷ fs) raw v k n s free fit m = at (same_
   where
     at : (b : Bool) → same_key (v, k) f.0 ≡ b → Matches (next f.1) (with_value v k n fs) raw → (f.0.0 ≡ w) × IsTrue (fits (width_of w) (cond b n f.1)) × Matches (next (cond b n f.1)) (with_value v k n fs) raw
     at true is later =
-        let v_is : v ≡ w = ap (λ (x : Key). x.0) (same_key_is (v, k) f.0 is) ∙ m.0 in
+        let v_is : v ≡ w = ap (λ (x : Key). x.0) (key_test.one (v, k) f.0 is) ∙ m.0 in
         (m.0, is_fit (width_of w) n (subst (λ (x : Var). n < 2 ^ width_of x) v_is fit), subst (λ (x : Form). Matches x (with_value v k n fs) raw) (s.0 (ap steers (sym v_is) ∙ free) f.1 n) later)
     at false is later = (m.0, m.1, later)
 
@@ -45,19 +48,11 @@ Apart a b = a ≡ b → ⊥
 abbrev SameCounts : Fields → Fields → Type 0
 SameCounts a b = (w : Var) → count_of w a ≡ count_of w b
 
-pub count_of-append : (w : Var) (a b : Fields) → count_of w (a ++ b) ≡ count_of w a + count_of w b
-count_of-append w [] b = omega arith
-count_of-append w (f ∷ a) b = at (is_of w f.0) (count_of-append w a b)
-  where
-    at : (x : Bool) → count_of w (a ++ b) ≡ count_of w a + count_of w b → cond x (suc (count_of w (a ++ b))) (count_of w (a ++ b)) ≡ cond x (suc (count_of w a)) (count_of w a) + count_of w b
-    at true e = omega (arith, e)
-    at false e = e
-
 numbered_again : (v : Var) (k n : ℕ) (a b fs : Fields) → SameCounts a b → NumberedFrom a fs → NumberedFrom b (with_value v k n fs)
 numbered_again v k n a b [] same m = tt
 numbered_again v k n a b (f ∷ fs) same m =
     let g : Key × ℕ = (f.0, cond (same_key (v, k) f.0) n f.1) in
-    let more : SameCounts (a ++ f ∷ []) (b ++ g ∷ []) = λ w. count_of-append w a (f ∷ []) ∙ ap (λ (x : ℕ). x + count_of w (f ∷ [])) (same w) ∙ sym (count_of-append w b (g ∷ [])) in
+    let more : SameCounts (a ++ f ∷ []) (b ++ g ∷ []) = λ w. count-append w a (f ∷ []) ∙ ap (λ (x : ℕ). x + count_of w (f ∷ [])) (same w) ∙ sym (count-append w b (g ∷ [])) in
     (m.0 ∙ same f.0.0, numbered_again v k n (a ++ f ∷ []) (b ++ g ∷ []) fs more m.1)
 
 pub Numbered-with_value : (v : Var) (k n : ℕ) (fs : Fields) → Numbered fs → Numbered (with_value v k n fs)
@@ -65,26 +60,13 @@ Numbered-with_value v k n fs m = numbered_again v k n [] [] fs (λ w. refl) m
 
 -- another field keeps its value
 pub field_of-other : (v : Var) (k n : ℕ) (w : Var) (j : ℕ) (fs : Fields) → Apart (v, k) (w, j) → field_of w j (with_value v k n fs) ≡ field_of w j fs
-field_of-other v k n w j [] h = refl
-field_of-other v k n w j (f ∷ fs) h = at (same_key (w, j) f.0) refl (field_of-other v k n w j fs h)
-  where
-    at : (b : Bool) → same_key (w, j) f.0 ≡ b → field_of w j (with_value v k n fs) ≡ field_of w j fs → cond b (Some (cond (same_key (v, k) f.0) n f.1)) (field_of w j (with_value v k n fs)) ≡ cond b (Some f.1) (field_of w j fs)
-    at true is later =
-        let key : (w, j) ≡ f.0 = same_key_is (w, j) f.0 is in
-        let apart : same_key (v, k) f.0 ≡ false = other_key (v, k) f.0 (λ e. h (e ∙ sym key)) in
-        rw apart refl
-    at false is later = later
-
-length-with_value : (v : Var) (k n : ℕ) (fs : Fields) → length (spelling (with_value v k n fs)) ≡ length (spelling fs)
-unfolding spelling
-length-with_value v k n [] = refl
-length-with_value v k n (f ∷ fs) =
-    let m = cond (same_key (v, k) f.0) n f.1 in
-    omega (arith, length-append (bits (width_of f.0.0) m) (spelling (with_value v k n fs)), length-append (bits (width_of f.0.0) f.1) (spelling fs), length-bits (width_of f.0.0) m, length-bits (width_of f.0.0) f.1, length-with_value v k n fs)
+field_of-other v k n w j fs h =
+    let other = other_no key_test (v, k) (w, j) h in
+    find-each key_test (λ key old. cond (same_key (v, k) key) n old) (w, j) fs ∙ sym (map_itself (λ old. cond (same_key (v, k) (w, j)) n old) (λ x. simp other) (field_of w j fs))
 
 -- the packet stays as long
 pub width-with_field : (v : Var) (k n : ℕ) (p : Packet) → width (with_field v k n p) ≡ width p
-width-with_field v k n p = omega (arith, length-append (spelling (with_value v k n p.fields)) p.rest, length-append (spelling p.fields) p.rest, length-with_value v k n p.fields)
+width-with_field v k n p = width-each (λ key old. cond (same_key (v, k) key) n old) p
 
 steers_apart : (v w : Var) (k j : ℕ) → steers v ≡ false → steers w ≡ true → Apart (v, k) (w, j)
 steers_apart v w k j a b e = let same : false ≡ true = sym a ∙ ap (λ (x : Key). steers x.0) e ∙ b in absurd cc
@@ -108,7 +90,7 @@ Holds-with_field next b p v k n s free fit h =
 -- another value put where the field stands
 pub Holds-put : (next : ℕ → Form) (b : List Bool) (p : Packet) (v : Var) (k n d : ℕ) → ((m : ℕ) → Steady (next m)) → steers v ≡ false → n < 2 ^ width_of v → Holds next b p → before (v, k) p.fields ≡ Some d → Holds next (put_at d (bits (width_of v) n) b) (with_field v k n p)
 Holds-put next b p v k n d s free fit h at =
-    let new : put_at d (bits (width_of v) n) b ≡ bits_of (with_field v k n p) = ap (put_at d (bits (width_of v) n)) h.spelt ∙ put_spelling v k n p.fields p.rest d (distinct [] p.fields h.numbered) at in
+    let new : put_at d (bits (width_of v) n) b ≡ bits_of (with_field v k n p) = ap (put_at d (bits (width_of v) n)) h.spelt ∙ put_spelling v k n p.fields p.rest d (numbered_distinct [] p.fields h.numbered) at in
     subst (λ (x : List Bool). Holds next x (with_field v k n p)) (sym new) (Holds-with_field next b p v k n s free fit h)
 
 -- a version that spells the packet spells it so too

@@ -1,5 +1,5 @@
 -- What reads as a packet is spelt by it, and what a packet spells is read as it.
-use Rattle.std.proofs.Common.{◌≡◌, ℕ, ◌^◌, ◌<◌, ◌≤◌, Bool, List, [], ◌∷◌, ◌++◌, length, take, drop, Some, Result, Ok, Err, refl, sym, ap, subst, ◌∙◌, append_assoc, arith, length-append}
+use Rattle.std.proofs.Common.{◌≡◌, ℕ, ◌^◌, ◌<◌, ◌≤◌, Bool, List, [], ◌∷◌, ◌++◌, length, take, drop, Some, sym, ap, subst, ◌∙◌, append_assoc, arith, length-append}
 use Rattle.std.proofs.lemmas.List.{take_at, drop_at, append-nil}
 use Rattle.balise_rules.specs.declared.variable.Var.{Var}
 use Rattle.balise_rules.specs.declared.variable.Var.TheVariants.{NidPacket, QDir, LPacket}
@@ -8,17 +8,13 @@ use Rattle.balise_rules.specs.Bits.{num, bits}
 use Rattle.balise_rules.specs.Forms.{Form, Fields, Matches, Numbered, count_of, spelling, read_form}
 use Rattle.balise_rules.specs.Packet.{Packet, value, length_said}
 use Rattle.balise_rules.proofs.Numbers.{length-bits, num-bits_fit}
-use Rattle.balise_layout.specs.declared.fault.LayoutFault.{LayoutFault}
-use Rattle.balise_layout.specs.Walks.{walk, collect}
+use Rattle.balise_rules.proofs.Spelt.{read_found, read_again}
 use Rattle.balise_layout.specs.Held.{headed, Holds, held, packet_or_none, IsHeld}
-use Rattle.balise_layout.proofs.Walks.{good, walk_again, walk_found, kept_collect, found_or_none, read_form_is, fits_is}
+use Rattle.balise_layout.proofs.Walks.{fits_is}
 
 -- what a packet's fields spell is read as they
 pub read_spelling : (form : Form) (fs : Fields) (raw : List Bool) → Matches form fs raw → Numbered fs → read_form form [] (spelling fs ++ raw) ≡ Some (fs, raw)
-read_spelling form fs raw m n =
-    read_form_is form [] (spelling fs ++ raw)
-    ∙ ap found_or_none (walk_again collect form fs [] raw m)
-    ∙ ap (λ (x : Fields). Some (x, raw)) (kept_collect [] fs (length (spelling fs ++ raw)) n)
+read_spelling form fs raw m n = read_again form [] fs raw m n
 
 -- what is read of bits
 pub record IsRead (form : Form) (b : List Bool) (fs : Fields) (raw : List Bool) : Type 0 where
@@ -27,15 +23,10 @@ pub record IsRead (form : Form) (b : List Bool) (fs : Fields) (raw : List Bool) 
   pub numbered : Numbered fs
 
 pub read_is : (form : Form) (b : List Bool) (fs : Fields) (raw : List Bool) → read_form form [] b ≡ Some (fs, raw) → IsRead form b fs raw
-read_is form b fs raw e = from (walk collect form ([], b)) refl (sym e ∙ read_form_is form [] b)
-  where
-    from : (w : Result (Fields × List Bool) LayoutFault) → walk collect form ([], b) ≡ w → Some (fs, raw) ≡ found_or_none w → IsRead form b fs raw
-    from (Err x) is h = absurd cc
-    from (Ok r) is h =
-        let same : r ≡ (fs, raw) = cc in
-        let f = walk_found [] collect form [] b (fs, raw) (is ∙ ap (λ (x : Fields × List Bool). good x) same) in
-        let own : f.fields ≡ fs = sym (f.is ∙ kept_collect [] f.fields (length b) f.numbered) in
-        subst (λ (x : Fields). IsRead form b x raw) own (record { spelt = f.parts; matches = f.matches; numbered = f.numbered })
+read_is form b fs raw e =
+    let f = read_found form [] b (fs, raw) e in
+    let own : f.fields ≡ fs = sym f.all in
+    subst (λ (x : Fields). IsRead form b x raw) own (record { spelt = f.spelt; matches = f.matched; numbered = f.numbered })
 
 -- ---- the first three fields
 

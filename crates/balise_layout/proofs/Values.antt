@@ -14,9 +14,12 @@ use Rattle.balise_rules.specs.Forms.{Form, Fields}
 use Rattle.balise_rules.specs.Packet.{Packet, field_of, value, with_value, IsSpelt}
 use Rattle.balise_rules.specs.Edits.{exchanged}
 use Rattle.balise_rules.proofs.Numbers.{num-bits_fit}
+use Rattle.balise_rules.proofs.Tests.{key_test, split_keys}
+use Rattle.balise_rules.proofs.Keys.{numbered_distinct}
+use Rattle.balise_rules.proofs.Cases.{unsome}
+use Rattle.balise_rules.proofs.Each.{each-found}
 use Rattle.balise_layout.specs.Held.{headed, Holds, before, with_field}
 use Rattle.balise_layout.specs.Setting.{set_refusal}
-use Rattle.balise_layout.proofs.Keys.{distinct, same_key_is}
 use Rattle.balise_layout.proofs.Spelt.{head_of}
 use Rattle.balise_layout.proofs.Places.{standing, missing, with_value-missing, field_fits}
 use Rattle.balise_layout.proofs.Setting.{IsSpelt-with_field}
@@ -104,21 +107,12 @@ nothing_left n w e =
 -- ---- flips
 
 pub with_value-same : (v : Var) (k n : ℕ) (fs : Fields) → Distinct same_key fs → field_of v k fs ≡ Some n → with_value v k n fs ≡ fs
-with_value-same v k n [] d e = refl
-with_value-same v k n (f ∷ fs) d e = at (same_key (v, k) f.0) refl e (with_value-same v k n fs d.1)
-  where
-    some_num : (a b : ℕ) → Some a ≡ Some b → a ≡ b
-    some_num a b h = cc
-
-    at : (b : Bool) → same_key (v, k) f.0 ≡ b → cond b (Some f.1) (find same_key (v, k) fs) ≡ Some n → (field_of v k fs ≡ Some n → with_value v k n fs ≡ fs) → (f.0, cond b n f.1) ∷ with_value v k n fs ≡ f ∷ fs
-    at true is h later =
-        let gone : field_of v k fs ≡ None = ap (λ (x : Key). find same_key x fs) (same_key_is (v, k) f.0 is) ∙ d.0 in
-        let n_is : n ≡ f.1 = sym (some_num f.1 n h) in
-        ap (λ (x : ℕ). (f.0, x) ∷ with_value v k n fs) n_is ∙ ap (λ (l : Fields). f ∷ l) (with_value-missing v k n fs gone)
-    at false is h later = ap (λ (l : Fields). f ∷ l) (later h)
+with_value-same v k n fs d e =
+    each-found key_test (λ key old. cond (same_key (v, k) key) n old) fs d
+    (λ key old h. split_keys key_test (v, k) key (λ s q. simp s (unsome (sym e ∙ ap (λ (x : Key). find same_key x fs) q ∙ h))) (λ s. simp s))
 
 pub with_field-same : (next : ℕ → Form) (b : List Bool) (p : Packet) (v : Var) (k n : ℕ) → Holds next b p → field_of v k p.fields ≡ Some n → with_field v k n p ≡ p
-with_field-same next b p v k n h e = ap (λ (x : Fields). record { fields = x; rest = p.rest }) (with_value-same v k n p.fields (distinct [] p.fields h.numbered) e)
+with_field-same next b p v k n h e = ap (λ (x : Fields). record { fields = x; rest = p.rest }) (with_value-same v k n p.fields (numbered_distinct [] p.fields h.numbered) e)
 
 pub with_field-missing : (p : Packet) (v : Var) (k n : ℕ) → before (v, k) p.fields ≡ None → with_field v k n p ≡ p
 with_field-missing p v k n e = ap (λ (x : Fields). record { fields = x; rest = p.rest }) (with_value-missing v k n p.fields (missing v k p.fields e))

@@ -8,19 +8,13 @@ use Rattle.balise_rules.specs.Bits.{num, bits, fits}
 use Rattle.balise_rules.specs.Tags.{Key}
 use Rattle.balise_rules.specs.Forms.{Form, done, shut, never, valued, repeat, Fields, Matches, NumberedFrom, spelling, read_form, count_of}
 use Rattle.balise_rules.proofs.Numbers.{length-bits, num-bits_fit, bits-num, num_below}
+use Rattle.balise_rules.proofs.Cases.{unok, unless}
 use Rattle.balise_layout.specs.declared.fault.LayoutFault.{LayoutFault}
 use Rattle.balise_layout.specs.declared.fault.LayoutFault.TheVariants.{LayoutMismatch}
 use Rattle.balise_layout.specs.Walks.{walk, kept, collect}
 
 abbrev pub good : {X : Type 0} → X → Result X LayoutFault
 good s = Ok s
-
-pub some_is : {X : Type 0} (x y : X) → good x ≡ good y → x ≡ y
-some_is x y e = cc
-
-guard : {X : Type 0} (b : Bool) (r : Result X LayoutFault) (y : X) → cond b (Err LayoutMismatch) r ≡ Ok y → (b ≡ false) × (r ≡ Ok y)
-guard true r y e = absurd cc
-guard false r y e = (refl, e)
 
 -- a value fits as a number and as a test
 pub fits_is : (w n : ℕ) → IsTrue (fits w n) → n < 2 ^ w
@@ -62,10 +56,10 @@ pub record Found {A : Type 0} (before : Fields) (step : A → ℕ → Var → �
 pub walk_found : {A : Type 0} (before : Fields) (step : A → ℕ → Var → ℕ → A) (form : Form) (a : A) (b : List Bool) (after : A × List Bool) → walk step form (a, b) ≡ Ok after → Found before step form a b after
 unfolding walk spelling
 walk_found {A = A} before step done a b after e =
-    let is : (a, b) ≡ after = some_is (a, b) after e in
+    let is : (a, b) ≡ after = unok e in
     record { fields = []; is = ap (λ (x : A × List Bool). x.0) (sym is); parts = ap (λ (x : A × List Bool). x.1) is; matches = tt; numbered = tt }
 walk_found {A = A} before step shut a [] after e =
-    let is : (a, []) ≡ after = some_is (a, []) after e in
+    let is : (a, []) ≡ after = unok e in
     record { fields = []; is = ap (λ (x : A × List Bool). x.0) (sym is); parts = ap (λ (x : A × List Bool). x.1) is; matches = ap (λ (x : A × List Bool). x.1) (sym is); numbered = tt }
 walk_found {A = A} before step shut a (b ∷ bs) after e = absurd cc
 walk_found {A = A} before step never a b after e = absurd cc
@@ -73,7 +67,7 @@ walk_found {A = A} before step (valued v next) a b after e =
     let w = width_of v in
     let n = num (take w b) in
     let f : Key × ℕ = ((v, count_of v before), n) in
-    let g = guard (ltb (length b) w) (walk step (next n) (step a (length b) v n, drop w b)) after e in
+    let g = unless (ltb (length b) w) _ (walk step (next n) (step a (length b) v n, drop w b)) after e in
     let long : w ≤ length b = ltb-false _ _ g.0 in
     let len : length (take w b) ≡ w = omega (arith, length-take w b) in
     let more = walk_found (before ++ f ∷ []) step (next n) (step a (length b) v n) (drop w b) after g.1 in

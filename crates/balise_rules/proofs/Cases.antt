@@ -1,6 +1,6 @@
 -- By cases: on what is found, on what was read, and on tests joined by 'and'.
 -- From nothing but the cases themselves.
-use Rattle.std.proofs.Common.{◌≡◌, Bool, true, false, ◌&&◌, Option, Some, None, Result, Ok, refl, sym, ap}
+use Rattle.std.proofs.Common.{◌≡◌, Bool, true, false, ◌&&◌, Option, Some, None, Result, Ok, refl, sym, ap, cond, Err}
 use Rattle.std.specs.Option.{option_map}
 
 pub unsome : {A : Type 0} {a b : A} → Some a ≡ Some b → a ≡ b
@@ -8,6 +8,11 @@ unsome e = cc
 
 pub unok : {A E : Type 0} → {a b : A} → ◌≡◌ {A = Result A E} (Ok a) (Ok b) → a ≡ b
 unok e = cc
+
+-- what is read unless a test holds
+pub unless : {A E : Type 0} → (c : Bool) → (r : E) → (q : Result A E) → (y : A) → cond c (Err r) q ≡ Ok y → (c ≡ false) × (q ≡ Ok y)
+unless true r q y h = absurd cc
+unless false r q y h = (refl, h)
 
 -- by cases on what is found
 pub found : {A : Type 0} {P : Type 0} → (o : Option A) → (o ≡ None → P) → ((x : A) → o ≡ Some x → P) → P

@@ -26,13 +26,13 @@ count-append v (f ∷ fs) ys =
     split_on (is_of v f.0) (λ e. simp e (omega (arith, ih))) (λ e. simp e ih)
 
 -- a field more is counted under its own variable
-count-more : (f : Key × ℕ) → (seen : Fields) → count_of f.0.0 (seen ++ f ∷ []) ≡ suc (count_of f.0.0 seen)
-count-more f seen =
-    let s : same_var f.0.0 f.0.0 ≡ true = var_test.itself f.0.0 in
-    let one : count_of f.0.0 (f ∷ []) ≡ 1 = simp s in
-    omega (arith, count-append f.0.0 seen (f ∷ []), one)
+pub count-more : (v : Var) → (seen : Fields) → (f : Key × ℕ) → is_of v f.0 ≡ true → count_of v (seen ++ f ∷ []) ≡ suc (count_of v seen)
+count-more v seen f e = let one : count_of v (f ∷ []) ≡ 1 = simp e in omega (arith, count-append v seen (f ∷ []), one)
 
-count_grows : (v : Var) → (seen : Fields) → (f : Key × ℕ) → count_of v seen ≤ count_of v (seen ++ f ∷ [])
+pub count-other : (v : Var) → (seen : Fields) → (f : Key × ℕ) → is_of v f.0 ≡ false → count_of v (seen ++ f ∷ []) ≡ count_of v seen
+count-other v seen f e = let none : count_of v (f ∷ []) ≡ 0 = simp e in omega (arith, count-append v seen (f ∷ []), none)
+
+pub count_grows : (v : Var) → (seen : Fields) → (f : Key × ℕ) → count_of v seen ≤ count_of v (seen ++ f ∷ [])
 count_grows v seen f = omega (arith, count-append v seen (f ∷ []))
 
 -- a number that was counted before doesn't come again
@@ -46,7 +46,7 @@ counted_before seen (f ∷ fs) n v k h =
 pub numbered_distinct : (seen fs : Fields) → NumberedFrom seen fs → Distinct same_key fs
 numbered_distinct seen [] n = tt
 numbered_distinct seen (f ∷ fs) n =
-    let l : f.0.1 < count_of f.0.0 (seen ++ f ∷ []) = omega (arith, n.0, count-more f seen) in
+    let l : f.0.1 < count_of f.0.0 (seen ++ f ∷ []) = omega (arith, n.0, count-more f.0.0 seen f (var_test.itself f.0.0)) in
     (counted_before (seen ++ f ∷ []) fs n.1 f.0.0 f.0.1 l, numbered_distinct (seen ++ f ∷ []) fs n.1)
 
 -- what is found has a number below the count

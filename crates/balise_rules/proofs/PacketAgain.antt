@@ -7,7 +7,7 @@ use Rattle.balise_rules.specs.declared.refusal.Refusal.TheVariants.{PacketCut}
 use Rattle.balise_rules.specs.Bits.{num, bits}
 use Rattle.balise_rules.specs.Forms.{Fields, Matches, spelling, read_form}
 use Rattle.balise_rules.specs.Packets.{packet, body}
-use Rattle.balise_rules.specs.Packet.{Packet, bits_of, IsSpelt, length_said, is_cut, read_packet, read_body}
+use Rattle.balise_rules.specs.Packet.{Packet, bits_of, IsSpelt, length_said, is_cut, read_packet, read_body, read_first}
 use Rattle.balise_rules.proofs.Numbers.{length-bits, num-bits_fit}
 use Rattle.balise_rules.proofs.Spelt.{read_again}
 use Rattle.balise_rules.proofs.PacketRead.{begins, three_spelt, said_is, said_within}
@@ -70,3 +70,10 @@ body_again version p behind s =
     ∙ ap (λ (x : List Bool). read_packet x (read_form (packet version) [] (take (length_said (b ++ behind)) (b ++ behind)))) left
     ∙ ap (λ (x : List Bool). read_packet behind (read_form (packet version) [] x)) own
     ∙ ap (read_packet behind) (read_again (packet version) [] p.fields p.rest s.form s.numbered)
+
+pub first_again : (version : ℕ) (p : Packet) (behind : List Bool) → IsSpelt version p → read_first version (bits_of p ++ behind) ≡ Ok (p, behind)
+unfolding read_first
+first_again version p behind s =
+    let f = front_of version p s in
+    let long : ltb (length (bits_of p ++ behind)) 8 ≡ false = le-ltb _ _ (omega (arith, length-append (bits_of p) behind, f.least)) in
+    rw (long, f.is behind, f.some, f.no_end) (body_again version p behind s)

@@ -1,6 +1,6 @@
 -- A packet's bits have one spelling, and the packet that is read is spelt by the bits in front of those left behind.
 -- From what reading by a form finds; L_PACKET stands 10 bits behind the begin of any packet.
-use Rattle.std.proofs.Common.{◌≡◌, ℕ, ◌+◌, ◌-◌, ◌^◌, ◌≤◌, Bool, true, false, cond, ltb, ◌||◌, List, [], ◌∷◌, ◌++◌, length, take, drop, Option, Some, None, Ok, Err, refl, sym, ap, subst, ◌∙◌, append_assoc, arith, length-append}
+use Rattle.std.proofs.Common.{◌≡◌, ℕ, ◌+◌, ◌-◌, ◌^◌, ◌≤◌, Bool, true, false, cond, ltb, ◌||◌, List, [], ◌∷◌, ◌++◌, length, take, drop, Option, Some, None, Ok, Err, refl, sym, ap, subst, ◌∙◌, append_assoc, arith, length-append, eqb}
 use Rattle.std.specs.Prelude.{IsTrue}
 use Rattle.std.proofs.lemmas.Bool.{ltb-false, ltb-true}
 use Rattle.std.proofs.lemmas.List.{take_at, drop_at, take-append-drop, length-take, drop-take, take-take}
@@ -12,10 +12,10 @@ use Rattle.balise_rules.specs.Bits.{num, bits, fits}
 use Rattle.balise_rules.specs.Tags.{Key}
 use Rattle.balise_rules.specs.Forms.{Fields, Matches, Numbered, count_of, spelling, read_form}
 use Rattle.balise_rules.specs.Packets.{packet, body}
-use Rattle.balise_rules.specs.Packet.{Packet, bits_of, value, Spells, IsSpelt, length_said, is_cut, read_packet, read_body}
+use Rattle.balise_rules.specs.Packet.{Packet, bits_of, value, Spells, IsSpelt, length_said, is_cut, read_packet, read_body, read_first}
 use Rattle.balise_rules.proofs.Numbers.{length-bits, num-bits_fit}
 use Rattle.balise_rules.proofs.Spelt.{read_found, read_again}
-use Rattle.balise_rules.proofs.Cases.{unsome, unok}
+use Rattle.balise_rules.proofs.Cases.{unsome, unok, unless}
 
 packet_from : Fields × List Bool → Packet
 packet_from r = record { fields = r.0; rest = r.1 }
@@ -142,3 +142,11 @@ body_found version b r e = at (is_cut b) refl e
     at : (c : Bool) → is_cut b ≡ c → cond c (Err PacketCut) (read_packet (drop (length_said b) b) (read_form (packet version) [] (take (length_said b) b))) ≡ Ok r → PacketFound version b r
     at true h e = absurd cc
     at false h e = found_in version b r (whole b h) (read_form (packet version) [] (take (length_said b) b)) refl e
+
+pub first_found : (version : ℕ) (b : List Bool) (r : Packet × List Bool) → read_first version b ≡ Ok r → PacketFound version b r
+unfolding read_first
+first_found version b r e =
+    let long = unless (ltb (length b) 8) _ _ r e in
+    let some = unless (eqb (num (take 8 b)) 0) _ _ r long.1 in
+    let no_end = unless (eqb (num (take 8 b)) 255) _ _ r some.1 in
+    body_found version b r no_end.1

@@ -33,6 +33,16 @@ flip_yes {same = same} t a b e = ap (λ x. same b x) (t.one a b e) ∙ t.itself 
 pub flip_no : {K : Type 0} {same : K → K → Bool} → IsTest same → (a b : K) → same a b ≡ false → same b a ≡ false
 flip_no {same = same} t a b n = split_on (same b a) (λ e. absurd (true≢false (sym (flip_yes t b a e) ∙ n))) (λ e. e)
 
+pub equal_yes : {K : Type 0} {same : K → K → Bool} → IsTest same → (a b : K) → a ≡ b → same a b ≡ true
+equal_yes {same = same} t a b e = ap (same a) (sym e) ∙ t.itself a
+
+pub other_no : {K : Type 0} {same : K → K → Bool} → IsTest same → (a b : K) → (a ≡ b → ⊥) → same a b ≡ false
+other_no t a b h = split_keys t a b (λ e q. absurd (h q)) (λ e. e)
+
+-- 'meet' is symmetric
+pub test-sym : {K : Type 0} {same : K → K → Bool} → IsTest same → (a b : K) → same a b ≡ same b a
+test-sym {same = same} t a b = split_on (same a b) (λ e. e ∙ sym (flip_yes t a b e)) (λ e. e ∙ sym (flip_no t a b e))
+
 -- two that are one with a third
 pub both_one : {K : Type 0} {same : K → K → Bool} → IsTest same → (a b c : K) → same b a ≡ true → same c a ≡ true → same c b ≡ true
 both_one {same = same} t a b c h k = ap (same c) (t.one b a h) ∙ k

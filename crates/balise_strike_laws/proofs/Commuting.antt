@@ -38,10 +38,8 @@ back-any (serial, DropGroup g) f plan s un b a w r1 r2 = drop-back f plan s b se
 back-any (serial, Renumber g x) f plan s un b a w r1 r2 = ren-back f plan s b un serial g x a r1 r2
 back-any (serial, TurnGroup g) f plan s un b a w r1 r2 = turn-back serial g f plan s a b.0 r1
 back-any (serial, SetVar g t p v k x) f plan s un b a w r1 r2 = local-back (serial, SetVar g t p v k x) tt f plan s a b r1 (λ y q k. tt)
-back-any (serial, SetHead g t v x) f plan s un b a w r1 r2 = local-back (serial, SetHead g t v x) tt f plan s a b r1 (λ y q k. tt)
 back-any (s0, InsertPacket g t c x) f plan s un b a w r1 r2 = local-back (s0, InsertPacket g t c x) tt f plan s a b r1 (λ y q k. room-back (s0, InsertPacket g t c x) tt f w plan s b.1 (noted f.1 plan).own y q k)
-back-any (serial, DeletePacket g t p) f plan s un b a w r1 r2 = local-back (serial, DeletePacket g t p) tt f plan s a b r1 (λ y q k. tt)
-back-any (serial, MovePacket g t p c) f plan s un b a w r1 r2 = local-back (serial, MovePacket g t p c) tt f plan s a b r1 (λ y q k. tt)
+back-any e f plan s un b a w r1 r2 = local-back e tt f plan s a b r1 (λ y q k. tt)
 
 forward-any : (e f : Item) → (plan : Plan) → Facts plan → Unused f.0 plan → Accepted e.1 plan → Accepted f.1 plan → Accepted f.1 (done e plan) →
     room_apart e.1 f.1 ≡ true → Reads (e, noted e.1 plan) (f, noted f.1 plan) → Reads (f, noted f.1 plan) (e, noted e.1 plan) → Forward e f plan
@@ -50,11 +48,9 @@ forward-any (serial, DropGroup g) f plan s un a b d w r1 r2 = drop-forward f pla
 forward-any (serial, Renumber g x) f plan s un a b d w r1 r2 = ren-forward f plan s b un serial g x a r1 r2
 forward-any (serial, TurnGroup g) f plan s un a b d w r1 r2 = turn-forward serial g f plan s a b.0 r1
 forward-any (serial, SetVar g t p v k x) f plan s un a b d w r1 r2 = local-forward (serial, SetVar g t p v k x) tt f plan s a b r1 r2 (λ y q k. tt)
-forward-any (serial, SetHead g t v x) f plan s un a b d w r1 r2 = local-forward (serial, SetHead g t v x) tt f plan s a b r1 r2 (λ y q k. tt)
 forward-any (s0, InsertPacket g t c x) f plan s un a b d w r1 r2 = local-forward (s0, InsertPacket g t c x) tt f plan s a b r1 r2
     (λ y q k. room-forward (s0, InsertPacket g t c x) tt f w plan s a.1 b.1 (noted (InsertPacket g t c x) plan).own (noted f.1 plan).own d.1 y q k)
-forward-any (serial, DeletePacket g t p) f plan s un a b d w r1 r2 = local-forward (serial, DeletePacket g t p) tt f plan s a b r1 r2 (λ y q k. tt)
-forward-any (serial, MovePacket g t p c) f plan s un a b d w r1 r2 = local-forward (serial, MovePacket g t p c) tt f plan s a b r1 r2 (λ y q k. tt)
+forward-any e f plan s un a b d w r1 r2 = local-forward e tt f plan s a b r1 r2 (λ y q k. tt)
 
 -- an added group is left as it is
 added-same : (s0 : ℕ) → (c : Option Tag) → (bs : List (List Bool)) → (f : Item) → (plan : Plan) → Facts plan → Inner f.1 →
@@ -66,13 +62,7 @@ inner-apart : (e f : Item) → (plan : Plan) → Facts plan → Inner e.1 → (I
     ChangesApart (groups_change e (noted e.1 plan).own) (groups_change f (noted f.1 plan).own) plan × ChangesApart (groups_change f (noted f.1 plan).own) (groups_change e (noted e.1 plan).own) plan
 inner-apart e (s0, AddGroup c bs) plan s h k r = rw (inner-change e h (noted e.1 plan).own) (added-same s0 c bs e plan s h r, added-same s0 c bs e plan s h r)
 inner-apart e (serial, DropGroup g) plan s h k r = rw (inner-change e h (noted e.1 plan).own) (tt, tt)
-inner-apart e (serial, SetVar g t p v i x) plan s h k r = absurd (k tt)
-inner-apart e (serial, SetHead g t v x) plan s h k r = absurd (k tt)
-inner-apart e (s0, InsertPacket g t c x) plan s h k r = absurd (k tt)
-inner-apart e (serial, DeletePacket g t p) plan s h k r = absurd (k tt)
-inner-apart e (serial, MovePacket g t p c) plan s h k r = absurd (k tt)
-inner-apart e (serial, Renumber g x) plan s h k r = absurd (k tt)
-inner-apart e (serial, TurnGroup g) plan s h k r = absurd (k tt)
+inner-apart e f plan s h k r = absurd (k tt)
 
 abbrev pub Outer : Edit → Type 0
 Outer (AddGroup a bs) = Unit {0}
@@ -82,25 +72,13 @@ Outer e = ⊥
 in-or-out : {P : Type 0} → (e : Item) → (Inner e.1 → P) → (Outer e.1 → (Inner e.1 → ⊥) → P) → P
 in-or-out (s0, AddGroup c bs) i o = o tt (λ h. h)
 in-or-out (serial, DropGroup g) i o = o tt (λ h. h)
-in-or-out (serial, SetVar g t p v k x) i o = i tt
-in-or-out (serial, SetHead g t v x) i o = i tt
-in-or-out (s0, InsertPacket g t c x) i o = i tt
-in-or-out (serial, DeletePacket g t p) i o = i tt
-in-or-out (serial, MovePacket g t p c) i o = i tt
-in-or-out (serial, Renumber g x) i o = i tt
-in-or-out (serial, TurnGroup g) i o = i tt
+in-or-out e i o = i tt
 
 outer-list : (e : Item) → Outer e.1 → (n : Note) →
     OfList (groups_change e n.own) × ((f : Item) → (m : Note) → Reads (e, n) (f, m) → Leaves (groups_change f m.own) (groups_change e n.own) n.before)
 outer-list (s0, AddGroup c bs) h n = (tt, λ f m r. add-leaves s0 c bs n f m r)
 outer-list (serial, DropGroup g) h n = (tt, λ f m r. drop-leaves serial g n f m r)
-outer-list (serial, SetVar g t p v k x) h n = absurd h
-outer-list (serial, SetHead g t v x) h n = absurd h
-outer-list (s0, InsertPacket g t c x) h n = absurd h
-outer-list (serial, DeletePacket g t p) h n = absurd h
-outer-list (serial, MovePacket g t p c) h n = absurd h
-outer-list (serial, Renumber g x) h n = absurd h
-outer-list (serial, TurnGroup g) h n = absurd h
+outer-list e h n = absurd h
 
 result-any : (e f : Item) → (plan : Plan) → Facts plan → Lawful e.1 → Lawful f.1 → Reads (e, noted e.1 plan) (f, noted f.1 plan) →
     Reads (f, noted f.1 plan) (e, noted e.1 plan) → effect f (noted f.1 plan).own (done e plan) ≡ effect e (noted e.1 plan).own (done f plan)

@@ -52,14 +52,7 @@ module _ (e f : Item) (plan : Plan) (h : InTurn e f plan) (se : Spelt e.1 plan) 
   -- a packet to be put in is spelt whatever its anchor
   spelt_anchored : (a : Option Tag) → (d : Edit) → Spelt d plan → Spelt (anchored a d) plan
   spelt_anchored a (InsertPacket g t b x) k = k
-  spelt_anchored a (SetVar g t p v i x) k = tt
-  spelt_anchored a (SetHead g t v x) k = tt
-  spelt_anchored a (DeletePacket g t p) k = tt
-  spelt_anchored a (MovePacket g t p b) k = tt
-  spelt_anchored a (AddGroup b bs) k = tt
-  spelt_anchored a (DropGroup g) k = tt
-  spelt_anchored a (Renumber g x) k = tt
-  spelt_anchored a (TurnGroup g) k = tt
+  spelt_anchored a e k = tt
 
   exchange_behind : stands_behind (e, noted e.1 plan) (f, noted f.1 (done e plan)) ≡ true → Exchanged e f (re_anchored e f) plan
   exchange_behind far =

@@ -40,24 +40,12 @@ added_real bs e = real_number (identity_of (group_of bs)) (group_read bs (group_
 pub groups-free : (f : Item) → (m : Note) → (j : Id) → (c : Option Tag) → Clear (f, m) (anchor c ∷ After ∷ []) → Free (groups_change f j) c
 groups-free (s, AddGroup a bs) m j c k = (flip_side a c (k (anchor a ∷ After ∷ []) (later_of first_of)), flip_side (Some (Fresh s)) c (k (At (Fresh s) ∷ []) first_of))
 groups-free (serial, DropGroup g) m j c k = flip_side (Some g) c (k (At g ∷ []) first_of)
-groups-free (serial, SetVar g t p v i x) m j c k = tt
-groups-free (serial, SetHead g t v x) m j c k = tt
-groups-free (s, InsertPacket g t a x) m j c k = tt
-groups-free (serial, DeletePacket g t p) m j c k = tt
-groups-free (serial, MovePacket g t p a) m j c k = tt
-groups-free (serial, Renumber g x) m j c k = tt
-groups-free (serial, TurnGroup g) m j c k = tt
+groups-free e m j c k = tt
 
 pub groups-takes : (f : Item) → (m : Note) → (j : Id) → (b : Option Tag) → Clear (f, m) (neighbour b ∷ Front ∷ []) → takes (groups_change f j) b ≡ false
 groups-takes (s, AddGroup a bs) m j b k = refl
 groups-takes (serial, DropGroup g) m j b k = front_apart (Some g) b (k (At g ∷ []) first_of)
-groups-takes (serial, SetVar g t p v i x) m j c k = refl
-groups-takes (serial, SetHead g t v x) m j c k = refl
-groups-takes (s, InsertPacket g t a x) m j c k = refl
-groups-takes (serial, DeletePacket g t p) m j c k = refl
-groups-takes (serial, MovePacket g t p a) m j c k = refl
-groups-takes (serial, Renumber g x) m j c k = refl
-groups-takes (serial, TurnGroup g) m j c k = refl
+groups-takes e m j c k = refl
 
 pub drop-leaves : (serial : ℕ) → (g : Tag) → (n : Note) → (f : Item) → (m : Note) → Reads ((serial, DropGroup g), n) (f, m) →
     Leaves (groups_change f m.own) (Take g) n.before
@@ -77,24 +65,12 @@ groups-noted (serial, DropGroup g) plan a o =
     let n : (noted (DropGroup g) plan).before ≡ behind same_tag g plan = ap (λ u. (note_drop (behind same_tag g plan) u).before) a.1 in
     subst (λ u. In (neighbour u ∷ Front ∷ []) (changes ((serial, DropGroup g), noted (DropGroup g) plan))) n (later_of first_of)
 groups-noted (s0, AddGroup a0 bs) plan a o = absurd (false≢true o)
-groups-noted (serial, SetVar g t p v i x) plan a o = absurd (false≢true o)
-groups-noted (serial, SetHead g t v x) plan a o = absurd (false≢true o)
-groups-noted (s0, InsertPacket g t b x) plan a o = absurd (false≢true o)
-groups-noted (serial, DeletePacket g t p) plan a o = absurd (false≢true o)
-groups-noted (serial, MovePacket g t p b) plan a o = absurd (false≢true o)
-groups-noted (serial, Renumber g x) plan a o = absurd (false≢true o)
-groups-noted (serial, TurnGroup g) plan a o = absurd (false≢true o)
+groups-noted e plan a o = absurd (false≢true o)
 
 idle : (f : Item) → (j : Id) → (g : Tag) → (xs : Group) → (Inner f.1 → group_after f j g xs ≡ xs) → group_after f j g xs ≡ xs
 idle (s0, AddGroup a0 bs) j g xs h = each-same (telegram_after (s0, AddGroup a0 bs) j g) xs (λ t y. telegram-id y)
 idle (serial0, DropGroup g0) j g xs h = each-same (telegram_after (serial0, DropGroup g0) j g) xs (λ t y. telegram-id y)
-idle (serial0, SetVar g0 t p v k x) j g xs h = h tt
-idle (serial0, SetHead g0 t v x) j g xs h = h tt
-idle (s0, InsertPacket g0 t b x) j g xs h = h tt
-idle (serial0, DeletePacket g0 t p) j g xs h = h tt
-idle (serial0, MovePacket g0 t p b) j g xs h = h tt
-idle (serial0, Renumber g0 x) j g xs h = h tt
-idle (serial0, TurnGroup g0) j g xs h = h tt
+idle e j g xs h = h tt
 
 abbrev drop_note : Option Tag → Group → Note
 drop_note b xs = record nothing { before = b; own = identity_of xs; names = names_in xs; group = Some xs }

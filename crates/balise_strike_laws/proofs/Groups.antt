@@ -89,14 +89,7 @@ identity-cases (serial1, Renumber g1 x) plan s l g xs h = split_on (same_tag g1 
         subst (λ i. In (Whose i ∷ []) (changes ((serial1, Renumber g1 x), noted (Renumber g1 x) plan))) o (later_of first_of),
         subst (λ i. In (Whose i ∷ []) (changes ((serial1, Renumber g1 x), noted (Renumber g1 x) plan))) (sym a) (later_of (later_of first_of)),
       ))
-identity-cases (serial0, SetVar g0 t0 p0 v0 k0 x0) plan s l g xs h = inl (order-reverse (serial0, SetVar g0 t0 p0 v0 k0 x0) (noted (SetVar g0 t0 p0 v0 k0 x0) plan).own g xs refl l (s.telegrams g xs h) (s.agree g xs h))
-identity-cases (serial0, SetHead g0 t0 v0 x0) plan s l g xs h = inl (order-reverse (serial0, SetHead g0 t0 v0 x0) (noted (SetHead g0 t0 v0 x0) plan).own g xs refl l (s.telegrams g xs h) (s.agree g xs h))
-identity-cases (s0, InsertPacket g0 t0 b0 x0) plan s l g xs h = inl (order-reverse (s0, InsertPacket g0 t0 b0 x0) (noted (InsertPacket g0 t0 b0 x0) plan).own g xs refl l (s.telegrams g xs h) (s.agree g xs h))
-identity-cases (serial0, DeletePacket g0 t0 p0) plan s l g xs h = inl (order-reverse (serial0, DeletePacket g0 t0 p0) (noted (DeletePacket g0 t0 p0) plan).own g xs refl l (s.telegrams g xs h) (s.agree g xs h))
-identity-cases (serial0, MovePacket g0 t0 p0 b0) plan s l g xs h = inl (order-reverse (serial0, MovePacket g0 t0 p0 b0) (noted (MovePacket g0 t0 p0 b0) plan).own g xs refl l (s.telegrams g xs h) (s.agree g xs h))
-identity-cases (s0, AddGroup b0 bs0) plan s l g xs h = inl (order-reverse (s0, AddGroup b0 bs0) (noted (AddGroup b0 bs0) plan).own g xs refl l (s.telegrams g xs h) (s.agree g xs h))
-identity-cases (serial0, DropGroup g0) plan s l g xs h = inl (order-reverse (serial0, DropGroup g0) (noted (DropGroup g0) plan).own g xs refl l (s.telegrams g xs h) (s.agree g xs h))
-identity-cases (serial0, TurnGroup g0) plan s l g xs h = inl (order-reverse (serial0, TurnGroup g0) (noted (TurnGroup g0) plan).own g xs refl l (s.telegrams g xs h) (s.agree g xs h))
+identity-cases e plan s l g xs h = inl (order-reverse e (noted e.1 plan).own g xs refl l (s.telegrams g xs h) (s.agree g xs h))
 
 pub clash : (f : Item) → (m : Note) → (i : Id) → Clear (f, m) (Whose i ∷ []) → In (Whose i ∷ []) (changes (f, m)) → ⊥
 clash f m i k h = both_ways (same_id i i) (drop1 (same_id i i) (k (Whose i ∷ []) h)) (id_test.itself i)

@@ -150,12 +150,7 @@ packet-same (serial, TurnGroup g1) m g t c p z h d n =
     (λ key u. let r = turned-other serial g g1 m d in
     let l : calls c key.1 z.fields m.own ≡ false = found (find same_key (NidBg, key.1) z.fields) (λ e. simp e) (λ v e. simp e (n (identity (country_at c key.1 z.fields) v) (named-among c key.1 v z.fields z.fields e))) in
     split_on (is_of QLinkorientation key) (λ e. simp (e, l)) (λ e. split_on (is_of QDir key) (λ q. simp (e, q, r)) (λ q. simp (e, q)))))
-packet-same (serial, SetHead g1 t1 v1 x1) m g t c p z h d n = packet-id z
-packet-same (s1, InsertPacket g1 t1 a1 x1) m g t c p z h d n = packet-id z
-packet-same (serial, DeletePacket g1 t1 p1) m g t c p z h d n = packet-id z
-packet-same (serial, MovePacket g1 t1 p1 a1) m g t c p z h d n = packet-id z
-packet-same (s1, AddGroup a1 bs1) m g t c p z h d n = packet-id z
-packet-same (serial, DropGroup g1) m g t c p z h d n = packet-id z
+packet-same e m g t c p z h d n = packet-id z
 
 head_false : (a b c : Bool) → (a && (b && (c && true))) ≡ false → ((c && true) && (a && b)) ≡ false
 head_false true true true h = h

@@ -1,7 +1,7 @@
 -- An edit of one telegram on the plan, before and after any edit.
 -- Proves that a group that an edit spares is found again, changed as it says; and that an edit of one telegram is accepted and notes the same, forward and back.
 -- From its reading in the telegram.
-use Rattle.std.proofs.Common.{◌≡◌, ℕ, true, false, ◌&&◌, eqb, [], ◌∷◌, Option, Some, None, refl, sym, ap, subst, ◌∙◌}
+use Rattle.std.proofs.Common.{◌≡◌, ℕ, true, false, ◌&&◌, eqb, [], ◌∷◌, Option, Some, refl, sym, ap, subst, ◌∙◌, ◌↔◌}
 use Rattle.std.proofs.lemmas.Bool.{and_parts, false≢true}
 use Rattle.std.specs.Option.{option_map, option_and_then}
 use Rattle.balise_rules.specs.declared.tag.Tag.{Tag}
@@ -22,6 +22,7 @@ use Rattle.balise_rules.proofs.Cases.{found, some_is, map_itself}
 use Rattle.balise_rules.proofs.Each.{each-id, each-same}
 use Rattle.balise_rules.proofs.Reversed.{find-reverse}
 use Rattle.balise_rules.proofs.Found.{place_is}
+use Rattle.balise_rules.proofs.Accepted.{accepted_here, accepted_at}
 use Rattle.balise_strike_laws.proofs.Cases.{drop1}
 use Rattle.balise_strike_laws.proofs.Neighbours.{Accepts, noted_change, takes, takes_out}
 use Rattle.balise_strike_laws.proofs.Levels.{each-order}
@@ -40,13 +41,7 @@ GroupSpared f g = Unit {0}
 pub spared-from : (f : Item) → (m : Note) → (g : Tag) → (a : Part) → (r : Path) → Clear (f, m) (At g ∷ a ∷ r) → GroupSpared f g
 spared-from (s, AddGroup b bs) m g a r k = flip_no tag_test (Fresh s) g (drop1 (same_tag (Fresh s) g) (k (At (Fresh s) ∷ []) first_of))
 spared-from (serial1, DropGroup g1) m g a r k = flip_no tag_test g1 g (drop1 (same_tag g1 g) (k (At g1 ∷ []) first_of))
-spared-from (serial1, SetVar g1 t p v k1 x) m g a r k = tt
-spared-from (serial1, SetHead g1 t v x) m g a r k = tt
-spared-from (s, InsertPacket g1 t b x) m g a r k = tt
-spared-from (serial1, DeletePacket g1 t p) m g a r k = tt
-spared-from (serial1, MovePacket g1 t p b) m g a r k = tt
-spared-from (serial1, Renumber g1 x) m g a r k = tt
-spared-from (serial1, TurnGroup g1) m g a r k = tt
+spared-from e m g a r k = tt
 
 pub telegram-id : (y : Telegram) →
     ◌≡◌ {A = Telegram} (record { head = each (λ key v. v) y.head; packets = each (λ p z. record { fields = each (λ key v. v) z.fields; rest = z.rest }) y.packets; padding = y.padding }) y
@@ -72,47 +67,26 @@ pub telegram-done : (f : Item) → (j : Id) → (g : Tag) → (t : ℕ) → (pla
 telegram-done f j g t plan s n = ap (λ o. option_and_then (find eqb t) o) (find-group f j g plan n)
     ∙ found (find same_tag g plan) (λ e. simp e) (λ xs e. simp e (find-telegram f j g t xs (s.telegrams g xs e)))
 
--- an edit of one telegram, by its telegram
-pub asks-at : (e : Edit) → Local e → (plan : Plan) → Asks e plan → (y : Telegram) × (telegram_at (home e).0 (home e).1 plan ≡ Some y) × AcceptedIn e y
-asks-at e h plan a = at_some (telegram_at (home e).0 (home e).1 plan) (asked e h a) where
-  at_some : (o : Option Telegram) → AcceptedAt e o → (y : Telegram) × (o ≡ Some y) × AcceptedIn e y
-  at_some None k = absurd k
-  at_some (Some y) k = (y, refl, k)
+-- an edit of one telegram asks what it asks of its telegram
+asks_its : (e : Edit) → Local e → (plan : Plan) → Asks e plan ↔ AcceptedAt e (telegram_at (home e).0 (home e).1 plan)
+asks_its (AddGroup b bs) h plan = absurd h
+asks_its (DropGroup g) h plan = absurd h
+asks_its (Renumber g x) h plan = absurd h
+asks_its (TurnGroup g) h plan = absurd h
+asks_its e h plan = (λ a. a, λ a. a)
 
-  asked : (e : Edit) → Local e → Asks e plan → AcceptedAt e (telegram_at (home e).0 (home e).1 plan)
-  asked (SetVar g t p v k x) h a = a
-  asked (SetHead g t v x) h a = a
-  asked (InsertPacket g t b x) h a = a
-  asked (DeletePacket g t p) h a = a
-  asked (MovePacket g t p b) h a = a
-  asked (AddGroup b bs) h a = absurd h
-  asked (DropGroup g) h a = absurd h
-  asked (Renumber g x) h a = absurd h
-  asked (TurnGroup g) h a = absurd h
+pub asks-at : (e : Edit) → Local e → (plan : Plan) → Asks e plan → (y : Telegram) × (telegram_at (home e).0 (home e).1 plan ≡ Some y) × AcceptedIn e y
+asks-at e h plan a = accepted_here e (telegram_at (home e).0 (home e).1 plan) ((asks_its e h plan).0 a)
 
 pub at-asks : (e : Edit) → Local e → (plan : Plan) → (y : Telegram) → telegram_at (home e).0 (home e).1 plan ≡ Some y → AcceptedIn e y → Asks e plan
-at-asks e h plan y q a = asked e h (subst (AcceptedAt e) (sym q) a) where
-  asked : (e : Edit) → Local e → AcceptedAt e (telegram_at (home e).0 (home e).1 plan) → Asks e plan
-  asked (SetVar g t p v k x) h a = a
-  asked (SetHead g t v x) h a = a
-  asked (InsertPacket g t b x) h a = a
-  asked (DeletePacket g t p) h a = a
-  asked (MovePacket g t p b) h a = a
-  asked (AddGroup b bs) h a = absurd h
-  asked (DropGroup g) h a = absurd h
-  asked (Renumber g x) h a = absurd h
-  asked (TurnGroup g) h a = absurd h
+at-asks e h plan y q a = (asks_its e h plan).1 (accepted_at e (telegram_at (home e).0 (home e).1 plan) y q a)
 
 pub noted-at : (e : Edit) → Local e → (plan : Plan) → (y : Telegram) → telegram_at (home e).0 (home e).1 plan ≡ Some y → noted e plan ≡ note_in e y
-noted-at (SetVar g t p v k x) h plan y q = ap (note_at (SetVar g t p v k x)) q
-noted-at (SetHead g t v x) h plan y q = ap (note_at (SetHead g t v x)) q
-noted-at (InsertPacket g t b x) h plan y q = ap (note_at (InsertPacket g t b x)) q
-noted-at (DeletePacket g t p) h plan y q = ap (note_at (DeletePacket g t p)) q
-noted-at (MovePacket g t p b) h plan y q = ap (note_at (MovePacket g t p b)) q
 noted-at (AddGroup b bs) h plan y q = absurd h
 noted-at (DropGroup g) h plan y q = absurd h
 noted-at (Renumber g x) h plan y q = absurd h
 noted-at (TurnGroup g) h plan y q = absurd h
+noted-at e h plan y q = ap (note_at e) q
 
 -- an accepted edit's change of a telegram's packets is accepted there
 pub accepts-there : (f : Item) → (j : Id) → (g : Tag) → (t : ℕ) → (c : ℕ) → (plan : Plan) → Asks f.1 plan → (y : Telegram) → telegram_at g t plan ≡ Some y →
@@ -158,10 +132,7 @@ own-takes (serial, MovePacket g t p a) h n b k = let gs = tag_test.itself g in l
 own-takes (serial, SetVar g t p v i x) h n b k = refl
 own-takes (serial, SetHead g t v x) h n b k = refl
 own-takes (s0, InsertPacket g t a x) h n b k = refl
-own-takes (s0, AddGroup a bs) h n b k = absurd h
-own-takes (serial, DropGroup g) h n b k = absurd h
-own-takes (serial, Renumber g x) h n b k = absurd h
-own-takes (serial, TurnGroup g) h n b k = absurd h
+own-takes e h n b k = absurd h
 
 -- what a reader noted
 pub own-noted : (e : Item) → Local e.1 → (y : Telegram) → takes_out (own_change e) ≡ true →
@@ -171,10 +142,7 @@ own-noted (serial, MovePacket g t p a) h y o = later_of (later_of first_of)
 own-noted (serial, SetVar g t p v i x) h y o = absurd (false≢true o)
 own-noted (serial, SetHead g t v x) h y o = absurd (false≢true o)
 own-noted (s0, InsertPacket g t a x) h y o = absurd (false≢true o)
-own-noted (s0, AddGroup a bs) h y o = absurd h
-own-noted (serial, DropGroup g) h y o = absurd h
-own-noted (serial, Renumber g x) h y o = absurd h
-own-noted (serial, TurnGroup g) h y o = absurd h
+own-noted e h y o = absurd h
 
 pub home-spared : (e : Item) → Local e.1 → (n : Note) → (f : Item) → (m : Note) → Reads (e, n) (f, m) → GroupSpared f (home e.1).0
 home-spared (serial, SetVar g t p v k x) h n f m r = spared-from f m g (Nth t) (At p ∷ Of v ∷ Nth k ∷ []) (r (At g ∷ Nth t ∷ At p ∷ Of v ∷ Nth k ∷ []) first_of)
@@ -182,10 +150,7 @@ home-spared (serial, SetHead g t v x) h n f m r = spared-from f m g (Nth t) (Hea
 home-spared (s, InsertPacket g t a x) h n f m r = spared-from f m g (Nth t) (At (Fresh s) ∷ []) (r (At g ∷ Nth t ∷ At (Fresh s) ∷ []) first_of)
 home-spared (serial, DeletePacket g t p) h n f m r = spared-from f m g (Nth t) (At p ∷ []) (r (At g ∷ Nth t ∷ At p ∷ []) first_of)
 home-spared (serial, MovePacket g t p a) h n f m r = spared-from f m g (Nth t) (At p ∷ Front ∷ []) (r (At g ∷ Nth t ∷ At p ∷ Front ∷ []) first_of)
-home-spared (s0, AddGroup a bs) h n f m r = absurd h
-home-spared (serial, DropGroup g) h n f m r = absurd h
-home-spared (serial, Renumber g x) h n f m r = absurd h
-home-spared (serial, TurnGroup g) h n f m r = absurd h
+home-spared e h n f m r = absurd h
 
 pub real-own : (f : Item) → (plan : Plan) → Facts plan → RealOwn (f, noted f.1 plan)
 real-own (serial, Renumber g x) plan s = found (find same_tag g plan) (λ e. simp e) (λ xs e. simp e (s.numbers g xs e))

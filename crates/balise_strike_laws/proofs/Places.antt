@@ -1,7 +1,7 @@
 -- Places: what independence says of the places that two entries change and need.
 -- Proves that independence reads the same from both sides: no place that one reads meets a place that the other changes.
 -- From the symmetry of 'meet', and that its tests of lists hold of each pair.
-use Rattle.std.proofs.Common.{◌≡◌, ℕ, Bool, true, false, ◌&&◌, not, List, [], ◌∷◌, ◌++◌, Option, Some, None, refl, sym, ap, ◌∙◌}
+use Rattle.std.proofs.Common.{◌≡◌, ℕ, true, false, ◌&&◌, not, List, [], ◌∷◌, ◌++◌, Option, Some, None, refl, ap, ◌∙◌}
 use Rattle.std.proofs.lemmas.Bool.{and_parts, not-true, or_parts, true≢false}
 use Rattle.balise_rules.specs.declared.tag.Tag.{Tag}
 use Rattle.balise_rules.specs.declared.identity.Id.{Id}
@@ -9,7 +9,7 @@ use Rattle.balise_rules.specs.declared.variable.Var.{Var}
 use Rattle.balise_rules.specs.Tagged.{same_spot}
 use Rattle.balise_rules.specs.Tags.{same_tag}
 use Rattle.balise_rules.specs.Paths.{Part, At, Nth, Of, Start, End, After, Front, Turn, Name, Head, Whose, Path, same_part, meet, meets_any, any_meets, anchor, neighbour, ids, Entry, changes, needs, room_apart, apart}
-use Rattle.balise_rules.proofs.Tests.{IsTest, split_on, flip_yes, flip_no, tag_test, nat_test, var_test, id_test}
+use Rattle.balise_rules.proofs.Tests.{split_on, tag_test, nat_test, var_test, id_test, test-sym}
 use Rattle.balise_strike_laws.proofs.Cases.{drop1}
 
 pub data In {A : Type 0} (x : A) : List A → Type 0 where
@@ -44,10 +44,6 @@ pub any_meets-false : {p q : Path} {ps qs : List Path} → any_meets ps qs ≡ f
 any_meets-false {p} {q} {ps = []} {qs} h i j = elim i [ ]
 any_meets-false {p} {ps = p' ∷ ps} {qs = qs} h (first_of) j = meets_any-false p (or_parts (meets_any p qs) (any_meets ps qs) h).0 j
 any_meets-false {ps = y ∷ ps} {qs = qs} h (later_of i) j = any_meets-false (or_parts (meets_any y qs) (any_meets ps qs) h).1 i j
-
--- 'meet' is symmetric
-test-sym : {K : Type 0} {same : K → K → Bool} → IsTest same → (a b : K) → same a b ≡ same b a
-test-sym {same = same} t a b = split_on (same a b) (λ e. e ∙ sym (flip_yes t a b e)) (λ e. e ∙ sym (flip_no t a b e))
 
 part-sym : (a b : Part) → same_part a b ≡ same_part b a
 part-sym (At a) (At b) = test-sym tag_test a b

@@ -62,9 +62,7 @@ leaves (serial, MovePacket g t p a) h n f m c r = (
   clear-free f m m.own g t c a (r (At g ∷ Nth t ∷ anchor a ∷ After ∷ []) (later_of (later_of (later_of first_of)))),
 )
 leaves (s, AddGroup a bs) h n f m c r = absurd h
-leaves (serial, DropGroup g) h n f m c r = absurd h
-leaves (serial, Renumber g x) h n f m c r = absurd h
-leaves (serial, TurnGroup g) h n f m c r = absurd h
+leaves e h n f m c r = absurd h
 
 -- names that a deletion or an insertion reads
 pub read-names-delete : (serial : ℕ) → (g : Tag) → (t : ℕ) → (p : Tag) → (n : Note) → (f : Item) → (m : Note) → Reads ((serial, DeletePacket g t p), n) (f, m) →
@@ -139,9 +137,7 @@ module _ (f : Item) (m : Note) (l : Lawful f.1) (own : RealOwn (f, m)) where
         ap (λ b. record nothing { before = b }) (noted-forward (Move p b) (packets_change f m.own g t (country_of y)) y.packets lv),
       )
   forward-in (s0, AddGroup b bs) h le y a r s u w room = absurd h
-  forward-in (serial, DropGroup g) h le y a r s u w room = absurd h
-  forward-in (serial, Renumber g x) h le y a r s u w room = absurd h
-  forward-in (serial, TurnGroup g) h le y a r s u w room = absurd h
+  forward-in e h le y a r s u w room = absurd h
 
   -- back: from after f to before it
   pub back-in : (e : Item) → Local e.1 → Lawful e.1 → (y : Telegram) → AcceptedIn e.1 (now (home e.1).0 (home e.1).1 y) →
@@ -194,6 +190,4 @@ module _ (f : Item) (m : Note) (l : Lawful f.1) (own : RealOwn (f, m)) where
         ap (λ b. record nothing { before = b }) (sym (noted-back (packets_change f m.own g t (country_of y)) (Move p b) y.packets u lv w)),
       )
   back-in (s0, AddGroup b bs) h le y a r s u w room = absurd h
-  back-in (serial, DropGroup g) h le y a r s u w room = absurd h
-  back-in (serial, Renumber g x) h le y a r s u w room = absurd h
-  back-in (serial, TurnGroup g) h le y a r s u w room = absurd h
+  back-in e h le y a r s u w room = absurd h

@@ -52,64 +52,39 @@ ListKind (MovePacket g t p a) = Unit {0}
 ListKind e = ⊥
 
 pub by-kind : {P : Type 0} → (e : Item) → Inner e.1 → (FieldKind e.1 → P) → (ListKind e.1 → P) → P
-by-kind (serial, SetVar g t p v k x) h a b = a tt
-by-kind (serial, SetHead g t v x) h a b = a tt
 by-kind (s, InsertPacket g t c x) h a b = b tt
 by-kind (serial, DeletePacket g t p) h a b = b tt
 by-kind (serial, MovePacket g t p c) h a b = b tt
 by-kind (s, AddGroup c bs) h a b = absurd h
 by-kind (serial, DropGroup g) h a b = absurd h
-by-kind (serial, Renumber g x) h a b = a tt
-by-kind (serial, TurnGroup g) h a b = a tt
+by-kind e h a b = a tt
 
 field-change : (e : Item) → FieldKind e.1 → (i : Id) → (g : Tag) → (t : ℕ) → (c : ℕ) → packets_change e i g t c ≡ Each (packet_after e.1 i g t c)
 field-change (serial0, SetVar g0 t0 p v k x) h i g t c = refl
 field-change (serial0, SetHead g0 t0 v x) h i g t c = refl
 field-change (serial0, Renumber g0 x) h i g t c = refl
 field-change (serial0, TurnGroup g0) h i g t c = refl
-field-change (s, InsertPacket g0 t0 b x) h i g t c = absurd h
-field-change (serial0, DeletePacket g0 t0 p) h i g t c = absurd h
-field-change (serial0, MovePacket g0 t0 p b) h i g t c = absurd h
-field-change (s, AddGroup b bs) h i g t c = absurd h
-field-change (serial0, DropGroup g0) h i g t c = absurd h
+field-change e h i g t c = absurd h
 
 list-change : (e : Item) → ListKind e.1 → (i : Id) → (g : Tag) → (t : ℕ) → (c : ℕ) →
     packets_change e i g t c ≡ cond (same_tag (home e.1).0 g && eqb (home e.1).1 t) (own_change e) keep
 list-change (s, InsertPacket g0 t0 b x) h i g t c = refl
 list-change (serial0, DeletePacket g0 t0 p) h i g t c = refl
 list-change (serial0, MovePacket g0 t0 p b) h i g t c = refl
-list-change (serial0, SetVar g0 t0 p v k x) h i g t c = absurd h
-list-change (serial0, SetHead g0 t0 v x) h i g t c = absurd h
-list-change (serial0, Renumber g0 x) h i g t c = absurd h
-list-change (serial0, TurnGroup g0) h i g t c = absurd h
-list-change (s, AddGroup b bs) h i g t c = absurd h
-list-change (serial0, DropGroup g0) h i g t c = absurd h
+list-change e h i g t c = absurd h
 
 list-local : (e : Item) → ListKind e.1 → Local e.1 × OfList (own_change e)
 list-local (s, InsertPacket g0 t0 b x) h = (tt, tt)
 list-local (serial0, DeletePacket g0 t0 p) h = (tt, tt)
 list-local (serial0, MovePacket g0 t0 p b) h = (tt, tt)
-list-local (serial0, SetVar g0 t0 p v k x) h = absurd h
-list-local (serial0, SetHead g0 t0 v x) h = absurd h
-list-local (serial0, Renumber g0 x) h = absurd h
-list-local (serial0, TurnGroup g0) h = absurd h
-list-local (s, AddGroup b bs) h = absurd h
-list-local (serial0, DropGroup g0) h = absurd h
+list-local e h = absurd h
 
 pub head-apart : (e : Item) → (n : Note) → (f : Item) → (m : Note) → Reads (e, n) (f, m) → Reads (f, m) (e, n) → HeadApart e.1 f.1
 head-apart (serial0, SetHead g0 t0 v0 x) n (serial1, SetHead g1 t1 v1 y) m r1 r2 = (r1 (At g0 ∷ Nth t0 ∷ Head ∷ Of v0 ∷ []) first_of (At g1 ∷ Nth t1 ∷ Head ∷ Of v1 ∷ []) first_of)
 head-apart (serial0, SetHead g0 t0 v0 x) n (serial1, TurnGroup g1) m r1 r2 = λ e. turned-other serial1 g0 g1 m (r1 (At g0 ∷ Turn ∷ []) (later_of (simp e first_of)))
 head-apart (serial1, TurnGroup g1) n (serial0, SetHead g0 t0 v0 x) m r1 r2 = λ e. turned-other serial1 g0 g1 n (r2 (At g0 ∷ Turn ∷ []) (later_of (simp e first_of)))
 head-apart (serial0, Renumber g0 x) n (serial1, Renumber g1 y) m r1 r2 = drop1 (same_tag g1 g0) (r1 (At g0 ∷ Name ∷ []) first_of (At g1 ∷ Name ∷ []) first_of)
-head-apart (serial0, SetVar g0 t0 p0 v0 k0 x0) n f m r1 r2 = tt
-head-apart (s0, InsertPacket g0 t0 b0 x0) n f m r1 r2 = tt
-head-apart (serial0, DeletePacket g0 t0 p0) n f m r1 r2 = tt
-head-apart (serial0, MovePacket g0 t0 p0 b0) n f m r1 r2 = tt
-head-apart (s0, AddGroup b0 bs0) n f m r1 r2 = tt
-head-apart (serial0, DropGroup g0) n f m r1 r2 = tt
-head-apart (serial0, SetHead g0 t0 v0 x0) n f m r1 r2 = tt
-head-apart (serial0, Renumber g0 x0) n f m r1 r2 = tt
-head-apart (serial0, TurnGroup g0) n f m r1 r2 = tt
+head-apart e n f m r1 r2 = tt
 
 -- what a setting noted, where it sets
 pub set-noted : (g0 : Tag) → (t0 : ℕ) → (p0 : Tag) → (v : Var) → (k x : ℕ) → (plan : Plan) → (g : Tag) → (t : ℕ) → (p : Tag) → (y : Telegram) → (z : Packet) →
@@ -205,12 +180,7 @@ module _ (plan : Plan) (s : Facts plan) (g : Tag) (t : ℕ) (y : Telegram) (q : 
   each-list e (s1, InsertPacket g1 t1 a x) h r b = let k = insert-same s1 g1 t1 a x e r b in (k, k)
   each-list e (serial1, DeletePacket g1 t1 p) h r b = (tt, tt)
   each-list e (serial1, MovePacket g1 t1 p a) h r b = (tt, tt)
-  each-list e (serial0, SetVar g0 t0 p v k x) h r b = absurd h
-  each-list e (serial0, SetHead g0 t0 v x) h r b = absurd h
-  each-list e (serial0, Renumber g0 x) h r b = absurd h
-  each-list e (serial0, TurnGroup g0) h r b = absurd h
-  each-list e (s1, AddGroup b1 bs) h r b = absurd h
-  each-list e (serial0, DropGroup g0) h r b = absurd h
+  each-list e f h r b = absurd h
 
   here-leaves : (e f : Item) → (he : ListKind e.1) → (hf : ListKind f.1) → (n m : Note) → Reads (e, n) (f, m) → (same_tag (home e.1).0 g && eqb (home e.1).1 t) ≡ true →
       (same_tag (home f.1).0 g && eqb (home f.1).1 t) ≡ true → Leaves (own_change f) (own_change e) n.before

@@ -64,12 +64,7 @@ pub width-kept : (f : Item) → (j : Id) → (g : Tag) → (t : ℕ) → (c : �
 width-kept (s0, InsertPacket g1 t1 b x) j g t c = here-width (same_tag g1 g && eqb t1 t) (Put b (Fresh s0, x)) tt
 width-kept (serial1, DeletePacket g1 t1 p) j g t c = here-width (same_tag g1 g && eqb t1 t) (Take p) tt
 width-kept (serial1, MovePacket g1 t1 p a) j g t c = here-width (same_tag g1 g && eqb t1 t) (Move p a) tt
-width-kept (serial1, SetVar g1 t1 p v k x) j g t c = width_kept (SetVar g1 t1 p v k x) j g t c
-width-kept (serial1, SetHead g1 t1 v x) j g t c = width_kept (SetHead g1 t1 v x) j g t c
-width-kept (s0, AddGroup a bs) j g t c = width_kept (AddGroup a bs) j g t c
-width-kept (serial1, DropGroup g1) j g t c = width_kept (DropGroup g1) j g t c
-width-kept (serial1, Renumber g1 x) j g t c = width_kept (Renumber g1 x) j g t c
-width-kept (serial1, TurnGroup g1) j g t c = width_kept (TurnGroup g1) j g t c
+width-kept e j g t c = width_kept e.1 j g t c
 
 other_place : (g g1 : Tag) → (t t1 : ℕ) → (same_tag g g1 && eqb t t1) ≡ false → (same_tag g1 g && eqb t1 t) ≡ false
 other_place g g1 t t1 h = split_on (same_tag g g1)
@@ -85,45 +80,11 @@ no-take s0 g t b x (serial1, MovePacket g1 t1 p a) h j c = split_on (same_tag g1
 no-take s0 g t b x f h j c = refl
 
 pub room-sym : (e f : Edit) → room_apart e f ≡ true → room_apart f e ≡ true
-room-sym (SetVar g0 t0 p0 v0 k0 x0) (InsertPacket g1 t1 b1 x1) h = refl
-room-sym (SetVar g0 t0 p0 v0 k0 x0) (DeletePacket g1 t1 p1) h = refl
-room-sym (SetVar g0 t0 p0 v0 k0 x0) f h = refl
-room-sym (SetHead g0 t0 v0 x0) (InsertPacket g1 t1 b1 x1) h = refl
-room-sym (SetHead g0 t0 v0 x0) (DeletePacket g1 t1 p1) h = refl
-room-sym (SetHead g0 t0 v0 x0) f h = refl
-room-sym (InsertPacket g0 t0 b0 x0) (SetVar g1 t1 p1 v1 k1 x1) h = refl
-room-sym (InsertPacket g0 t0 b0 x0) (SetHead g1 t1 v1 x1) h = refl
-room-sym (InsertPacket g0 t0 b0 x0) (InsertPacket g1 t1 b1 x1) h = refl
 room-sym (InsertPacket g0 t0 b0 x0) (DeletePacket g1 t1 p1) h = h
-room-sym (InsertPacket g0 t0 b0 x0) (MovePacket g1 t1 p1 b1) h = refl
-room-sym (InsertPacket g0 t0 b0 x0) (AddGroup b1 bs1) h = refl
-room-sym (InsertPacket g0 t0 b0 x0) (DropGroup g1) h = refl
-room-sym (InsertPacket g0 t0 b0 x0) (Renumber g1 x1) h = refl
-room-sym (InsertPacket g0 t0 b0 x0) (TurnGroup g1) h = refl
-room-sym (DeletePacket g0 t0 p0) (SetVar g1 t1 p1 v1 k1 x1) h = refl
-room-sym (DeletePacket g0 t0 p0) (SetHead g1 t1 v1 x1) h = refl
 room-sym (DeletePacket g0 t0 p0) (InsertPacket g1 t1 b1 x1) h = h
-room-sym (DeletePacket g0 t0 p0) (DeletePacket g1 t1 p1) h = refl
-room-sym (DeletePacket g0 t0 p0) (MovePacket g1 t1 p1 b1) h = refl
-room-sym (DeletePacket g0 t0 p0) (AddGroup b1 bs1) h = refl
-room-sym (DeletePacket g0 t0 p0) (DropGroup g1) h = refl
-room-sym (DeletePacket g0 t0 p0) (Renumber g1 x1) h = refl
-room-sym (DeletePacket g0 t0 p0) (TurnGroup g1) h = refl
-room-sym (MovePacket g0 t0 p0 b0) (InsertPacket g1 t1 b1 x1) h = refl
-room-sym (MovePacket g0 t0 p0 b0) (DeletePacket g1 t1 p1) h = refl
-room-sym (MovePacket g0 t0 p0 b0) f h = refl
-room-sym (AddGroup b0 bs0) (InsertPacket g1 t1 b1 x1) h = refl
-room-sym (AddGroup b0 bs0) (DeletePacket g1 t1 p1) h = refl
-room-sym (AddGroup b0 bs0) f h = refl
-room-sym (DropGroup g0) (InsertPacket g1 t1 b1 x1) h = refl
-room-sym (DropGroup g0) (DeletePacket g1 t1 p1) h = refl
-room-sym (DropGroup g0) f h = refl
-room-sym (Renumber g0 x0) (InsertPacket g1 t1 b1 x1) h = refl
-room-sym (Renumber g0 x0) (DeletePacket g1 t1 p1) h = refl
-room-sym (Renumber g0 x0) f h = refl
-room-sym (TurnGroup g0) (InsertPacket g1 t1 b1 x1) h = refl
-room-sym (TurnGroup g0) (DeletePacket g1 t1 p1) h = refl
-room-sym (TurnGroup g0) f h = refl
+room-sym e (InsertPacket g1 t1 b1 x1) h = refl
+room-sym e (DeletePacket g1 t1 p1) h = refl
+room-sym e f h = refl
 
 -- what the packets of a telegram take after an edit that takes none out
 used-there : (f : Item) → (j : Id) → (g : Tag) → (t : ℕ) → (plan : Plan) → Facts plan → Asks f.1 plan → (y : Telegram) → telegram_at g t plan ≡ Some y →
@@ -137,14 +98,11 @@ pub room-back : (e : Item) → Local e.1 → (f : Item) → room_apart e.1 f.1 �
 room-back (s0, InsertPacket g t b x) h f n plan s a j y q k =
     let r = used-there f j g t plan s a y q (no-take s0 g t b x f n j (country_of y)) in
     let l = k.1 in omega arith
-room-back (serial, SetVar g t p v i x) h f n plan s a j y q k = tt
-room-back (serial, SetHead g t v x) h f n plan s a j y q k = tt
-room-back (serial, DeletePacket g t p) h f n plan s a j y q k = tt
-room-back (serial, MovePacket g t p b) h f n plan s a j y q k = tt
 room-back (s0, AddGroup b bs) h f n plan s a j y q k = absurd h
 room-back (serial, DropGroup g) h f n plan s a j y q k = absurd h
 room-back (serial, Renumber g x) h f n plan s a j y q k = absurd h
 room-back (serial, TurnGroup g) h f n plan s a j y q k = absurd h
+room-back e h f n plan s a j y q k = tt
 
 no_more : (b : Bool) → (x : Change Tag Packet) → more x ≡ 0 → more (cond b x keep) ≡ 0
 no_more true x h = h
@@ -175,11 +133,8 @@ room-forward (s0, InsertPacket g t b x) h (serial1, MovePacket g1 t1 p1 a1) n pl
     let m = no_more (same_tag g1 g && eqb t1 t) (Move p1 a1) refl in let l = k.1 in omega arith
 room-forward (s0, InsertPacket g t b x) h f n plan s ae a i j fits y q k =
     let r = used-each (packet_after f.1 j g t (country_of y)) (width_kept f.1 j g t (country_of y)) y.packets in let l = k.1 in omega arith
-room-forward (serial0, SetVar g t p v i0 x) h f n plan s ae a i j fits y q k = tt
-room-forward (serial, SetHead g t v x) h f n plan s ae a i j fits y q k = tt
-room-forward (serial, DeletePacket g t p) h f n plan s ae a i j fits y q k = tt
-room-forward (serial, MovePacket g t p b) h f n plan s ae a i j fits y q k = tt
 room-forward (s0, AddGroup b bs) h f n plan s ae a i j fits y q k = absurd h
 room-forward (serial, DropGroup g) h f n plan s ae a i j fits y q k = absurd h
 room-forward (serial, Renumber g x) h f n plan s ae a i j fits y q k = absurd h
 room-forward (serial, TurnGroup g) h f n plan s ae a i j fits y q k = absurd h
+room-forward e h f n plan s ae a i j fits y q k = tt

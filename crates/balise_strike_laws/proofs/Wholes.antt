@@ -49,12 +49,9 @@ head-still : (f : Edit) → Inner f → (g : Tag) → (t : ℕ) → (hs : Fields
 head-still (SetHead g1 t1 v1 x1) i g t hs n = each-same (head_after (SetHead g1 t1 v1 x1) g t hs) hs (λ key v. split_on (same_key (v1, 0) key) (λ e. simp (e, n)) (λ e. simp e))
 head-still (Renumber g1 x1) i g t hs n = each-same (head_after (Renumber g1 x1) g t hs) hs (λ key v. split_on (is_of NidBg key) (λ e. simp (e, n)) (λ e. simp e))
 head-still (TurnGroup g1) i g t hs n = each-same (head_after (TurnGroup g1) g t hs) hs (λ key v. split_on (is_of MDup key) (λ e. split_on (is_of NPig key) (λ d. simp (e, d, n)) (λ d. simp (e, d, n))) (λ e. split_on (is_of NPig key) (λ d. simp (e, d, n)) (λ d. simp (e, d))))
-head-still (SetVar g1 t1 p1 v1 k1 x1) i g t hs n = each-id hs
-head-still (InsertPacket g1 t1 a1 x1) i g t hs n = each-id hs
-head-still (DeletePacket g1 t1 p1) i g t hs n = each-id hs
-head-still (MovePacket g1 t1 p1 a1) i g t hs n = each-id hs
 head-still (AddGroup a1 bs1) i g t hs n = absurd i
 head-still (DropGroup g1) i g t hs n = absurd i
+head-still e i g t hs n = each-id hs
 
 -- elsewhere each edit works field by field
 packets-each : (f : Item) → Inner f.1 → (j : Id) → (g : Tag) → (t : ℕ) → (c : ℕ) → (ps : List (Tag × Packet)) → same_tag (home f.1).0 g ≡ false →
@@ -62,12 +59,7 @@ packets-each : (f : Item) → Inner f.1 → (j : Id) → (g : Tag) → (t : ℕ)
 packets-each (s1, InsertPacket g1 t1 a1 x1) i j g t c ps n = simp n (each-id ps ∙ sym (each-same (packet_after (InsertPacket g1 t1 a1 x1) j g t c) ps (λ p z. packet-id z)))
 packets-each (serial1, DeletePacket g1 t1 p1) i j g t c ps n = simp n (each-id ps ∙ sym (each-same (packet_after (DeletePacket g1 t1 p1) j g t c) ps (λ p z. packet-id z)))
 packets-each (serial1, MovePacket g1 t1 p1 a1) i j g t c ps n = simp n (each-id ps ∙ sym (each-same (packet_after (MovePacket g1 t1 p1 a1) j g t c) ps (λ p z. packet-id z)))
-packets-each (serial1, SetVar g1 t1 p1 v1 k1 x1) i j g t c ps n = refl
-packets-each (serial1, SetHead g1 t1 v1 x1) i j g t c ps n = refl
-packets-each (serial1, Renumber g1 x1) i j g t c ps n = refl
-packets-each (serial1, TurnGroup g1) i j g t c ps n = refl
-packets-each (s1, AddGroup a1 bs1) i j g t c ps n = refl
-packets-each (serial1, DropGroup g1) i j g t c ps n = refl
+packets-each e i j g t c ps n = refl
 
 order-still : (f : Edit) → (g : Tag) → (xs : Group) → Inner f → same_tag (home f).0 g ≡ false → in_order f g xs ≡ xs
 order-still (TurnGroup g1) g xs i n = simp n

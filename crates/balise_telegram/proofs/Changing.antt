@@ -12,16 +12,17 @@ use Rattle.balise_rules.specs.Edits.{exchanged}
 use Rattle.balise_rules.proofs.Tests.{split_on, tag_test}
 use Rattle.balise_rules.proofs.Distincts.{distinct-each}
 use Rattle.balise_rules.proofs.Used.{used-each}
+use Rattle.balise_rules.proofs.Each.{each-absent}
 use Rattle.balise_layout.specs.Setting.{turned, flipped, renamed}
 use Rattle.balise_layout.proofs.Setting.{width-with_field}
 use Rattle.balise_telegram.specs.Reading.{IsHeld}
 use Rattle.balise_telegram.specs.Setting.{with_changed}
 use Rattle.balise_telegram.proofs.Settings.{telegram}
-use Rattle.balise_telegram.proofs.Tagging.{Packets, is_tagged, StandsAt, with_packet, not_found, set_each, each_absent}
+use Rattle.balise_telegram.proofs.Tagging.{Packets, is_tagged, StandsAt, with_packet, not_found, set_each}
 
 -- a packet that isn't there isn't changed
 pub unchanged : (tag : Tag) (f : Packet → Packet) (y : Telegram) → None ≡ position (is_tagged tag) y.packets → y ≡ with_changed tag f y
-unchanged tag f y e = ap (λ (l : Packets). telegram y.head l y.padding) (sym (each_absent tag f y.packets (not_found tag y.packets e)))
+unchanged tag f y e = ap (λ (l : Packets). telegram y.head l y.padding) (sym (each-absent same_tag tag f y.packets (not_found tag y.packets e)))
 
 in_place : (tag : Tag) (f : Packet → Packet) (ps : Packets) (padding : List Bool) (i : ℕ) (x : Tag × Packet) (new : Packet) → IsHeld ps padding → StandsAt tag ps i x → new ≡ f x.1 → slice_set ps i (x.0, new) ≡ each (with_packet tag f) ps
 in_place tag f ps padding i x new h s e = ap (λ (p : Packet). slice_set ps i (x.0, p)) e ∙ set_each tag f ps i x h.tags s

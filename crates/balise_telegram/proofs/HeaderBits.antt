@@ -1,6 +1,6 @@
 -- A header's bits are its fields' bits in order; and its fields are read where their bits stand.
 -- From reading by a form, one variable after another.
-use Rattle.std.proofs.Common.{◌≡◌, ◌∙◌, ℕ, ◌+◌, ◌-◌, ◌<◌, ◌≤◌, ◌^◌, Bool, false, ltb, List, [], ◌∷◌, ◌++◌, length, take, drop, Some, Result, OnOk, refl, ap, subst, append_assoc, arith}
+use Rattle.std.proofs.Common.{◌≡◌, ◌∙◌, ℕ, ◌+◌, ◌-◌, ◌≤◌, Bool, false, ltb, List, [], ◌∷◌, ◌++◌, length, take, drop, Some, Result, OnOk, refl, ap, append_assoc, arith}
 use Rattle.std.proofs.lemmas.Bool.{le-ltb}
 use Rattle.std.proofs.lemmas.List.{append-nil, drop-drop, length-drop, length-take, take-take, drop-take}
 use Rattle.balise_rules.specs.declared.variable.Var.{Var}
@@ -9,7 +9,7 @@ use Rattle.balise_rules.specs.Variables.{width_of}
 use Rattle.balise_rules.specs.Bits.{num, bits, part}
 use Rattle.balise_rules.specs.Forms.{Form, done, plain, Fields, count_of, spelling, read_form}
 use Rattle.balise_rules.specs.Telegram.{header, read_header, fields_or_none}
-use Rattle.balise_rules.proofs.Numbers.{num_below}
+use Rattle.balise_bits.proofs.Pieces.{num-part_below}
 use Rattle.balise_telegram.specs.HeaderFields.{fields_of, AreFitting}
 
 pub written : (old : List Bool) (a b c d e f g h i j : ℕ) →
@@ -20,12 +20,6 @@ written old a b c d e f g h i j = simp (append_assoc, append-nil)
 pub on_ok : {A E : Type 0} (r : Result A E) (P Q : Type 0) → (P → Q) → OnOk r P → OnOk r Q
 on_ok (Rattle.std.specs.Prelude.Ok x) P Q f p = f p
 on_ok (Rattle.std.specs.Prelude.Err e) P Q f p = p
-
--- the number of some bits that stand there is below the power of their width
-pub below : (b : List Bool) (at w : ℕ) → at + w ≤ length b → num (part at w b) < 2 ^ w
-below b at w h =
-    let size : length (part at w b) ≡ w = omega (arith, length-take w (drop at b), length-drop at b) in
-    subst (λ (k : ℕ). num (part at w b) < 2 ^ k) size (num_below (part at w b))
 
 -- one variable read from the bits behind a place
 one : (v : Var) (rest : Form) (seen : Fields) (b : List Bool) (at left : ℕ) → at + left ≤ length b → width_of v ≤ left →
@@ -163,4 +157,4 @@ unfolding read_header
 header_is b h = ap fields_or_none (read_all b h ∙ read_done (seen10 b) (part 50 0 b))
 
 pub fitting : (b : List Bool) → 50 ≤ length b → AreFitting (num (part 0 1 b)) (num (part 1 7 b)) (num (part 8 1 b)) (num (part 9 3 b)) (num (part 12 3 b)) (num (part 15 2 b)) (num (part 17 8 b)) (num (part 25 10 b)) (num (part 35 14 b)) (num (part 49 1 b))
-fitting b h = record { q_updown_fits = below b 0 1 (omega arith); m_version_fits = below b 1 7 (omega arith); q_media_fits = below b 8 1 (omega arith); n_pig_fits = below b 9 3 (omega arith); n_total_fits = below b 12 3 (omega arith); m_dup_fits = below b 15 2 (omega arith); m_mcount_fits = below b 17 8 (omega arith); nid_c_fits = below b 25 10 (omega arith); nid_bg_fits = below b 35 14 (omega arith); q_link_fits = below b 49 1 (omega arith) }
+fitting b h = record { q_updown_fits = num-part_below b 0 1 (omega arith); m_version_fits = num-part_below b 1 7 (omega arith); q_media_fits = num-part_below b 8 1 (omega arith); n_pig_fits = num-part_below b 9 3 (omega arith); n_total_fits = num-part_below b 12 3 (omega arith); m_dup_fits = num-part_below b 15 2 (omega arith); m_mcount_fits = num-part_below b 17 8 (omega arith); nid_c_fits = num-part_below b 25 10 (omega arith); nid_bg_fits = num-part_below b 35 14 (omega arith); q_link_fits = num-part_below b 49 1 (omega arith) }

@@ -12,6 +12,7 @@ use Rattle.balise_rules.specs.Telegram.{read_packets}
 use Rattle.balise_rules.proofs.TelegramRead.{packets_found}
 use Rattle.balise_rules.proofs.Tests.{split_on, tag_test}
 use Rattle.balise_rules.proofs.TaggedFrom.{tagged_distinct}
+use Rattle.balise_rules.proofs.Each.{each-absent}
 
 abbrev pub Packets : Type 0
 Packets = List (Tag × Packet)
@@ -56,20 +57,13 @@ found tag [] i x s = absurd (omega (arith, s.within))
 found tag (y ∷ ys) zero x s = let e = s.tagged in let is : y ≡ x = sym s.is in simp e (ap (λ (q : Tag × Packet). Some q.1) is)
 found tag (y ∷ ys) (suc i) x s = let e : same_tag tag y.0 ≡ false = s.first zero (omega arith) in simp e (found tag ys i x (stands_behind tag y ys i x s))
 
-pub each_absent : (tag : Tag) (f : Packet → Packet) (ps : Packets) → find same_tag tag ps ≡ None → each (with_packet tag f) ps ≡ ps
-each_absent tag f [] e = refl
-each_absent tag f (y ∷ ys) e =
-    split_on (same_tag tag y.0)
-    (λ d. absurd (let k = simp d at e in cc))
-    (λ d. let k : find same_tag tag ys ≡ None = simp d at e in simp d (ap (λ l. y ∷ l) (each_absent tag f ys k)))
-
 -- the packet set at its place is the packet set under its tag
 pub set_each : (tag : Tag) (f : Packet → Packet) (ps : Packets) (i : ℕ) (x : Tag × Packet) → Distinct same_tag ps → StandsAt tag ps i x → slice_set ps i (x.0, f x.1) ≡ each (with_packet tag f) ps
 set_each tag f [] i x u s = absurd (omega (arith, s.within))
 set_each tag f (y ∷ ys) zero x u s =
     let e = s.tagged in
     let gone : find same_tag tag ys ≡ None = ap (λ (t : Tag). find same_tag t ys) (tag_test.one tag y.0 e) ∙ u.0 in
-    simp e (ap (λ (q : Tag × Packet). (q.0, f q.1) ∷ ys) s.is ∙ ap (λ l. (y.0, f y.1) ∷ l) (sym (each_absent tag f ys gone)))
+    simp e (ap (λ (q : Tag × Packet). (q.0, f q.1) ∷ ys) s.is ∙ ap (λ l. (y.0, f y.1) ∷ l) (sym (each-absent same_tag tag f ys gone)))
 set_each tag f (y ∷ ys) (suc i) x u s =
     let e : same_tag tag y.0 ≡ false = s.first zero (omega arith) in
     simp e (ap (λ l. y ∷ l) (set_each tag f ys i x u.1 (stands_behind tag y ys i x s)))

@@ -1,7 +1,7 @@
 //! Telegrams in digits, one on each line, read as bits and printed again.
 
 use anyhow::{Result, bail};
-use balise_bits::Bits;
+use balise_telegram::Bits;
 use std::alloc::Global;
 use std::io;
 use std::io::{BufRead, BufReader, BufWriter, Write};

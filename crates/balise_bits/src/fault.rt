@@ -35,6 +35,14 @@ impl BitsFault {
     }
 }
 
+impl From<BitsFault> for Refusal {
+    ghost from_gives = { λ fault e. e ≡ refusal_of fault };
+
+    fn from(fault: BitsFault) -> Refusal {
+        fault.refusal()
+    }
+}
+
 impl From<AllocError> for BitsFault {
     ghost use Rattle.balise_bits.specs.declared.fault.BitsFault.TheVariants.{OutOfMemory};
 

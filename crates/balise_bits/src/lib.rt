@@ -9,5 +9,6 @@ mod fault;
 mod tests;
 mod window;
 
+pub use balise_rules::Refusal;
 pub use bits::Bits;
 pub use fault::BitsFault;

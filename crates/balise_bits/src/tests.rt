@@ -1,7 +1,8 @@
 //! Each public call once, on telegrams of 210 and 830 bits.
 
-use crate::{Bits, BitsFault};
-use balise_rules::Refusal;
+mod large;
+
+use crate::{Bits, BitsFault, Refusal};
 use std::alloc::Global;
 use std::process::Abort;
 use std::test::Fail;
@@ -54,6 +55,7 @@ fn wrong_texts_are_refused(rt: HostRuntime) {
     check_refused(&rt, rt.alloc(), bad, BitsFault::BadHex);
     check_refused(&rt, rt.alloc(), odd, BitsFault::BadHex);
     assert_eq!(rt; BitsFault::SpareBits.refusal(), Refusal::SpareBits);
+    assert_eq!(rt; Refusal::from(BitsFault::BadHex), Refusal::BadHex);
 }
 
 #[test]

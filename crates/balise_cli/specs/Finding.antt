@@ -14,10 +14,10 @@ use Rattle.balise_cli.specs.declared.edit.Edit.TheVariants.{SetVar, SetHead}
 
 -- the tags of a telegram and of a packet at their addresses
 abbrev pub telegram_tags : Id → ℕ → Plan → Result (Tag × ℕ) Refusal
-telegram_tags i pig plan = and_then (find_telegram i pig plan) (λ t. Ok (t.0, t.1))
+telegram_tags i pig plan = and_then (find_telegram i pig plan) (λ t. Ok (t.group, t.place))
 
 abbrev pub packet_tags : Id → ℕ → ℕ → Plan → Result (Tag × ℕ × Tag) Refusal
-packet_tags i pig pkt plan = and_then (find_packet i pig pkt plan) (λ p. Ok (p.0, p.1, p.2))
+packet_tags i pig pkt plan = and_then (find_packet i pig pkt plan) (λ p. Ok (p.group, p.place, p.tag))
 
 -- what an edit sets in its telegram: why it doesn't, the old value, and the telegram with the new one
 abbrev pub fault_in : Edit → Telegram → Option Refusal

@@ -7,7 +7,7 @@ ghost use Rattle.balise_cli.specs.Held.{asked, edit_of};
 
 use crate::edit::Edit;
 use crate::plan::Plan;
-use balise_rules::{Id, Refusal, Var};
+use balise_telegram::{Id, Refusal, Var};
 
 /// An edit, by identity and place: group, N_PIG, place of the packet, variable, occurrence and value, or of a
 /// header's variable without packet and occurrence.

@@ -20,7 +20,7 @@ use crate::request::{Request, read_request};
 use crate::session::Session;
 use crate::status::Status;
 use balise_lines::Counted;
-use balise_rules::Refusal;
+use balise_telegram::Refusal;
 use std::alloc::Global;
 use std::io::Write;
 
@@ -120,7 +120,6 @@ impl Machine {
     /// Writes what the input's end gives.
     pub(crate) fn finish<W: Write>(
         self,
-        alloc: Global,
         number: u64,
         writer: &mut Counted<W>,
     ) -> Result<Status, RunFault>
@@ -131,7 +130,7 @@ impl Machine {
     {
         match self {
             Machine::Commands(session, refused) => {
-                if let Err(fault) = put_plan(alloc, writer, session.plan()) {
+                if let Err(fault) = put_plan(writer, session.plan()) {
                     return Err(fault);
                 }
                 Ok(Status::of_commands(refused))

@@ -3,7 +3,8 @@
 ghost use Rattle.std.specs.Prelude.{◌≡◌};
 ghost use Rattle.balise_cli.specs.Held.{setting, telegram_tags_of};
 
-use balise_rules::{Tag, Var};
+use balise_rules::Tag;
+use balise_telegram::Var;
 
 /// An edit by the tags of its group, telegram and packet, with variable, occurrence and value, or of a header's
 /// variable without packet and occurrence.

@@ -4,7 +4,7 @@ ghost use Rattle.std.specs.Prelude.{◌≡◌};
 ghost use Rattle.balise_cli.specs.Faults.{refusal_of};
 
 use balise_lines::WriteFault;
-use balise_rules::Refusal;
+use balise_telegram::Refusal;
 use thiserror::Error;
 
 /// Why a run doesn't come to its end.

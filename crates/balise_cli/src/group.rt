@@ -5,9 +5,7 @@ ghost use Rattle.balise_cli.specs.Held.{WasRead, group_of};
 ghost use Rattle.balise_cli.specs.PlanLines.{telegram_of, with_telegram};
 ghost use Rattle.balise_rules.specs.Telegram.{read_telegram};
 
-use balise_bits::Bits;
-use balise_rules::Refusal;
-use balise_telegram::Telegram;
+use balise_telegram::{Bits, Refusal, Telegram};
 use std::alloc::Global;
 use std::marker::Model;
 
@@ -35,14 +33,8 @@ fn read_line(alloc: Global, line: &[u8]) -> Result<Telegram, Refusal>
     ensures fault { IfErr result (λ e. e ≢ Refusal.OutOfMemory → telegram_of line.now ≡ Err e) }
 {
     let due = if line.len() == 208 { 830 } else { 210 };
-    let bits = match Bits::from_hex_bytes(alloc, line, due) {
-        Ok(bits) => bits,
-        Err(fault) => return Err(fault.refusal()),
-    };
-    match Telegram::read(alloc, &bits) {
-        Ok(telegram) => Ok(telegram),
-        Err(fault) => Err(fault.refusal()),
-    }
+    let bits = Bits::from_hex_bytes(alloc, line, due)?;
+    Ok(Telegram::read(alloc, &bits)?)
 }
 
 impl Group {
@@ -62,13 +54,8 @@ impl Group {
         if self.telegram.is_some() {
             return Err(Refusal::GroupSize);
         }
-        match read_line(alloc, line) {
-            Ok(telegram) => {
-                self.telegram = Some(telegram);
-                Ok(())
-            }
-            Err(refusal) => Err(refusal),
-        }
+        self.telegram = Some(read_line(alloc, line)?);
+        Ok(())
     }
 
     /// The telegram, where there is one.

@@ -21,7 +21,7 @@ mod status;
 mod words;
 
 pub use balise_lines::Counted;
-pub use balise_rules::Refusal;
+pub use balise_telegram::Refusal;
 pub use fault::RunFault;
 pub use flags::Flags;
 pub use running::run;

@@ -11,7 +11,7 @@ use crate::kind::{Kind, read_kind};
 use crate::plan::Plan;
 use crate::session::Session;
 use crate::status::Status;
-use balise_rules::Refusal;
+use balise_telegram::Refusal;
 use std::alloc::Global;
 
 /// Where a run stands between two lines: before the plan's first line; between groups; in a group, with the number

@@ -11,8 +11,8 @@ ghost use Rattle.balise_cli.specs.PlanLines.{with_read};
 
 use crate::edit::Edit;
 use crate::group::Group;
-use balise_rules::{Id, Refusal, Tag, Var};
-use balise_telegram::Telegram;
+use balise_rules::Tag;
+use balise_telegram::{Id, Refusal, Telegram, Var};
 use std::marker::Model;
 
 /// The number that no group has.
@@ -140,12 +140,9 @@ fn identity(telegram: &Telegram) -> Id
 fn set(telegram: &mut Telegram, edit: Edit) -> Result<u32, Refusal>
     ensures { Sets edit telegram.old result telegram.new }
 {
-    let done = match edit {
-        Edit::SetVar(_, _, packet, var, k, value) => telegram.set_field(packet, var, k, value),
-        Edit::SetHead(_, _, var, value) => telegram.set_head(var, value),
+    let old = match edit {
+        Edit::SetVar(_, _, packet, var, k, value) => telegram.set_field(packet, var, k, value)?,
+        Edit::SetHead(_, _, var, value) => telegram.set_head(var, value)?,
     };
-    match done {
-        Ok(old) => Ok(old),
-        Err(fault) => Err(fault.refusal()),
-    }
+    Ok(old)
 }

@@ -10,15 +10,10 @@ use crate::fault::RunFault;
 use crate::plan::Plan;
 use crate::replies::put_texts;
 use balise_lines::{Counted, put};
-use std::alloc::Global;
 use std::io::Write;
 
 /// Writes the plan.
-pub(crate) fn put_plan<W: Write>(
-    alloc: Global,
-    writer: &mut Counted<W>,
-    plan: &Plan,
-) -> Result<(), RunFault>
+pub(crate) fn put_plan<W: Write>(writer: &mut Counted<W>, plan: &Plan) -> Result<(), RunFault>
     ensures ok { OnOk result (Appends (W.contents writer.old.inner) (W.contents writer.new.inner) (plan_text plan.now)) }
     ensures unfailed { OnOk result (writer.new.failed ≡ writer.old.failed) }
     ensures cause { IfErr result (IsCause writer.old.failed writer.new.failed) }
@@ -30,7 +25,7 @@ pub(crate) fn put_plan<W: Write>(
     let Some(telegram) = plan.telegram() else {
         return Ok(());
     };
-    let Ok(bits) = telegram.shown(alloc) else {
+    let Ok(bits) = telegram.shown() else {
         return Err(RunFault::OutOfMemory);
     };
     let Ok(digits) = bits.to_hex() else {

@@ -9,7 +9,7 @@ ghost use Rattle.balise_cli.specs.Answers.{reply_of};
 
 use crate::reply::Reply;
 use balise_lines::{Counted, WriteFault, put};
-use balise_rules::Refusal;
+use balise_telegram::Refusal;
 use itoa::Buffer;
 use std::io::Write;
 

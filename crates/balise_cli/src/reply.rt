@@ -4,7 +4,7 @@ ghost use Rattle.std.specs.Prelude.{◌≡◌};
 ghost use Rattle.balise_cli.specs.Answers.{reply_of};
 ghost use Rattle.balise_cli.specs.Output.{is_refused};
 
-use balise_rules::Refusal;
+use balise_telegram::Refusal;
 
 /// What a command is answered: the serial of the edit that was done or taken back, or why none was.
 #[derive(Clone, Copy, Debug, PartialEq, Eq)]

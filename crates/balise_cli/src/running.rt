@@ -36,7 +36,7 @@ pub fn run<R: Read, W: Write>(
         match lines.next(reader) {
             Err(LineFault::TooLong) => return Err(RunFault::InputTooLong),
             Err(LineFault::Read) => return Err(RunFault::ReadFault),
-            Ok(Next::End) => return machine.finish(alloc, number, writer),
+            Ok(Next::End) => return machine.finish(number, writer),
             Ok(Next::Line { is_ended: _ }) => {
                 machine = match machine.step(alloc, number, lines.line(), writer) {
                     Err(fault) => return Err(fault),

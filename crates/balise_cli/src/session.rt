@@ -8,7 +8,7 @@ ghost use Rattle.balise_cli.specs.Sessions.{edit_reply, undo_reply};
 use crate::command::Command;
 use crate::edit::Entry;
 use crate::plan::Plan;
-use balise_rules::Refusal;
+use balise_telegram::Refusal;
 use std::alloc::Global;
 use std::marker::Model;
 
@@ -60,9 +60,7 @@ impl Session {
         }
         let edit = command.edit(&self.plan)?;
         // The room first, so that want of memory leaves the plan as it was.
-        if self.entries.reserve(1).is_err() {
-            return Err(Refusal::OutOfMemory);
-        }
+        self.entries.reserve(1)?;
         let old = self.plan.apply(edit)?;
         let serial = self.serial;
         self.entries.truncate(self.standing);

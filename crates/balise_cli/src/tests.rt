@@ -8,7 +8,7 @@ use crate::reply::Reply;
 use crate::request::{Request, read_request};
 use crate::status::Status;
 use balise_lines::Counted;
-use balise_rules::{Id, Refusal, Var};
+use balise_telegram::{Id, Refusal, Var};
 
 #[test]
 fn reads_commands(rt: HostRuntime) {

@@ -4,7 +4,7 @@ ghost use Rattle.std.specs.Prelude.{◌≡◌, ◌==◌, ◌∷◌, ◌↔◌, [
 ghost use Rattle.balise_rules.specs.Variables.{var_named};
 ghost use Rattle.balise_cli.specs.Words.{id_of, number_of, parts_of, value_from, words_of};
 
-use balise_rules::{Id, Var};
+use balise_telegram::{Id, Var};
 
 /// Where a byte stands first.
 fn find_byte(text: &[u8], mark: u8) -> Option<usize>

@@ -22,3 +22,6 @@ pub mod PlansRead
 pub mod ReadyCommands
 pub mod Histories
 pub mod Witnesses
+pub mod DoneExactly
+pub mod ContentAside
+pub mod LinesReady

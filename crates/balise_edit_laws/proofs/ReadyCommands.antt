@@ -5,7 +5,7 @@ use Rattle.std.proofs.Common.{◌≡◌, ℕ, zero, suc, ◌+◌, Bool, not, con
 use Rattle.balise_rules.specs.declared.refusal.Refusal.TheVariants.{PacketCut, NoSuchGroup, NoSuchTelegram, NoSuchPacket}
 use Rattle.balise_rules.specs.Refusals.{and_then}
 use Rattle.balise_rules.specs.Digits.{fill, all_zero}
-use Rattle.balise_rules.specs.Addresses.{Command, AskSet, AskSetHead, AskInsert, AskDelete, AskMove, AskAdd, AskDrop, AskRenumber, AskTurn, find_group, find_telegram, find_packet, anchor_at, packet_in, insert_at, move_to, edit_of}
+use Rattle.balise_rules.specs.Addresses.{Command, AskSet, AskSetHead, AskInsert, AskDelete, AskMove, AskAdd, AskDrop, AskRenumber, AskTurn, FoundTelegram, find_group, found_telegram, find_telegram, find_packet, anchor_at, packet_in, insert_at, move_to, edit_of}
 use Rattle.balise_rules.proofs.PacketRead.{body_found}
 use Rattle.std.specs.Prelude.{ok_or, slice_get}
 use Rattle.balise_rules.specs.declared.tag.Tag.{Tag}
@@ -79,34 +79,34 @@ word_spelt version b x h =
     subst (IsSpelt version) (unok w.then_is) (body_found version b (w.first.0, drop (length_said b) b) whole).spelt
 
 -- the telegram at an address stands under its tags
-telegram_tag : (i : Id) → (pig : ℕ) → (plan : Plan) → IsSound plan → (z : Tag × ℕ × Telegram) → find_telegram i pig plan ≡ Ok z → telegram_at z.0 z.1 plan ≡ Some z.2
+telegram_tag : (i : Id) → (pig : ℕ) → (plan : Plan) → IsSound plan → (z : FoundTelegram) → find_telegram i pig plan ≡ Ok z → telegram_at z.group z.place plan ≡ Some z.telegram
 telegram_tag i pig plan sound z h =
-    let a = in_turn (find_group i plan) (λ g. and_then (ok_or (slice_get g.1 pig) NoSuchTelegram) (λ t. Ok (g.0, t.0, t.1))) z h in
-    let b = in_turn (ok_or (slice_get a.first.1 pig) NoSuchTelegram) (λ t. Ok (a.first.0, t.0, t.1)) z a.then_is in
+    let a = in_turn (find_group i plan) (λ g. and_then (ok_or (slice_get g.1 pig) NoSuchTelegram) (λ t. Ok (found_telegram g.0 t))) z h in
+    let b = in_turn (ok_or (slice_get a.first.1 pig) NoSuchTelegram) (λ t. Ok (found_telegram a.first.0 t)) z a.then_is in
     let group = group_tag i plan sound.tags a.first (or_some (group_named i plan) NoSuchGroup a.first a.is) in
     let tags = (group_sound plan sound a.first.0 a.first.1 group).tags in
     let at = place_tag pig a.first.1 tags b.first (or_some (slice_get a.first.1 pig) NoSuchTelegram b.first b.is) in
     let all : telegram_at a.first.0 b.first.0 plan ≡ Some b.first.1 = ap (option_and_then (find eqb b.first.0)) group ∙ at in
-    subst (λ (y : Tag × ℕ × Telegram). telegram_at y.0 y.1 plan ≡ Some y.2) (unok b.then_is) all
+    subst (λ (y : FoundTelegram). telegram_at y.group y.place plan ≡ Some y.telegram) (unok b.then_is) all
 
 insert_spelt : (i : Id) → (pig at : ℕ) → (b : List Bool) → (e : Edit) → (plan : Plan) → IsSound plan → and_then (find_telegram i pig plan) (insert_at at b) ≡ Ok e → Spelt e plan
 insert_spelt i pig at b e plan sound h =
     let t = in_turn (find_telegram i pig plan) (insert_at at b) e h in
-    let a = in_turn (ok_or (anchor_at at t.first.2.packets) NoSuchPacket) (λ k. and_then (packet_in (version_of t.first.2) b) (λ x. Ok (InsertPacket t.first.0 t.first.1 k x))) e t.then_is in
-    let x = in_turn (packet_in (version_of t.first.2) b) (λ x. Ok (InsertPacket t.first.0 t.first.1 a.first x)) e a.then_is in
+    let a = in_turn (ok_or (anchor_at at t.first.telegram.packets) NoSuchPacket) (λ k. and_then (packet_in (version_of t.first.telegram) b) (λ x. Ok (InsertPacket t.first.group t.first.place k x))) e t.then_is in
+    let x = in_turn (packet_in (version_of t.first.telegram) b) (λ x. Ok (InsertPacket t.first.group t.first.place a.first x)) e a.then_is in
     let here = telegram_tag i pig plan sound t.first t.is in
-    let spelt = word_spelt (version_of t.first.2) b x.first x.is in
+    let spelt = word_spelt (version_of t.first.telegram) b x.first x.is in
     subst (λ f. Spelt f plan) (unok x.then_is)
     (λ y q. subst (λ (z : Telegram). IsSpelt (version_of z) x.first) (unsome (sym here ∙ q)) spelt)
 
 command_spelt : (c : Command) → (e : Edit) → (plan : Plan) → IsSound plan → edit_of c plan ≡ Ok e → Spelt e plan
 command_spelt (AskInsert i pig at b) e plan s h = insert_spelt i pig at b e plan s h
-command_spelt (AskSet i pig pkt v k n) e plan s h = let w = in_turn (find_packet i pig pkt plan) (λ p. Ok (SetVar p.0 p.1 p.2 v k n)) e h in subst (λ f. Spelt f plan) (unok w.then_is) tt
-command_spelt (AskSetHead i pig v n) e plan s h = let w = in_turn (find_telegram i pig plan) (λ t. Ok (SetHead t.0 t.1 v n)) e h in subst (λ f. Spelt f plan) (unok w.then_is) tt
-command_spelt (AskDelete i pig pkt) e plan s h = let w = in_turn (find_packet i pig pkt plan) (λ p. Ok (DeletePacket p.0 p.1 p.2)) e h in subst (λ f. Spelt f plan) (unok w.then_is) tt
+command_spelt (AskSet i pig pkt v k n) e plan s h = let w = in_turn (find_packet i pig pkt plan) (λ p. Ok (SetVar p.group p.place p.tag v k n)) e h in subst (λ f. Spelt f plan) (unok w.then_is) tt
+command_spelt (AskSetHead i pig v n) e plan s h = let w = in_turn (find_telegram i pig plan) (λ t. Ok (SetHead t.group t.place v n)) e h in subst (λ f. Spelt f plan) (unok w.then_is) tt
+command_spelt (AskDelete i pig pkt) e plan s h = let w = in_turn (find_packet i pig pkt plan) (λ p. Ok (DeletePacket p.group p.place p.tag)) e h in subst (λ f. Spelt f plan) (unok w.then_is) tt
 command_spelt (AskMove i pig pkt at) e plan s h =
     let w = in_turn (find_packet i pig pkt plan) (move_to at) e h in
-    let a = in_turn (ok_or (anchor_at at (without same_tag w.first.2 w.first.3.packets)) NoSuchPacket) (λ a. Ok (MovePacket w.first.0 w.first.1 w.first.2 a)) e w.then_is in
+    let a = in_turn (ok_or (anchor_at at (without same_tag w.first.tag w.first.telegram.packets)) NoSuchPacket) (λ a. Ok (MovePacket w.first.group w.first.place w.first.tag a)) e w.then_is in
     subst (λ f. Spelt f plan) (unok a.then_is) tt
 command_spelt (AskAdd at bs) e plan s h = let w = in_turn (ok_or (anchor_at at plan) NoSuchGroup) (λ a. Ok (AddGroup a bs)) e h in subst (λ f. Spelt f plan) (unok w.then_is) tt
 command_spelt (AskDrop i) e plan s h = let w = in_turn (find_group i plan) (λ g. Ok (DropGroup g.0)) e h in subst (λ f. Spelt f plan) (unok w.then_is) tt

@@ -4,4 +4,7 @@ pub mod Kept
 pub mod ReadSound
 pub mod Commands
 pub mod Along
+pub mod Done
+pub mod Content
+pub mod Lines
 pub mod Witness

@@ -4,7 +4,10 @@
 
 ghost use Rattle.balise_edit_laws.specs.Along.{KeptAlong, TakenBackAlong};
 ghost use Rattle.balise_edit_laws.specs.Commands.{CommandsReady};
+ghost use Rattle.balise_edit_laws.specs.Content.{ContentAside};
+ghost use Rattle.balise_edit_laws.specs.Done.{DoneAlong, DoneExactly};
 ghost use Rattle.balise_edit_laws.specs.Kept.{Kept, SpeltKept};
+ghost use Rattle.balise_edit_laws.specs.Lines.{LinesReady};
 ghost use Rattle.balise_edit_laws.specs.ReadSound.{ReadSound};
 ghost use Rattle.balise_edit_laws.specs.Refused.{GroupTold, NameTold, Refused};
 ghost use Rattle.balise_edit_laws.specs.TakenBack.{TakenBack};
@@ -48,6 +51,26 @@ pub fn group_told()
 /// A command that isn't refused asks for an edit that is ready: accepted, and a packet to be inserted spelt.
 pub fn commands_ready()
     ensures { CommandsReady }
+{}
+
+/// What an edit makes is answered exactly where it is accepted.
+pub fn done_exactly()
+    ensures { DoneExactly }
+{}
+
+/// Ready edits done one after another give what they make, and none is refused.
+pub fn done_along()
+    ensures { DoneAlong }
+{}
+
+/// A journal's line that fits a plan gives an edit that is ready on it, and notes what the line says.
+pub fn lines_ready()
+    ensures { LinesReady }
+{}
+
+/// The places of an entry don't look at the content that was taken out, so an entry that was taken back tests as it did.
+pub fn content_aside()
+    ensures { ContentAside }
 {}
 
 /// Edits accepted one after another on a sound plan are ready, and make a sound plan.

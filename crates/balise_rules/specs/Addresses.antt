@@ -21,39 +21,60 @@ use Rattle.balise_rules.specs.Telegram.{Telegram, version_of}
 use Rattle.balise_rules.specs.Plan.{Group, Plan, group_named}
 use Rattle.balise_rules.specs.Edits.{Edit, SetVar, SetHead, InsertPacket, DeletePacket, MovePacket, AddGroup, DropGroup, Renumber, TurnGroup}
 
--- the nine edits as they are asked for; AT is the place that is to be had
+-- The nine edits as they are asked for, by the identity of a group and places from 0: pig of a telegram, pkt of a packet in it, k of a variable's occurrence; `at` is the place that is to be had.
 pub data Command : Type 0 where
-  AskSet : Id → ℕ → ℕ → Var → ℕ → ℕ → Command
-  AskSetHead : Id → ℕ → Var → ℕ → Command
-  AskInsert : Id → ℕ → ℕ → List Bool → Command
-  AskDelete : Id → ℕ → ℕ → Command
-  AskMove : Id → ℕ → ℕ → ℕ → Command
-  AskAdd : ℕ → List (List Bool) → Command
+  AskSet : Id → (pig pkt : ℕ) → Var → (k value : ℕ) → Command
+  AskSetHead : Id → (pig : ℕ) → Var → (value : ℕ) → Command
+  AskInsert : Id → (pig at : ℕ) → List Bool → Command
+  AskDelete : Id → (pig pkt : ℕ) → Command
+  AskMove : Id → (pig pkt at : ℕ) → Command
+  AskAdd : (at : ℕ) → List (List Bool) → Command
   AskDrop : Id → Command
-  AskRenumber : Id → ℕ → Command
+  AskRenumber : Id → (number : ℕ) → Command
   AskTurn : Id → Command
+
+-- A telegram that was found, with the tags that lead to it.
+pub record FoundTelegram : Type 0 where
+  pub group : Tag
+  pub place : ℕ
+  pub telegram : Telegram
+
+-- A packet that was found, with the tags that lead to it and the telegram where it stands.
+pub record FoundPacket : Type 0 where
+  pub group : Tag
+  pub place : ℕ
+  pub telegram : Telegram
+  pub tag : Tag
+  pub packet : Packet
 
 -- What stands at an address, or the first refusal.
 abbrev pub find_group : Id → Plan → Result (Tag × Group) Refusal
 find_group i plan = ok_or (group_named i plan) NoSuchGroup
 
--- the group's tag, and the telegram with its own
-abbrev pub find_telegram : Id → ℕ → Plan → Result (Tag × ℕ × Telegram) Refusal
-find_telegram i pig plan = and_then (find_group i plan) (λ g. and_then (ok_or (slice_get g.1 pig) NoSuchTelegram) (λ t. Ok (g.0, t.0, t.1)))
+abbrev pub found_telegram : Tag → ℕ × Telegram → FoundTelegram
+found_telegram g t = record { group = g; place = t.0; telegram = t.1 }
 
--- the tags of group, telegram and packet, the telegram and the packet
-abbrev pub find_packet : Id → ℕ → ℕ → Plan → Result (Tag × ℕ × Tag × Telegram × Packet) Refusal
-find_packet i pig pkt plan = and_then (find_telegram i pig plan) (λ t. and_then (ok_or (slice_get t.2.packets pkt) NoSuchPacket) (λ p. Ok (t.0, t.1, p.0, t.2, p.1)))
+abbrev pub find_telegram : Id → ℕ → Plan → Result FoundTelegram Refusal
+find_telegram i pig plan = and_then (find_group i plan) (λ g. and_then (ok_or (slice_get g.1 pig) NoSuchTelegram) (λ t. Ok (found_telegram g.0 t)))
 
-abbrev pub resolve_field : Var → ℕ → Tag × ℕ × Tag × Telegram × Packet → Result Place Refusal
-resolve_field v k p = and_then (ok_or (field_of v k p.4.fields) NoSuchVariable) (λ n. Ok (FieldPlace p.0 p.1 p.2 v k))
+abbrev pub found_packet : FoundTelegram → Tag × Packet → FoundPacket
+found_packet t p = record { group = t.group; place = t.place; telegram = t.telegram; tag = p.0; packet = p.1 }
+
+abbrev pub find_packet : Id → ℕ → ℕ → Plan → Result FoundPacket Refusal
+find_packet i pig pkt plan = and_then (find_telegram i pig plan) (λ t. and_then (ok_or (slice_get t.telegram.packets pkt) NoSuchPacket) (λ p. Ok (found_packet t p)))
+
+abbrev pub resolve_field : Var → ℕ → FoundPacket → Result Place Refusal
+resolve_field v k p = and_then (ok_or (field_of v k p.packet.fields) NoSuchVariable) (λ n. Ok (FieldPlace p.group p.place p.tag v k))
+
+abbrev pub resolve_head : Var → FoundTelegram → Result Place Refusal
+resolve_head v t = and_then (ok_or (field_of v 0 t.telegram.head) NoSuchVariable) (λ n. Ok (HeadPlace t.group t.place v))
 
 -- the tags that stand at an address, or the first refusal
 abbrev pub resolve : Address → Plan → Result Place Refusal
 resolve (GroupAddress i) plan = and_then (find_group i plan) (λ g. Ok (GroupPlace g.0))
-resolve (TelegramAddress i pig) plan = and_then (find_telegram i pig plan) (λ t. Ok (TelegramPlace t.0 t.1))
-resolve (PacketAddress i pig pkt) plan = and_then (find_packet i pig pkt plan) (λ p. Ok (PacketPlace p.0 p.1 p.2))
-resolve (HeadAddress i pig v) plan = and_then (find_telegram i pig plan) (λ t. and_then (ok_or (field_of v 0 t.2.head) NoSuchVariable) (λ n. Ok (HeadPlace t.0 t.1 v)))
+resolve (TelegramAddress i pig) plan = and_then (find_telegram i pig plan) (λ t. Ok (TelegramPlace t.group t.place))
+resolve (PacketAddress i pig pkt) plan = and_then (find_packet i pig pkt plan) (λ p. Ok (PacketPlace p.group p.place p.tag))
+resolve (HeadAddress i pig v) plan = and_then (find_telegram i pig plan) (resolve_head v)
 resolve (FieldAddress i pig pkt v k) plan = and_then (find_packet i pig pkt plan) (resolve_field v k)
 
 -- The anchor of what shall get a place of a list, from 0 to its length: what stands directly before that place, or none for the first.
@@ -72,18 +93,18 @@ packet_in version b =
     else if not (all_zero (drop (length_said b) b)) then Err SpareBits
     else and_then (read_packet [] (read_form (packet version) [] (take (length_said b) b))) (λ p. Ok p.0)
 
-abbrev pub insert_at : ℕ → List Bool → Tag × ℕ × Telegram → Result Edit Refusal
-insert_at at b t = and_then (ok_or (anchor_at at t.2.packets) NoSuchPacket) (λ a. and_then (packet_in (version_of t.2) b) (λ x. Ok (InsertPacket t.0 t.1 a x)))
+abbrev pub insert_at : ℕ → List Bool → FoundTelegram → Result Edit Refusal
+insert_at at b t = and_then (ok_or (anchor_at at t.telegram.packets) NoSuchPacket) (λ a. and_then (packet_in (version_of t.telegram) b) (λ x. Ok (InsertPacket t.group t.place a x)))
 
-abbrev pub move_to : ℕ → Tag × ℕ × Tag × Telegram × Packet → Result Edit Refusal
-move_to at p = and_then (ok_or (anchor_at at (without same_tag p.2 p.3.packets)) NoSuchPacket) (λ a. Ok (MovePacket p.0 p.1 p.2 a))
+abbrev pub move_to : ℕ → FoundPacket → Result Edit Refusal
+move_to at p = and_then (ok_or (anchor_at at (without same_tag p.tag p.telegram.packets)) NoSuchPacket) (λ a. Ok (MovePacket p.group p.place p.tag a))
 
 -- the edit by tags that a command asks for, or the first refusal of its address and its digits
 abbrev pub edit_of : Command → Plan → Result Edit Refusal
-edit_of (AskSet i pig pkt v k n) plan = and_then (find_packet i pig pkt plan) (λ p. Ok (SetVar p.0 p.1 p.2 v k n))
-edit_of (AskSetHead i pig v n) plan = and_then (find_telegram i pig plan) (λ t. Ok (SetHead t.0 t.1 v n))
+edit_of (AskSet i pig pkt v k n) plan = and_then (find_packet i pig pkt plan) (λ p. Ok (SetVar p.group p.place p.tag v k n))
+edit_of (AskSetHead i pig v n) plan = and_then (find_telegram i pig plan) (λ t. Ok (SetHead t.group t.place v n))
 edit_of (AskInsert i pig at b) plan = and_then (find_telegram i pig plan) (insert_at at b)
-edit_of (AskDelete i pig pkt) plan = and_then (find_packet i pig pkt plan) (λ p. Ok (DeletePacket p.0 p.1 p.2))
+edit_of (AskDelete i pig pkt) plan = and_then (find_packet i pig pkt plan) (λ p. Ok (DeletePacket p.group p.place p.tag))
 edit_of (AskMove i pig pkt at) plan = and_then (find_packet i pig pkt plan) (move_to at)
 edit_of (AskAdd at bs) plan = and_then (ok_or (anchor_at at plan) NoSuchGroup) (λ a. Ok (AddGroup a bs))
 edit_of (AskDrop i) plan = and_then (find_group i plan) (λ g. Ok (DropGroup g.0))

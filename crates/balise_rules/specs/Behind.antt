@@ -1,4 +1,4 @@
--- A later edit that is anchored on what an earlier one put in: it can stand on the earlier one's own anchor instead (this project's own).
+-- When a later edit is independent of an earlier one: it is apart from it, or it is anchored on what that one put in, and can stand on that one's own anchor instead (this project's own).
 use Rattle.std.specs.Prelude.{ℕ, Bool, true, false, cond, ◌&&◌, ◌||◌, not, eqb, List, [], ◌∷◌, ◌++◌, map, filter, find, Option, Some, None, is_some}
 use Rattle.balise_rules.specs.declared.tag.Tag.{Tag}
 use Rattle.balise_rules.specs.declared.tag.Tag.TheVariants.{Fresh}
@@ -35,7 +35,7 @@ behind_path (Some p) = p ++ After ∷ []
 abbrev pub changes_but : Item → Entry → List Path
 changes_but e f = filter (λ p. not (same_path p (behind_path (put_in e)))) (changes f)
 
--- f is anchored on what e puts in, and is independent of e but for the side behind that
+-- a later f is anchored on what e puts in, and is apart from e but for the side behind that
 abbrev pub stands_behind : Entry → Entry → Bool
 stands_behind e f =
     one_path (put_in e.0) (anchored_on f.0)
@@ -59,15 +59,15 @@ anchored a e = e
 abbrev pub re_anchored : Item → Item → Item
 re_anchored e f = (f.0, anchored (anchor_of e.1) f.1)
 
--- a later edit f outlives a strike of e: it is independent of e, or stands behind it
+-- a later entry f is independent of e: it is apart from e, or stands behind it
 abbrev pub independent : Entry → Entry → Bool
 independent e f = apart e f || stands_behind e f
 
--- what a later edit becomes where e is struck: itself, where it is independent of e; with the anchor of e, where it stands behind e
+-- what a later edit becomes where e is struck: itself, where it is apart from e; with the anchor of e, where it stands behind e
 abbrev pub becomes : Entry → Entry → Option Item
 becomes e f = cond (apart e f) (Some f.0) (cond (stands_behind e f) (Some (re_anchored e.0 f.0)) None)
 
--- the serials of the entries that aren't independent of e; where all outlive a strike of it, they stand behind it
+-- the serials of the entries that aren't apart from e; where all are independent of e, these stand behind it
 abbrev pub serials_behind : Entry → List Entry → List ℕ
 serials_behind e fs = map (λ (f : Entry). f.0.0) (filter (λ (f : Entry). not (apart e f)) fs)
 

@@ -2,13 +2,14 @@
 use Rattle.std.specs.Prelude.{◌≡◌, ℕ, List, [], ◌∷◌, codes, Option, Some, None, Result, Ok, Err, option_map}
 use Rattle.balise_rules.specs.declared.variable.Var.TheVariants.{NidTsr}
 use Rattle.balise_rules.specs.declared.refusal.Refusal.{Refusal}
+use Rattle.balise_rules.specs.declared.tag.Tag.{Tag}
 use Rattle.balise_rules.specs.declared.tag.Tag.TheVariants.{Base, Fresh}
 use Rattle.balise_rules.specs.Refusals.{and_then}
-use Rattle.balise_rules.specs.Edits.{SetVar}
 use Rattle.balise_rules.specs.Session.{State, Call, Reply, opened, held, answer_all, Undo, Redo, Strike, Undone, Redone}
-use Rattle.balise_rules.specs.Opening.{Line, Plain, Inserting, Nothing, Value, lines, undone, with_entry, from_journal}
+use Rattle.balise_rules.specs.Journal.{Line, LineSetVar, LineInsertPacket, LineDeletePacket, Noted, Nothing, Value, BeforePacket, lines, undone}
+use Rattle.balise_rules.specs.Opening.{with_entry, from_journal}
 use Rattle.balise_rules.specs.Examples.{Text, plan_of, lines_of, word, alone, empty, revoking}
-use Rattle.balise_rules.specs.Rows.{insert, set_tsr, revoking_9}
+use Rattle.balise_rules.specs.Rows.{insert, delete, set_tsr, revoking_9}
 use Rattle.balise_rules.specs.StrikeRows.{two_packets}
 
 -- a journal: the next serial, the lines of edits and the serials of the stack
@@ -47,8 +48,12 @@ Continues groups j calls o = ◌≡◌ {A = Result (Result Outcome (Option ℕ))
 abbrev pub Misfits : List (List Text) → Journal → Option ℕ → Type 0
 Misfits groups j at = ◌≡◌ {A = Result (Result Outcome (Option ℕ)) Refusal} (continued groups j []) (Ok (Err at))
 
+-- NID_TSR set to 9 by this serial, noting this
+abbrev pub setting : ℕ → ℕ → Line
+setting serial old = record { serial = serial; edit = LineSetVar (Base 0) 0 (Base 0) NidTsr 0 9; noted = Value old }
+
 abbrev pub set_line : Line
-set_line = record { serial = 1; edit = Plain (SetVar (Base 0) 0 (Base 0) NidTsr 0 9); said = Value 5 }
+set_line = setting 1 5
 
 -- A setting that stands, and one that was undone; done again over the journal.
 abbrev pub SetSaid : Type 0
@@ -58,10 +63,15 @@ SetSaid =
     × Continues (alone revoking) (2, set_line ∷ [], 1 ∷ []) (Redo ∷ []) (Redone 1 ∷ [], alone revoking_9, (2, set_line ∷ [], []))
     × Continues (alone revoking) (2, set_line ∷ [], []) (Undo ∷ []) (Undone 1 ∷ [], alone revoking, (2, set_line ∷ [], 1 ∷ []))
 
+-- these digits inserted after an anchor
+abbrev pub inserting : ℕ → Option Tag → Text → Line
+inserting serial a digits = record { serial = serial; edit = LineInsertPacket (Base 0) 0 a (word digits); noted = Nothing }
+
+abbrev pub first_inserted : Line
+first_inserted = inserting 1 None (codes "42403e0a")
+
 abbrev pub inserted : List Line
-inserted =
-    record { serial = 1; edit = Inserting (Base 0) 0 None (word (codes "42403e0a")); said = Nothing }
-    ∷ record { serial = 2; edit = Inserting (Base 0) 0 (Some (Fresh 1)) (word (codes "42403e0c")); said = Nothing } ∷ []
+inserted = first_inserted ∷ inserting 2 (Some (Fresh 1)) (codes "42403e0c") ∷ []
 
 -- An insertion struck under another: the journal has the anchors that they would have if it were done again.
 abbrev pub StruckSaid : Type 0
@@ -80,14 +90,45 @@ entry_after groups j l = and_then (plan_of groups) (λ plan. Ok (and_entry (from
 -- An entry follows entries, and none that was struck.
 abbrev pub EntryFollows : Type 0
 EntryFollows =
-    (entry_after (alone empty) (3, record { serial = 1; edit = Inserting (Base 0) 0 None (word (codes "42403e0a")); said = Nothing } ∷ [], []) (record { serial = 2; edit = Inserting (Base 0) 0 (Some (Fresh 1)) (word (codes "42403e0c")); said = Nothing }) ≡ Ok (Some (3, inserted, [])))
-    × (entry_after (alone empty) (3, record { serial = 1; edit = Inserting (Base 0) 0 None (word (codes "42403e0a")); said = Nothing } ∷ [], 1 ∷ []) (record { serial = 2; edit = Inserting (Base 0) 0 None (word (codes "42403e0c")); said = Nothing }) ≡ Ok None)
+    (entry_after (alone empty) (3, first_inserted ∷ [], []) (inserting 2 (Some (Fresh 1)) (codes "42403e0c")) ≡ Ok (Some (3, inserted, [])))
+    × (entry_after (alone empty) (3, first_inserted ∷ [], 1 ∷ []) (inserting 2 None (codes "42403e0c")) ≡ Ok None)
 
--- A serial that doesn't stand, an old value that isn't so, a next serial that is none.
-abbrev pub JournalsRefused : Type 0
-JournalsRefused =
-    Misfits (alone revoking) (2, set_line ∷ [], 7 ∷ []) (Some 1)
-    × Misfits (alone revoking) (2, record { serial = 1; edit = Plain (SetVar (Base 0) 0 (Base 0) NidTsr 0 9); said = Value 4 } ∷ [], []) (Some 0)
-    × Misfits (alone revoking) (1, set_line ∷ [], []) (Some 0)
-    × Misfits (alone revoking) (0, [], []) None
+-- A next serial that is none, and the largest one.
+abbrev pub NextRefused : Type 0
+NextRefused =
+    Misfits (alone revoking) (0, [], []) None
     × Misfits (alone revoking) (4000000001, [], []) None
+    × Continues (alone revoking) (4000000000, set_line ∷ [], []) (Undo ∷ []) (Undone 1 ∷ [], alone revoking, (4000000000, set_line ∷ [], 1 ∷ []))
+
+-- Serials that don't rise from at least 1, or aren't below the next one; gaps may be among them.
+abbrev pub SerialsRefused : Type 0
+SerialsRefused =
+    Misfits (alone revoking) (1, set_line ∷ [], []) (Some 0)
+    × Misfits (alone revoking) (3, setting 0 5 ∷ [], []) (Some 0)
+    × Misfits (alone revoking) (3, set_line ∷ setting 1 9 ∷ [], []) (Some 1)
+    × Misfits (alone revoking) (3, setting 2 5 ∷ setting 1 9 ∷ [], []) (Some 1)
+    × Continues (alone revoking) (9, setting 2 5 ∷ setting 7 9 ∷ [], []) (Undo ∷ []) (Undone 7 ∷ [], alone revoking_9, (9, setting 2 5 ∷ setting 7 9 ∷ [], 7 ∷ []))
+
+-- the first packet deleted by this serial, noting this neighbour
+abbrev pub deleting : ℕ → Option Tag → Line
+deleting serial b = record { serial = serial; edit = LineDeletePacket (Base 0) 0 (Base 0); noted = BeforePacket b }
+
+-- An old value or a neighbour that isn't so, a note of another kind, digits that are no packet for the telegram, a packet that doesn't stand.
+abbrev pub NotesRefused : Type 0
+NotesRefused =
+    Misfits (alone revoking) (2, setting 1 4 ∷ [], []) (Some 0)
+    × Misfits (alone revoking) (2, record set_line { noted = Nothing } ∷ [], []) (Some 0)
+    × Misfits (alone two_packets) (2, deleting 1 None ∷ [], []) (Some 0)
+    × Says (alone two_packets) (delete 0 ∷ []) (2, deleting 1 (Some (Base 1)) ∷ [], [])
+    × Misfits (alone empty) (2, inserting 1 None (codes "4240400a") ∷ [], []) (Some 0)
+    × Misfits (alone empty) (2, inserting 1 None [] ∷ [], []) (Some 0)
+    × Misfits (alone empty) (2, set_line ∷ [], []) (Some 0)
+
+-- An edit to be struck that doesn't stand, or on which a later one depends.
+abbrev pub StackRefused : Type 0
+StackRefused =
+    Misfits (alone revoking) (2, set_line ∷ [], 7 ∷ []) (Some 1)
+    × Misfits (alone revoking) (2, set_line ∷ [], 0 ∷ []) (Some 1)
+    × Misfits (alone revoking) (2, set_line ∷ [], 1 ∷ 1 ∷ []) (Some 2)
+    × Misfits (alone revoking) (3, set_line ∷ setting 2 9 ∷ [], 1 ∷ []) (Some 2)
+    × Continues (alone revoking) (3, set_line ∷ setting 2 9 ∷ [], 2 ∷ 1 ∷ []) (Redo ∷ []) (Redone 1 ∷ [], alone revoking_9, (3, set_line ∷ setting 2 9 ∷ [], 2 ∷ []))

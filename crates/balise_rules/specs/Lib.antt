@@ -26,5 +26,7 @@ pub mod GroupRows
 pub mod InfillRows
 pub mod StrikeRows
 pub mod Laws
+pub mod Journal
 pub mod Opening
 pub mod JournalRows
+pub mod AddressRows

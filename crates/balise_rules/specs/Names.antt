@@ -55,11 +55,12 @@ pub record Names (i : Id) (g : Tag) (t : ℕ) (p : Tag) (k : ℕ) (plan : Plan) 
 abbrev pub Link : Type 0
 Link = Tag × ℕ × Tag × ℕ
 
--- whether element k of a packet with these fields, in a telegram of country c, is of an identity
+-- whether a country and a number, where there is one, are an identity
 abbrev pub is_it : ℕ → Id → Option ℕ → Bool
 is_it c i None = false
 is_it c i (Some n) = same_id (record { country = c; number = n }) i
 
+-- whether element k of a packet with these fields, in a telegram of country c, is of an identity
 abbrev pub calls : ℕ → ℕ → Fields → Id → Bool
 calls c k fs i = is_it (country_at c k fs) i (field_of NidBg k fs)
 

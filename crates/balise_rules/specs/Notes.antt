@@ -74,3 +74,7 @@ noted (SetHead g t v n) plan = note_at (SetHead g t v n) (telegram_at g t plan)
 noted (InsertPacket g t a x) plan = note_at (InsertPacket g t a x) (telegram_at g t plan)
 noted (DeletePacket g t p) plan = note_at (DeletePacket g t p) (telegram_at g t plan)
 noted (MovePacket g t p a) plan = note_at (MovePacket g t p a) (telegram_at g t plan)
+
+-- A note without the content that was taken out: what is kept of it when the edit is taken back, since the content stands in the plan again.
+abbrev pub without_content : Note → Note
+without_content m = record m { packet = None; group = None }

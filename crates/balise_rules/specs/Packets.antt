@@ -37,7 +37,7 @@ section rest = plain DStatic (plain VStatic (plain QFront (counted difference re
 unfoldable pub speeds : Form → Form
 speeds rest = plain QScale (section (counted section rest))
 
--- a level; level 1 is followed by the national system
+-- a level; M_LEVELTR 1, level NTC, is followed by the national system
 unfoldable pub level : Form → Form
 level rest = valued MLeveltr (λ m. if m == 1 then plain NidNtc (plain LAckleveltr rest) else plain LAckleveltr rest)
 

@@ -1,4 +1,4 @@
--- Places, what an edit changes and needs, and when two edits are independent (this project's own).
+-- Places, what an edit changes and needs, and when two edits are apart (this project's own).
 use Rattle.std.specs.Prelude.{ℕ, Bool, true, false, cond, ◌&&◌, ◌||◌, not, eqb, List, [], ◌∷◌, ◌++◌, map, Option, Some, None}
 use Rattle.balise_rules.specs.declared.variable.Var.{Var}
 use Rattle.balise_rules.specs.declared.variable.Var.TheVariants.{NidBg, QLinkorientation, QDir, MDup}
@@ -103,6 +103,6 @@ room_apart (InsertPacket g t a x) (DeletePacket g1 t1 p) = not (same_tag g g1 &&
 room_apart (DeletePacket g1 t1 p) (InsertPacket g t a x) = not (same_tag g g1 && eqb t t1)
 room_apart e f = true
 
--- no place that one changes meets a place that the other changes or needs, and they are apart in room
+-- no place that one changes meets a place that the other changes or needs, and neither inserts where the other deletes
 abbrev pub apart : Entry → Entry → Bool
 apart e f = not (any_meets (changes e) (changes f ++ needs f)) && (not (any_meets (needs e) (changes f)) && room_apart e.0.1 f.0.1)

@@ -4,11 +4,12 @@ use Rattle.balise_rules.specs.declared.variable.Var.TheVariants.{NidBg}
 use Rattle.balise_rules.specs.declared.refusal.Refusal.{Refusal}
 use Rattle.balise_rules.specs.declared.refusal.Refusal.TheVariants.{NothingToUndo, NothingToRedo, NoSuchEdit, DependsOn, Worn, OutOfMemory}
 use Rattle.balise_rules.specs.declared.tag.Tag.TheVariants.{Fresh}
+use Rattle.balise_rules.specs.Refusals.{and_then}
 use Rattle.balise_rules.specs.Tags.{same_var}
 use Rattle.balise_rules.specs.Plan.{Plan}
 use Rattle.balise_rules.specs.Edits.{Edit, Item, SetVar, SetHead, TurnGroup}
 use Rattle.balise_rules.specs.Notes.{noted}
-use Rattle.balise_rules.specs.Doing.{refusal, done}
+use Rattle.balise_rules.specs.Doing.{refusal, done, do_edit}
 use Rattle.balise_rules.specs.Accepting.{Accepted}
 use Rattle.balise_rules.specs.Paths.{Entry}
 use Rattle.balise_rules.specs.Behind.{anchor_of, independent, serials_behind, hung}
@@ -18,6 +19,11 @@ use Rattle.balise_rules.specs.Addresses.{Command, edit_of}
 abbrev pub made : Plan → List Item → Plan
 made plan [] = plan
 made plan (e ∷ es) = made (done e plan) es
+
+-- the same edits done one after another, or the first refusal
+abbrev pub do_all : List Item → Plan → Result Plan Refusal
+do_all [] plan = Ok plan
+do_all (e ∷ es) plan = and_then (do_edit e plan) (do_all es)
 
 -- each is accepted on what those before it make
 abbrev pub AllAccepted : Plan → List Item → Type 0
@@ -115,7 +121,7 @@ abbrev pub later : ℕ → List Entry → List Entry
 later serial [] = []
 later serial (e ∷ es) = cond (eqb serial e.0.0) es (later serial es)
 
--- the serial of the first entry that is neither independent of e nor stands behind it
+-- the serial of the first entry that isn't independent of e
 abbrev pub first_dependent : Entry → List Entry → Option ℕ
 first_dependent e [] = None
 first_dependent e (f ∷ fs) = cond (independent e f) (first_dependent e fs) (Some f.0.0)

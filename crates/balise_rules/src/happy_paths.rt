@@ -1,6 +1,8 @@
 //! Each function once on its happy path, with values of the standard's tables.
 
 use crate::{Refusal, Var};
+use std::alloc::Global;
+use std::test::Fail;
 
 #[test]
 fn knows_the_variables(rt: HostRuntime) {
@@ -26,4 +28,18 @@ fn numbers_the_refusals(rt: HostRuntime) {
     assert_eq!(rt; Refusal::DependsOn(2).name(), "DependsOn");
     assert_eq!(rt; Refusal::WriteFault.number(), 32);
     assert_eq!(rt; Refusal::BadLine.name(), "BadLine");
+}
+
+/// One number in a list of its own.
+fn listed(alloc: Global, number: u32) -> Result<Vec<u32>, Refusal> {
+    let mut numbers = Vec::with_capacity(alloc, 1)?;
+    numbers.push(number)?;
+    Ok(numbers)
+}
+
+#[test]
+fn carries_want_of_memory_up(rt: HostRuntime) -> Result<(), Fail> {
+    let numbers = listed(rt.alloc(), 7)?;
+    assert_eq!(rt; numbers.len(), 1);
+    Ok(())
 }

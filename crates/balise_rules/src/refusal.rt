@@ -3,6 +3,7 @@
 ghost use Rattle.std.specs.Prelude.{◌≡◌};
 ghost use Rattle.balise_rules.specs.Refusals.{name_of, number_of};
 
+use std::alloc::{AllocError, AllocFailed};
 use thiserror::Error;
 
 /// Why something is refused, by the number and the name that are printed.
@@ -187,5 +188,25 @@ impl Refusal {
             Refusal::ReadFault => "ReadFault",
             Refusal::WriteFault => "WriteFault",
         }
+    }
+}
+
+impl From<AllocError> for Refusal {
+    ghost use Rattle.balise_rules.specs.declared.refusal.Refusal.TheVariants.{OutOfMemory};
+
+    ghost from_gives = { λ _ e. e ≡ OutOfMemory };
+
+    fn from(_e: AllocError) -> Refusal {
+        Refusal::OutOfMemory
+    }
+}
+
+impl<T: Drop> From<AllocFailed<T>> for Refusal {
+    ghost use Rattle.balise_rules.specs.declared.refusal.Refusal.TheVariants.{OutOfMemory};
+
+    ghost from_gives = { λ _ e. e ≡ OutOfMemory };
+
+    fn from(_e: AllocFailed<T>) -> Refusal {
+        Refusal::OutOfMemory
     }
 }

@@ -1,8 +1,9 @@
 //! Worked rows of the rules, which the checker computes, each a clause of a function that does nothing.
 
+ghost use Rattle.balise_rules.specs.AddressRows.{GroupsRefused, LastAccepted, LengthFirst, NothingNamed, Resolved, VersionsTold};
 ghost use Rattle.balise_rules.specs.GroupRows.{DroppedAndAdded, EditedAfterUndo, FourPackets, LinkStruck, NothingDone, PlansRefused, Refilled, RenumberRefused, Renumbered, TurnReviewed, Turned};
 ghost use Rattle.balise_rules.specs.InfillRows.{InfillCut, InfillRenumbered, InfillReviewed, InfillSet, InfillTaken};
-ghost use Rattle.balise_rules.specs.JournalRows.{EntryFollows, JournalsRefused, SetSaid, StruckSaid};
+ghost use Rattle.balise_rules.specs.JournalRows.{EntryFollows, NextRefused, NotesRefused, SerialsRefused, SetSaid, StackRefused, StruckSaid};
 ghost use Rattle.balise_rules.specs.StrikeRows.{MovedBehind, TwoAdded, TwoInserted};
 ghost use Rattle.balise_rules.specs.Rows.{DigitsRefused, Filled, InsertedAndUndone, LinkSet, OthersSet, PaddingKept, ProfileSet, SetAndUndone, SpareRefused, Unchanged};
 
@@ -44,13 +45,30 @@ pub fn infill_rows()
     ensures reviewed { InfillReviewed }
 {}
 
-/// Rows of strikes under later neighbours, and of journals.
+/// Rows of strikes under later neighbours.
 pub fn strike_rows()
     ensures two_inserted { TwoInserted }
     ensures two_added { TwoAdded }
     ensures moved_behind { MovedBehind }
+{}
+
+/// Rows of journals.
+pub fn journal_rows()
     ensures set_said { SetSaid }
     ensures struck_said { StruckSaid }
     ensures entry_follows { EntryFollows }
-    ensures journals_refused { JournalsRefused }
+    ensures next_refused { NextRefused }
+    ensures serials_refused { SerialsRefused }
+    ensures notes_refused { NotesRefused }
+    ensures stack_refused { StackRefused }
+{}
+
+/// Rows of addresses, of the order of refusals and of the last command.
+pub fn address_rows()
+    ensures resolved { Resolved }
+    ensures groups_refused { GroupsRefused }
+    ensures versions_told { VersionsTold }
+    ensures length_first { LengthFirst }
+    ensures nothing_named { NothingNamed }
+    ensures last_accepted { LastAccepted }
 {}

@@ -1,7 +1,7 @@
 -- A journal is read as the session that it was made of.
 -- Proves that each line of an entry fits where its edit stood, and that the strikes leave the stack as it was.
 -- From reading again what is spelt, and from what the stack keeps.
-use Rattle.std.proofs.Common.{◌≡◌, ◌<◌, ◌+◌, ℕ, zero, suc, true, false, cond, ◌&&◌, eqb, ltb, nat_lt, nat_le, List, [], ◌∷◌, ◌++◌, length, map, take, drop, reverse, Option, Some, None, Result, Ok, Err, refl, sym, ap, ◌∙◌, arith, length-append}
+use Rattle.std.proofs.Common.{◌≡◌, ◌<◌, ◌+◌, ℕ, zero, suc, true, false, cond, ◌&&◌, eqb, ltb, nat_lt, nat_le, List, [], ◌∷◌, ◌++◌, length, map, take, drop, reverse, Option, Some, None, Result, Ok, Err, refl, sym, ap, subst, ◌∙◌, arith, length-append, append_assoc}
 use Rattle.std.specs.Prelude.{is_none, option_and_then}
 use Rattle.std.proofs.lemmas.Bool.{le-ltb, lt-ltb, le-leb, and_from, eq-eqb}
 use Rattle.std.proofs.lemmas.List.{take_at, drop_at, length-replicate, reverse-append}
@@ -19,8 +19,9 @@ use Rattle.balise_rules.specs.Doing.{refusal, done}
 use Rattle.balise_rules.specs.Accepting.{Accepted, AcceptedAt, Spelt}
 use Rattle.balise_rules.specs.Behind.{anchor_of, hung}
 use Rattle.balise_rules.specs.Addresses.{packet_in}
-use Rattle.balise_rules.specs.Session.{State, Removed, Struck, Strike, entries, later, others, put_back, taken_out, answer_in_time, answer_strike, answer_dependent}
-use Rattle.balise_rules.specs.Opening.{Said, Nothing, Value, Number, BeforePacket, BeforeGroup, same_said, said_of, Inserting, line_of, edit_in, if_fits, item_of, items_of, then_items, and_items, inserting, or_nothing, all_back, lines, undone, uncounted, with_undone, with_all_undone, or_place, and_undone, opened_with, from_entries, most_serial}
+use Rattle.balise_rules.specs.Session.{State, Removed, Struck, Strike, made, entries, later, others, put_back, taken_out, answer_in_time, answer_strike, answer_dependent}
+use Rattle.balise_rules.specs.Journal.{Noted, Nothing, Value, Number, BeforePacket, BeforeGroup, noted_of, same_noted, LineInsertPacket, whole_bytes, line_edit, line_of, all_back, lines, undone}
+use Rattle.balise_rules.specs.Opening.{or_nothing, packet_for, inserting, edit_in, if_fits, item_of, most_serial, opened_at, last_serial, with_item, uncounted, with_undone, or_place, with_entries, with_all_undone, and_undone, from_entries}
 use Rattle.balise_rules.proofs.Tests.{spot_itself, tag_test, nat_test}
 use Rattle.balise_rules.proofs.Spelt.{read_again}
 use Rattle.balise_rules.proofs.PacketRead.{said_is, said_within}
@@ -28,8 +29,11 @@ use Rattle.balise_rules.proofs.PacketAgain.{front_of}
 use Rattle.balise_edit_laws.proofs.Refusing.{refused_exactly}
 use Rattle.balise_strike_laws.specs.Striking.{Standing}
 use Rattle.balise_strike_laws.specs.Redoing.{WasStruck, Redoable, Answer}
-use Rattle.balise_strike_laws.specs.Journals.{Between, JournalKept}
-use Rattle.balise_strike_laws.proofs.Strikes.{standing-after}
+use Rattle.balise_strike_laws.specs.InSession.{Between}
+use Rattle.balise_strike_laws.specs.Journals.{JournalKept}
+use Rattle.balise_strike_laws.proofs.Strikes.{standing-after, made-append}
+use Rattle.balise_strike_laws.proofs.SessionStrikes.{no-more}
+use Rattle.balise_strike_laws.proofs.TakenOut.{strike_after}
 
 -- ---- the lines
 
@@ -61,7 +65,7 @@ packet-again version x s =
     let read : read_form (packet version) [] (take (length_said (b ++ z)) (b ++ z)) ≡ Some (x.fields, x.rest) = ap (read_form (packet version) []) own ∙ read_again (packet version) [] x.fields x.rest s.form s.numbered in
     rw (c0, n0, n1, c1, c2, c3, whole, spare, read) refl
 
-same_itself : (m : Said) → same_said m m ≡ true
+same_itself : (m : Noted) → same_noted m m ≡ true
 same_itself Nothing = refl
 same_itself (Value n) = nat_test.itself n
 same_itself (Number n) = nat_test.itself n
@@ -74,91 +78,69 @@ asked_stands e None a k = absurd a
 asked_stands e (Some y) a k = k y refl
 
 inserted : (g : Tag) → (t : ℕ) → (a : Option Tag) → (x : Packet) → (plan : Plan) → Accepted (InsertPacket g t a x) plan → Spelt (InsertPacket g t a x) plan →
-    edit_in (Inserting g t a (bits_of x ++ zeros (fill (width x)))) plan ≡ Some (InsertPacket g t a x)
+    edit_in (LineInsertPacket g t a (whole_bytes x)) plan ≡ Some (InsertPacket g t a x)
 inserted g t a x plan acc sp = asked_stands (InsertPacket g t a x) (telegram_at g t plan) acc.1
-    (λ y h. ap (λ o. inserting g t a (option_and_then (λ (u : Telegram). or_nothing (packet_in (version_of u) (bits_of x ++ zeros (fill (width x))))) o)) h
+    (λ y h. ap (λ o. inserting g t a (option_and_then (packet_for (whole_bytes x)) o)) h
     ∙ ap (λ r. inserting g t a (or_nothing r)) (packet-again (version_of y) x (sp y h)))
 
 -- the line of an edit that stands is of the edit
-line-edit : (e : Item) → (plan : Plan) → Accepted e.1 plan → Spelt e.1 plan → edit_in (line_of (e, noted e.1 plan)).edit plan ≡ Some e.1
-line-edit (s, InsertPacket g t a x) plan acc sp = inserted g t a x plan acc sp
-line-edit (s, SetVar g t p v k n) plan acc sp = refl
-line-edit (s, SetHead g t v n) plan acc sp = refl
-line-edit (s, DeletePacket g t p) plan acc sp = refl
-line-edit (s, MovePacket g t p a) plan acc sp = refl
-line-edit (s, AddGroup a bs) plan acc sp = refl
-line-edit (s, DropGroup g) plan acc sp = refl
-line-edit (s, Renumber g n) plan acc sp = refl
-line-edit (s, TurnGroup g) plan acc sp = refl
-
-line-said : (e : Item) → (m : Note) → (line_of (e, m)).said ≡ said_of e.1 m
-line-said (s, InsertPacket g t a x) m = refl
-line-said (s, SetVar g t p v k n) m = refl
-line-said (s, SetHead g t v n) m = refl
-line-said (s, DeletePacket g t p) m = refl
-line-said (s, MovePacket g t p a) m = refl
-line-said (s, AddGroup a bs) m = refl
-line-said (s, DropGroup g) m = refl
-line-said (s, Renumber g n) m = refl
-line-said (s, TurnGroup g) m = refl
-
-line-serial : (e : Item) → (m : Note) → (line_of (e, m)).serial ≡ e.0
-line-serial (s, InsertPacket g t a x) m = refl
-line-serial (s, SetVar g t p v k n) m = refl
-line-serial (s, SetHead g t v n) m = refl
-line-serial (s, DeletePacket g t p) m = refl
-line-serial (s, MovePacket g t p a) m = refl
-line-serial (s, AddGroup a bs) m = refl
-line-serial (s, DropGroup g) m = refl
-line-serial (s, Renumber g n) m = refl
-line-serial (s, TurnGroup g) m = refl
+line-edit : (e : Edit) → (plan : Plan) → Accepted e plan → Spelt e plan → edit_in (line_edit e) plan ≡ Some e
+line-edit (InsertPacket g t a x) plan acc sp = inserted g t a x plan acc sp
+line-edit (SetVar g t p v k n) plan acc sp = refl
+line-edit (SetHead g t v n) plan acc sp = refl
+line-edit (DeletePacket g t p) plan acc sp = refl
+line-edit (MovePacket g t p a) plan acc sp = refl
+line-edit (AddGroup a bs) plan acc sp = refl
+line-edit (DropGroup g) plan acc sp = refl
+line-edit (Renumber g n) plan acc sp = refl
+line-edit (TurnGroup g) plan acc sp = refl
 
 item-again : (last next : ℕ) → (e : Item) → (plan : Plan) → IsSound plan → Accepted e.1 plan → Spelt e.1 plan → last < e.0 → e.0 < next →
     item_of last next (line_of (e, noted e.1 plan)) plan ≡ Some e
 item-again last next e plan sound acc sp low high =
     let l = line_of (e, noted e.1 plan) in
     let none : is_none (refusal e.1 plan) ≡ true = ap is_none ((refused_exactly e.1 plan sound).1 acc) in
-    let said : same_said (said_of e.1 (noted e.1 plan)) l.said ≡ true = ap (same_said (said_of e.1 (noted e.1 plan))) (line-said e (noted e.1 plan)) ∙ same_itself (said_of e.1 (noted e.1 plan)) in
+    let said : same_noted (noted_of e.1 (noted e.1 plan)) (noted_of e.1 (noted e.1 plan)) ≡ true = same_itself (noted_of e.1 (noted e.1 plan)) in
     let within : (nat_lt last e.0 && nat_lt e.0 next) ≡ true = and_from _ _ (lt-ltb last e.0 low) (lt-ltb e.0 next high) in
-    ap (λ n. cond (nat_lt last n && nat_lt n next) (if_fits l plan (edit_in l.edit plan)) None) (line-serial e (noted e.1 plan))
-    ∙ ap (λ b. cond b (if_fits l plan (edit_in l.edit plan)) None) within
-    ∙ ap (if_fits l plan) (line-edit e plan acc sp)
-    ∙ ap (λ b. cond b (Some (l.serial, e.1)) None) (and_from _ _ none said)
-    ∙ ap (λ n. Some (n, e.1)) (line-serial e (noted e.1 plan))
+    ap (λ b. cond b (if_fits l plan (edit_in l.edit plan)) None) within
+    ∙ ap (if_fits l plan) (line-edit e.1 plan acc sp)
+    ∙ ap (λ b. cond b (Some (e.0, e.1)) None) (and_from _ _ none said)
 
-items-again : (n last next : ℕ) → (es : List Item) → (plan : Plan) → Standing plan es → Between last next es → items_of n last next (map line_of (entries plan es)) plan ≡ Ok es
-items-again n last next [] plan s b = refl
-items-again n last next (e ∷ es) plan s b =
-    let l = line_of (e, noted e.1 plan) in
-    let rest = map line_of (entries (done e plan) es) in
-    ap (λ o. then_items plan n o (λ x. items_of (suc n) l.serial next rest (done x plan))) (item-again last next e plan s.sound s.accepted.0 s.spelt.0 b.0 b.1)
-    ∙ ap (λ m. and_items e (items_of (suc n) m next rest (done e plan))) (line-serial e (noted e.1 plan))
-    ∙ ap (and_items e) (items-again (suc n) e.0 next es (done e plan) (standing-after plan e es s) b.2)
-
--- ---- the stack
-
+-- the state with these edits, of which nothing is counted
 abbrev with : State → List Item → List Removed → State
 with s es rs = record { base = s.base; standing = es; stack = rs; serial = s.serial; count = 0 }
 
+last-next : (es : List Item) → (e : Item) → last_serial (es ++ e ∷ []) ≡ e.0
+last-next [] e = refl
+last-next (f ∷ []) e = refl
+last-next (f ∷ g ∷ gs) e = last-next (g ∷ gs) e
+
+entries-again : (n : ℕ) → (s : State) → (before es : List Item) → (plan : Plan) → made s.base before ≡ plan → Standing plan es → Between (last_serial before) s.serial es →
+    with_entries n (map line_of (entries plan es)) (with s before []) ≡ Ok (with s (before ++ es) [])
+entries-again n s before [] plan q st b = ap (λ x. Ok (with s x [])) (sym (no-more before))
+entries-again n s before (e ∷ es) plan q st b =
+    let l = line_of (e, noted e.1 plan) in
+    let more = with_entries (suc n) (map line_of (entries (done e plan) es)) in
+    let u = with s before [] in
+    ap (λ p. or_place (Some n) (with_item u (item_of (last_serial before) s.serial l p)) more) q
+    ∙ ap (λ o. or_place (Some n) (with_item u o) more) (item-again (last_serial before) s.serial e plan st.sound st.accepted.0 st.spelt.0 b.0 b.1)
+    ∙ entries-again (suc n) s (before ++ e ∷ []) es (done e plan) (made-append s.base before (e ∷ []) ∙ ap (done e) q) (standing-after plan e es st) (subst (λ m. Between m s.serial es) (sym (last-next before e)) b.2)
+    ∙ ap (λ x. Ok (with s x [])) (append_assoc before (e ∷ []) es)
+
+-- ---- the stack
+
 struck-again : (s : State) → (all left : List Item) → (r : Removed) → (rs : List Removed) → WasStruck s.base all r left → with_undone (with s all rs) r.item.0 ≡ Some (with s left (r ∷ rs))
-struck-again s all left r rs w =
-    let u = with s all rs in
-    let fs = later r.item.0 (entries s.base all) in
-    let answered : ◌≡◌ {A = Answer} (answer_in_time (Strike r.item.0) u) (Struck r.item.0, taken_out u left r) =
-    ap (answer_strike u) w.found ∙ ap (answer_dependent u (r.item, w.note) fs) w.outlived
-    ∙ ap (λ b. (Struck r.item.0, taken_out u (hung (anchor_of r.item.1) b (others r.item.0 all)) (record { item = r.item; behind = b }))) w.behind
-    ∙ ap (λ l. (Struck r.item.0, taken_out u l r)) w.left_is in
-    ap (uncounted 0) answered
+struck-again s all left r rs w = ap (uncounted 0) (strike_after (with s all rs) r left w)
 
 ok_one : (x y : State) → ◌≡◌ {A = Result State (Option ℕ)} (Ok x) (Ok y) → x ≡ y
 ok_one x y e = cc
 
 one-more : (n : ℕ) → (us : List ℕ) → (u : ℕ) → (s t v : State) → with_all_undone n us s ≡ Ok t → with_undone t u ≡ Some v → with_all_undone n (us ++ u ∷ []) s ≡ Ok v
-one-more n [] u s t v h k = ap (λ x. or_place n (with_undone x u) (with_all_undone (suc n) [])) (ok_one s t h) ∙ ap (λ o. or_place n o (with_all_undone (suc n) [])) k
+one-more n [] u s t v h k = ap (λ x. or_place (Some n) (with_undone x u) (with_all_undone (suc n) [])) (ok_one s t h) ∙ ap (λ o. or_place (Some n) o (with_all_undone (suc n) [])) k
 one-more n (w ∷ us) u s t v h k = at (λ x. one-more (suc n) us u x t v) (with_undone s w) h
   where
     at : ((x : State) → with_all_undone (suc n) us x ≡ Ok t → with_undone t u ≡ Some v → with_all_undone (suc n) (us ++ u ∷ []) x ≡ Ok v) →
-        (o : Option State) → or_place n o (with_all_undone (suc n) us) ≡ Ok t → or_place n o (with_all_undone (suc n) (us ++ u ∷ [])) ≡ Ok v
+        (o : Option State) → or_place (Some n) o (with_all_undone (suc n) us) ≡ Ok t → or_place (Some n) o (with_all_undone (suc n) (us ++ u ∷ [])) ≡ Ok v
     at more None h = absurd cc
     at more (Some x) h = more x h k
 
@@ -174,9 +156,8 @@ undone-again s n (r ∷ rs) items d =
 pub journal_kept : JournalKept
 journal_kept s one most d st b =
     let all = all_back s.stack s.standing in
-    let us = undone s in
     let ls = lines s in
     let inside : (nat_le 1 s.serial && nat_le s.serial most_serial) ≡ true = and_from _ _ (le-leb 1 s.serial one) (le-leb s.serial most_serial most) in
     let entered : ◌≡◌ {A = Result State (Option ℕ)} (from_entries s.base s.serial ls) (Ok (with s all [])) =
-    ap (λ k. cond k (opened_with s.base s.serial (items_of 0 0 s.serial ls s.base)) (Err None)) inside ∙ ap (opened_with s.base s.serial) (items-again 0 0 s.serial all s.base st b) in
-    ap (and_undone (length ls) us) entered ∙ undone-again s (length ls) s.stack s.standing d
+    ap (λ k. or_place None (cond k (Some (with s [] [])) None) (with_entries 0 ls)) inside ∙ entries-again 0 s [] all s.base refl st b in
+    ap (and_undone (length ls) (undone s)) entered ∙ undone-again s (length ls) s.stack s.standing d

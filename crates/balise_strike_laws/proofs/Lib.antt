@@ -27,7 +27,12 @@ pub mod StandsBehind
 pub mod Exchanging
 pub mod Past
 pub mod Strikes
+pub mod Rising
 pub mod SessionStrikes
-pub mod TakenBack
+pub mod TakenOut
+pub mod Standing
+pub mod Replies
+pub mod SessionsKept
 pub mod Journals
+pub mod Promises
 pub mod Example

@@ -12,19 +12,20 @@ use Rattle.balise_rules.specs.Plan.{Plan}
 use Rattle.balise_rules.specs.Edits.{Item, InsertPacket, MovePacket, AddGroup}
 use Rattle.balise_rules.specs.Notes.{noted}
 use Rattle.balise_rules.specs.Doing.{done}
-use Rattle.balise_rules.specs.Accepting.{Accepted}
 use Rattle.balise_rules.specs.Tags.{same_tag}
 use Rattle.balise_rules.specs.Paths.{Entry, apart}
 use Rattle.balise_rules.specs.Behind.{stands_behind, anchor_of, anchored, serials_behind, hung}
 use Rattle.balise_rules.specs.Session.{made, entries, last, others, later, first_dependent, put_by_serial}
 use Rattle.balise_rules.proofs.Tests.{split_on, flip_no, nat_test, tag_test}
 use Rattle.balise_rules.proofs.Cases.{unsome, parts4}
+use Rattle.balise_edit_laws.specs.TakenBack.{IsReady}
 use Rattle.balise_edit_laws.specs.Along.{AllUnused}
 use Rattle.balise_strike_laws.specs.Striking.{AllBecome, Standing, notes_of}
 use Rattle.balise_strike_laws.specs.InSession.{Rising, StruckHere, StrikingHere, UndoingHere, left_of}
 use Rattle.balise_strike_laws.proofs.Past.{Other}
 use Rattle.balise_strike_laws.proofs.StandsBehind.{stands_behind-parts, no_end}
 use Rattle.balise_strike_laws.proofs.Strikes.{striking_under}
+use Rattle.balise_strike_laws.proofs.Rising.{rising-hung, rising-others}
 
 -- what stands in the middle
 all-middle : (P : Item → Type 0) → (before : List Item) → (e : Item) → (after : List Item) → All P (before ++ e ∷ after) → P e
@@ -245,9 +246,10 @@ struck-among base before e after fs s q d =
       standing = subst (Standing base) (sym rest) r.standing;
       notes = ap (λ l. notes_of (entries base l)) rest ∙ r.notes ∙ ap notes_of (sym (entries-there base before e after s.unused base));
       taken_back = r.taken_back ∙ ap (made base) (sym rest);
-      again_accepted = subst (λ l. Accepted e.1 (made base l)) (sym rest) r.again_accepted;
+      again_ready = subst (λ l. IsReady e (made base l)) (sym rest) r.again_ready;
       again_notes = ap (λ l. noted e.1 (made base l)) rest ∙ r.again_notes;
       again = ap (λ l. done e (made base l)) rest ∙ r.again;
+      rising = λ w. rising-hung a B (others e.0 (before ++ e ∷ after)) (rising-others e.0 (before ++ e ∷ after) w);
       own_place = λ w. ap (λ l. put_by_serial e (hung (Some (Fresh e.0)) B l)) rest ∙ ap (put_by_serial e) back_again ∙ put-there before e after w;
     }
 
@@ -278,7 +280,7 @@ ends [] e h = absurd (cc)
 ends (f ∷ []) e h = record { before = []; whole = ap (λ x. x ∷ []) (unsome h) }
 ends (f ∷ g ∷ gs) e h = let w = ends (g ∷ gs) e h in record { before = f ∷ w.before; whole = ap (λ l. f ∷ l) w.whole }
 
-no-more : (l : List Item) → l ++ [] ≡ l
+pub no-more : (l : List Item) → l ++ [] ≡ l
 no-more [] = refl
 no-more (f ∷ fs) = ap (λ l. f ∷ l) (no-more fs)
 

@@ -95,7 +95,7 @@ striking_under base before e after others s d =
           ∙ ap (λ m. back e m (done e (made (made base before) others))) (sym p.same_note)
           ∙ taking_back e (made (made base before) others) p.ready.sound p.ready.unused p.ready.accepted
           ∙ sym rest;
-      again_accepted = subst (Accepted e.1) (sym rest) p.ready.accepted;
+      again_ready = subst (IsReady e) (sym rest) p.ready;
       again_notes = ap (noted e.1) rest ∙ p.same_note;
       again = ap (done e) rest ∙ sym all;
     }

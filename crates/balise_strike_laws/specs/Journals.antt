@@ -1,15 +1,11 @@
 -- A journal says all that a session keeps but its count.
-use Rattle.std.specs.Prelude.{◌≡◌, ◌≤◌, ◌<◌, ℕ, List, [], ◌∷◌, Option, Result, Ok}
-use Rattle.balise_rules.specs.Edits.{Item}
+use Rattle.std.specs.Prelude.{◌≡◌, ◌≤◌, ℕ, Option, Result, Ok}
 use Rattle.balise_rules.specs.Session.{State}
-use Rattle.balise_rules.specs.Opening.{all_back, lines, undone, most_serial, from_journal}
+use Rattle.balise_rules.specs.Journal.{all_back, lines, undone}
+use Rattle.balise_rules.specs.Opening.{most_serial, from_journal}
 use Rattle.balise_strike_laws.specs.Striking.{Standing}
+use Rattle.balise_strike_laws.specs.InSession.{Between}
 use Rattle.balise_strike_laws.specs.Redoing.{Redoable, counted}
-
--- serials rise from above one number and stay below another
-abbrev pub Between : ℕ → ℕ → List Item → Type 0
-Between last next [] = Unit {0}
-Between last next (e ∷ es) = (last < e.0) × (e.0 < next) × Between e.0 next es
 
 -- The session that is read from the journal of another has the same plan, standing edits, stack and next serial; its count is 0.
 abbrev pub JournalKept : Type 0

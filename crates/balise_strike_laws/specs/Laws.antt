@@ -24,11 +24,11 @@ pub record InTurn (e f : Item) (plan : Plan) : Type 0 where
   pub first_accepted : Accepted e.1 plan
   pub second_accepted : Accepted f.1 (done e plan)
 
--- Independent edits commute.
+-- Edits that are apart commute.
 abbrev pub Commuting : Type 0
 Commuting = (e f : Item) → (plan : Plan) → InTurn e f plan → apart (e, noted e.1 plan) (f, noted f.1 (done e plan)) ≡ true → Commutes e f plan
 
--- Whether two edits are independent is the same from both sides.
+-- Whether two entries are apart is the same from both sides.
 abbrev pub IsSymmetric : Type 0
 IsSymmetric = (e f : Entry) → apart e f ≡ apart f e
 

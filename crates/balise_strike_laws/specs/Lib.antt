@@ -4,3 +4,5 @@ pub mod Witness
 pub mod InSession
 pub mod Redoing
 pub mod Journals
+pub mod Sessions
+pub mod Headline

@@ -1,20 +1,21 @@
 //! The laws on which undo, redo and strike rest, over the definitions of `balise_rules` alone: each is the contract of a function with no parameters and an empty body.
 #![tactic(auto)]
 
-ghost use Rattle.balise_strike_laws.specs.Journals.{JournalKept};
+ghost use Rattle.balise_strike_laws.specs.Headline.{Headline, SessionsPromised};
 ghost use Rattle.balise_strike_laws.specs.Laws.{Commuting, CommutingBehind, IsSymmetric};
 ghost use Rattle.balise_strike_laws.specs.Striking.{StrikingUnder};
 ghost use Rattle.balise_strike_laws.specs.InSession.{StrikingHere, UndoingHere};
-ghost use Rattle.balise_strike_laws.specs.Redoing.{RedoTakenBack, StrikeTakenBack, UndoTakenBack};
+ghost use Rattle.balise_strike_laws.specs.Redoing.{RedoingHere};
+ghost use Rattle.balise_strike_laws.specs.Sessions.{OpeningsBegin, OpeningsKept, PlansMade, SessionsBegin, SessionsKept};
 ghost use Rattle.balise_strike_laws.specs.Witness.{HasExample};
 
-/// Independent edits commute: in the other order both are accepted, note the same and make the same plan.
+/// Edits that are apart commute: in the other order both are accepted, note the same and make the same plan.
 pub fn commute()
     ensures { Commuting }
 {}
 
-/// Whether two entries are independent is the same from both sides.
-pub fn independent_from_both_sides()
+/// Whether two entries are apart is the same from both sides.
+pub fn apart_from_both_sides()
     ensures { IsSymmetric }
 {}
 
@@ -23,7 +24,7 @@ pub fn commute_behind()
     ensures { CommutingBehind }
 {}
 
-/// A strike of an edit of which later ones are independent, or behind which they stand, is one change: the others, anchored as it was where they stand behind it, stand and note what they noted; taking it back gives what they make, and doing it again gives what all make.
+/// A strike of an edit of which all later ones are independent is one change: the others, anchored as it was where they stand behind it, stand and note what they noted; taking it back gives what they make, and doing it again gives what all make.
 pub fn strike_under()
     ensures { StrikingUnder }
 {}
@@ -38,27 +39,39 @@ pub fn undo_in_session()
     ensures { UndoingHere }
 {}
 
-/// A plan and three edits for which the premises of these laws hold: independent ones, a dependent pair, and one that stands behind another.
+/// A redo in the words of a session: the top of its stack put back by one change.
+pub fn redo_in_session()
+    ensures { RedoingHere }
+{}
+
+/// A plan and three edits for which the premises of these laws hold: edits that are apart, a pair that isn't, and one that stands behind another.
 pub fn witnessed()
     ensures { HasExample }
 {}
 
-/// A strike keeps the standing edits and the stack in order, and a redo takes it back.
-pub fn strike_taken_back()
-    ensures { StrikeTakenBack }
+/// A session begins as one, and every command leaves one, want of memory included.
+pub fn sessions_kept()
+    ensures begin { SessionsBegin }
+    ensures kept { SessionsKept }
 {}
 
-/// So does an undo.
-pub fn undo_taken_back()
-    ensures { UndoTakenBack }
+/// A journal is opened as a session, and every line of it leaves one.
+pub fn openings_kept()
+    ensures begin { OpeningsBegin }
+    ensures kept { OpeningsKept }
 {}
 
-/// A redo keeps them in order, and a strike of what it put back takes it back.
-pub fn redo_taken_back()
-    ensures { RedoTakenBack }
+/// The plan of a session is what its standing edits alone, in order, make of the plan first read, and sound.
+pub fn plans_made()
+    ensures { PlansMade }
 {}
 
-/// A journal is read as the session that it was made of, but for the count.
-pub fn journal_kept()
-    ensures { JournalKept }
+/// What a session promises in each of its states: its plan is made by the standing edits alone; undo, strike and redo are taken back by one another; a strike is refused as dependent exactly where a later edit isn't independent; a refused command changes nothing; and what it says as a journal is read back.
+pub fn sessions_promised()
+    ensures { SessionsPromised }
+{}
+
+/// All of that, for every sound plan that no serial tags and every list of commands.
+pub fn headline()
+    ensures { Headline }
 {}

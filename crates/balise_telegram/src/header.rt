@@ -13,7 +13,8 @@ use balise_bits::{Bits, BitsFault};
 use balise_rules::Var;
 use std::marker::Model;
 
-/// The ten fields of a header, 50 bits (SUBSET-026, 8.4.2).
+/// The ten fields of a header, 50 bits (SUBSET-026, 8.4.2). In bits, in their order: Q_UPDOWN 1,
+/// M_VERSION 7, Q_MEDIA 1, N_PIG 3, N_TOTAL 3, M_DUP 2, M_MCOUNT 8, NID_C 10, NID_BG 14, Q_LINK 1.
 #[derive(Debug, Drop)]
 pub struct Header {
     q_updown: u32,
@@ -40,7 +41,7 @@ impl Model for Header {
 }
 
 impl Header {
-    /// The header at the front of a telegram's bits.
+    /// The header in the first 50 of a telegram's bits, whatever its values are.
     pub fn read(bits: &Bits) -> Header
         requires { 50 ≤ length bits.now }
         ensures { result ≡ read_header bits.now }
@@ -76,14 +77,14 @@ impl Header {
         bits.push(1, self.q_link)
     }
 
-    /// M_VERSION.
+    /// M_VERSION, of 7 bits: the first three are the X of version X.Y, the last four its Y.
     pub fn version(&self) -> u32
         ensures { result ≡ value MVersion 0 self.now }
     {
         self.m_version
     }
 
-    /// Whether it is from track to train, and a balise's.
+    /// Whether it is from track to train (Q_UPDOWN is 1), and a balise's (Q_MEDIA is 0).
     pub fn is_balise(&self) -> bool
         ensures { result ≡ is_balise self.now }
     {
@@ -110,6 +111,9 @@ impl Header {
     }
 
     /// Sets M_DUP, M_MCOUNT or Q_LINK and answers the old value. Takes no memory.
+    ///
+    /// Refused in this order, and then all stays: `NoSuchVariable` where a header hasn't the variable, `Steering`
+    /// where it isn't one of the three, `ValueTooWide` where the value doesn't fit its width.
     pub fn set(&mut self, var: Var, value: u32) -> Result<u32, TelegramFault>
         ensures { SetsFields var value self.old result self.new }
     {
@@ -130,7 +134,7 @@ impl Header {
         Ok(old)
     }
 
-    /// Sets N_PIG or NID_BG. Takes no memory.
+    /// Sets N_PIG, of 3 bits, or NID_BG, of 14. Takes no memory.
     pub fn put(&mut self, var: Var, value: u32)
         requires var { (var ≡ NPig) ⊎ (var ≡ NidBg) }
         requires fits { value < 2 ^ width_of var }

@@ -8,23 +8,25 @@ ghost use Rattle.std.specs.List.{position};
 ghost use Rattle.balise_rules.specs.Packet.{field_of};
 ghost use Rattle.balise_rules.specs.Tagged.{find, Distinct};
 ghost use Rattle.balise_rules.specs.Tags.{same_tag};
-ghost use Rattle.balise_rules.specs.Telegram.{read_packets, read_telegram, room, shown, used, version_of};
+ghost use Rattle.balise_rules.specs.Telegram.{IsLength, read_packets, read_telegram, room, shown, used, version_of};
 ghost use Rattle.balise_telegram.specs.Faults.{refusal_of};
 ghost use Rattle.balise_telegram.specs.Setting.{SetsField, SetsHead};
 
+use crate::PacketTag;
 use crate::fault::TelegramFault;
 use crate::header::Header;
 use balise_bits::Bits;
 use balise_layout::Packet;
-use balise_rules::{Tag, Var};
+use balise_rules::Var;
 use std::alloc::Global;
 use std::marker::Model;
 
-/// A telegram of 210 or 830 bits.
+/// A telegram of 210 or 830 bits (SUBSET-026, 8.4.2): a header of 50 bits, packets, packet 255 of 8 bits,
+/// and padding. Each packet has a tag, which it keeps wherever it is moved.
 #[derive(Debug, Drop)]
 pub struct Telegram {
     header: Header,
-    packets: Vec<(Tag, Packet)>,
+    packets: Vec<(PacketTag, Packet)>,
     padding: Bits,
 }
 
@@ -40,7 +42,11 @@ impl Model for Telegram {
 }
 
 impl Telegram {
-    /// The telegram that these bits are, its packets tagged by their places.
+    /// The telegram that these bits are, its packets tagged `Base` by their places, from 0.
+    ///
+    /// Refused in this order: `BadLength` for another number of bits, `NotABalise`, and then the first of what is
+    /// met packet by packet: `NoEnd` where fewer than 8 bits are left, `PacketZero`, `PacketCut`, `LayoutMismatch`.
+    /// `OutOfMemory` may stand in place of any answer.
     pub fn read(alloc: Global, bits: &Bits) -> Result<Telegram, TelegramFault>
         ensures ok { IfOk result (λ t. read_telegram bits.now ≡ Ok t) }
         ensures fault { IfErr result (λ e. e ≢ TelegramFault.OutOfMemory → read_telegram bits.now ≡ Err (refusal_of e)) }
@@ -62,7 +68,16 @@ impl Telegram {
         })
     }
 
-    /// How many bits header, packets and packet 255 take.
+    /// How many bits it has: 210 or 830.
+    pub fn width(&self) -> usize
+        ensures width { result ≡ length self.now.padding }
+        ensures due { IsLength result }
+        ensures fits { used self.now.packets ≤ length self.now.padding }
+    {
+        self.padding.len()
+    }
+
+    /// How many bits header, packets and packet 255 take: 58 and the packets' widths.
     pub fn used(&self) -> usize
         ensures { result ≡ used self.now.packets }
     {
@@ -73,19 +88,19 @@ impl Telegram {
         used
     }
 
-    /// The bits that it shows.
-    pub fn shown(&self, alloc: Global) -> Result<Bits, TelegramFault>
+    /// The bits that it shows, as many as its width: header, packets, packet 255 and padding.
+    pub fn shown(&self) -> Result<Bits, TelegramFault>
         ensures ok { IfOk result (λ bits. bits ≡ shown self.now) }
         ensures fault { IsOkUnless result TelegramFault.OutOfMemory }
     {
-        let mut bits = Bits::with_capacity(alloc, self.padding.len())?;
+        let mut bits = Bits::with_capacity(*self.packets.allocator(), self.width())?;
         self.header.write(&mut bits)?;
         for (_, packet) in &self.packets {
             packet.write(&mut bits)?;
         }
         bits.push(8, 255)?;
         let used = self.used();
-        bits.append_part(&self.padding, used, self.padding.len() - used)?;
+        bits.append_part(&self.padding, used, self.width() - used)?;
         Ok(bits)
     }
 
@@ -98,7 +113,7 @@ impl Telegram {
     }
 
     /// The packet at a place, from 0, with its tag.
-    pub fn at(&self, i: usize) -> Option<(Tag, &Packet)>
+    pub fn at(&self, i: usize) -> Option<(PacketTag, &Packet)>
         ensures { option_map (λ p. (p.0, p.1.now)) result ≡ slice_get self.now.packets i }
     {
         match self.packets.get(i) {
@@ -107,8 +122,8 @@ impl Telegram {
         }
     }
 
-    /// The packet with this tag.
-    pub fn packet(&self, tag: Tag) -> Option<&Packet>
+    /// The packet with this tag, where it stands.
+    pub fn packet(&self, tag: PacketTag) -> Option<&Packet>
         ensures { option_map (λ p. p.now) result ≡ find same_tag tag self.now.packets }
     {
         match self.place_of(tag) {
@@ -117,32 +132,34 @@ impl Telegram {
         }
     }
 
-    /// The value of a variable of the header.
+    /// The value of a variable of the header, where a header has it.
     pub fn head(&self, var: Var) -> Option<u32>
         ensures { result ≡ field_of var 0 self.now.head }
     {
         self.header.get(var)
     }
 
-    /// How many bits of padding it shows.
+    /// How many bits of padding it shows, which is the room for further packets.
     pub fn room(&self) -> usize
         ensures room { result ≡ room self.now }
         ensures fits { used self.now.packets ≤ length self.now.padding }
     {
-        self.padding.len() - self.used()
+        self.width() - self.used()
     }
 
-    /// M_VERSION.
+    /// M_VERSION, of 7 bits.
     pub fn version(&self) -> u32
         ensures { result ≡ version_of self.now }
     {
         self.header.version()
     }
 
-    /// Sets an occurrence of a variable of the packet with this tag, and answers the old value. Takes no memory.
+    /// Sets occurrence `k`, from 0, of a variable of the packet with this tag, and answers the old value. Takes no memory.
+    ///
+    /// Refused in this order, and then all stays: `NoSuchPacket`, `NoSuchVariable`, `Steering`, `ValueTooWide`.
     pub fn set_field(
         &mut self,
-        tag: Tag,
+        tag: PacketTag,
         var: Var,
         k: u32,
         value: u32,
@@ -156,7 +173,9 @@ impl Telegram {
         Ok(old)
     }
 
-    /// Sets a variable of the header and answers the old value. Takes no memory.
+    /// Sets M_DUP, M_MCOUNT or Q_LINK of the header and answers the old value. Takes no memory.
+    ///
+    /// Refused in this order, and then all stays: `NoSuchVariable`, `Steering`, `ValueTooWide`.
     pub fn set_head(&mut self, var: Var, value: u32) -> Result<u32, TelegramFault>
         ensures { SetsHead var value self.old result self.new }
     {
@@ -164,7 +183,7 @@ impl Telegram {
     }
 
     // The place of the packet with this tag.
-    fn place_of(&self, tag: Tag) -> Option<usize>
+    fn place_of(&self, tag: PacketTag) -> Option<usize>
         ensures place { result ≡ position (λ q. same_tag tag q.0) self.now.packets }
         ensures small { IfSome result (λ i. i + 1 < 2 ^ 64) }
     {
@@ -177,7 +196,7 @@ fn read_packets(
     alloc: Global,
     bits: &Bits,
     version: u32,
-) -> Result<(Vec<(Tag, Packet)>, usize), TelegramFault>
+) -> Result<(Vec<(PacketTag, Packet)>, usize), TelegramFault>
     requires header { 50 ≤ length bits.now }
     requires most { length bits.now ≤ 830 }
     ensures ok { IfOk result (λ r. read_packets (length bits.now) version 0 (drop 50 bits.now) ≡ Ok (r.0.items, drop r.1 bits.now)) }
@@ -203,7 +222,7 @@ fn read_packets(
             Ok(read) => read,
             Err(fault) => return Err(TelegramFault::from(fault)),
         };
-        packets.push((Tag::Base(count), packet))?;
+        packets.push((PacketTag::Base(count), packet))?;
         at = end;
         count += 1;
     }

@@ -1,11 +1,10 @@
 //! Telegrams of known digits, each read and shown again.
 
 mod changes;
+mod full;
 mod packets;
 
-use crate::{Header, Telegram, TelegramFault};
-use balise_bits::Bits;
-use balise_rules::{Tag, Var};
+use crate::{Bits, Header, PacketTag, Refusal, Telegram, TelegramFault, Var};
 use std::alloc::Global;
 use std::process::Abort;
 
@@ -14,7 +13,7 @@ fn read(rt: &impl Abort, alloc: Global, text: &str, len: usize) -> Option<Telegr
     let bits = Bits::from_hex(alloc, text, len).expect(rt, "digits");
     match Telegram::read(alloc, &bits) {
         Ok(telegram) => {
-            let shown = telegram.shown(alloc).expect(rt, "memory");
+            let shown = telegram.shown().expect(rt, "memory");
             assert!(rt; shown == bits, "{text}");
             None
         }
@@ -64,6 +63,7 @@ fn says_the_first_fault(rt: HostRuntime) {
     }
     assert!(rt; read(&rt, rt.alloc(), "a1007f80", 32) == Some(TelegramFault::BadLength));
     assert_eq!(rt; TelegramFault::NoEnd.refusal().number(), 6);
+    assert_eq!(rt; Refusal::from(TelegramFault::PacketCut), Refusal::PacketCut);
 }
 
 #[test]
@@ -93,32 +93,38 @@ fn reads_a_header(rt: HostRuntime) {
 // Two packets 66, which take back restrictions 5 and 7.
 const TWO_PACKETS: &str = "a1007f80a03250900f82a1201f07ffffffffffffffffffffffffc0";
 
+/// The bits of a telegram's digits, 54 or 208 of them.
+fn bits(rt: &impl Abort, alloc: Global, text: &str) -> Bits {
+    let len = if text.len() == 208 { 830 } else { 210 };
+    Bits::from_hex(alloc, text, len).expect(rt, "digits")
+}
+
 fn telegram(rt: &impl Abort, alloc: Global, text: &str) -> Telegram {
-    let bits = Bits::from_hex(alloc, text, 210).expect(rt, "digits");
-    Telegram::read(alloc, &bits).expect(rt, "a telegram")
+    Telegram::read(alloc, &bits(rt, alloc, text)).expect(rt, "a telegram")
 }
 
 /// Whether the telegram shows these digits.
 fn shows(rt: &impl Abort, alloc: Global, telegram: &Telegram, text: &str) -> bool {
-    let bits = Bits::from_hex(alloc, text, 210).expect(rt, "digits");
-    telegram.shown(alloc).expect(rt, "memory") == bits
+    telegram.shown().expect(rt, "memory") == bits(rt, alloc, text)
 }
 
 #[test]
 fn finds_packets(rt: HostRuntime) {
     let telegram = telegram(&rt, rt.alloc(), TWO_PACKETS);
     assert_eq!(rt; telegram.count(), 2);
+    assert_eq!(rt; telegram.width(), 210);
+    assert_eq!(rt; telegram.used(), 120);
     assert_eq!(rt; telegram.room(), 90);
     assert_eq!(rt; telegram.version(), 33);
     for (i, restriction) in [(0, 5), (1, 7)] {
         let (tag, packet) = telegram.at(i as usize).expect(&rt, "a packet");
-        assert!(rt; tag == Tag::Base(i));
+        assert!(rt; tag == PacketTag::Base(i));
         assert!(rt; packet.field(Var::NidTsr, 0) == Some(restriction));
         let packet = telegram.packet(tag).expect(&rt, "a packet");
         assert!(rt; packet.field(Var::NidTsr, 0) == Some(restriction));
     }
     assert!(rt; telegram.at(2).is_none());
-    for tag in [Tag::Base(2), Tag::Fresh(0)] {
+    for tag in [PacketTag::Base(2), PacketTag::Fresh(0)] {
         assert!(rt; telegram.packet(tag).is_none());
     }
     for (var, value) in [(Var::MMcount, Some(255)), (Var::NidTsr, None)] {
@@ -132,36 +138,42 @@ fn sets_a_field_of_a_packet(rt: HostRuntime) {
     let mut telegram = telegram(&rt, alloc, TWO_PACKETS);
     for (tag, var, k, value, fault) in [
         (
-            Tag::Base(2),
+            PacketTag::Base(2),
             Var::LPacket,
             0,
             9000,
             TelegramFault::NoSuchPacket,
         ),
         (
-            Tag::Fresh(1),
+            PacketTag::Fresh(1),
             Var::NidTsr,
             0,
             9,
             TelegramFault::NoSuchPacket,
         ),
         (
-            Tag::Base(1),
+            PacketTag::Base(1),
             Var::NidC,
             0,
             9000,
             TelegramFault::NoSuchVariable,
         ),
         (
-            Tag::Base(1),
+            PacketTag::Base(1),
             Var::NidTsr,
             1,
             9,
             TelegramFault::NoSuchVariable,
         ),
-        (Tag::Base(1), Var::LPacket, 0, 9000, TelegramFault::Steering),
         (
-            Tag::Base(1),
+            PacketTag::Base(1),
+            Var::LPacket,
+            0,
+            9000,
+            TelegramFault::Steering,
+        ),
+        (
+            PacketTag::Base(1),
             Var::NidTsr,
             0,
             256,
@@ -172,9 +184,9 @@ fn sets_a_field_of_a_packet(rt: HostRuntime) {
         assert!(rt; shows(&rt, alloc, &telegram, TWO_PACKETS));
     }
     let set = "a1007f80a03250900f82a1201f09ffffffffffffffffffffffffc0";
-    assert!(rt; telegram.set_field(Tag::Base(1), Var::NidTsr, 0, 9) == Ok(7));
+    assert!(rt; telegram.set_field(PacketTag::Base(1), Var::NidTsr, 0, 9) == Ok(7));
     assert!(rt; shows(&rt, alloc, &telegram, set));
-    assert!(rt; telegram.set_field(Tag::Base(1), Var::NidTsr, 0, 7) == Ok(9));
+    assert!(rt; telegram.set_field(PacketTag::Base(1), Var::NidTsr, 0, 7) == Ok(9));
     assert!(rt; shows(&rt, alloc, &telegram, TWO_PACKETS));
 }
 

@@ -4,8 +4,7 @@ use crate::command::Command;
 use crate::group::Group;
 use crate::plan::Plan;
 use crate::session::Session;
-use balise_bits::Bits;
-use balise_rules::{Id, Refusal, Var};
+use balise_telegram::{Bits, Id, Refusal, Var};
 use std::alloc::Global;
 use std::process::Abort;
 
@@ -32,7 +31,7 @@ fn shows(rt: &impl Abort, alloc: Global, plan: &Plan, digits: &str) -> bool {
     let Some(telegram) = plan.telegram() else {
         return false;
     };
-    let shown = telegram.shown(alloc).expect(rt, "memory");
+    let shown = telegram.shown().expect(rt, "memory");
     let bits = Bits::from_hex(alloc, digits, 210).expect(rt, "digits");
     shown == bits
 }

@@ -6,13 +6,14 @@ ghost use Rattle.balise_rules.specs.declared.variable.Var.TheVariants.{NPig, Nid
 ghost use Rattle.balise_layout.specs.Setting.{flipped, renamed, turned};
 ghost use Rattle.balise_telegram.specs.Setting.{with_changed, with_head};
 
+use crate::PacketTag;
 use crate::fault::TelegramFault;
 use crate::telegram::Telegram;
-use balise_rules::{Tag, Var};
+use balise_rules::Var;
 
 impl Telegram {
     /// Exchanges the directions 0 and 1 in Q_DIR of the packet with this tag, where it stands. Takes no memory.
-    pub fn flip_dir(&mut self, tag: Tag)
+    pub fn flip_dir(&mut self, tag: PacketTag)
         ensures { self.new ≡ with_changed tag turned self.old }
     {
         if let Some(i) = self.place_of(tag) {
@@ -21,7 +22,7 @@ impl Telegram {
     }
 
     /// Flips Q_LINKORIENTATION of element `k` of the packet with this tag, where it stands. Takes no memory.
-    pub fn flip_link(&mut self, tag: Tag, k: u32)
+    pub fn flip_link(&mut self, tag: PacketTag, k: u32)
         ensures { self.new ≡ with_changed tag (flipped k) self.old }
     {
         if let Some(i) = self.place_of(tag) {
@@ -29,8 +30,8 @@ impl Telegram {
         }
     }
 
-    /// Sets NID_BG of element `k` of the packet with this tag, where it stands. Takes no memory.
-    pub fn name_link(&mut self, tag: Tag, k: u32, number: u32)
+    /// Sets NID_BG, of 14 bits, of element `k` of the packet with this tag, where it stands. Takes no memory.
+    pub fn name_link(&mut self, tag: PacketTag, k: u32, number: u32)
         requires { number < 2 ^ 14 }
         ensures { self.new ≡ with_changed tag (renamed k number) self.old }
     {
@@ -39,7 +40,7 @@ impl Telegram {
         }
     }
 
-    /// Sets N_PIG or NID_BG. Takes no memory.
+    /// Sets N_PIG, of 3 bits, or NID_BG, of 14, of the header. Takes no memory.
     pub fn put_head(&mut self, var: Var, value: u32)
         requires var { (var ≡ NPig) ⊎ (var ≡ NidBg) }
         requires fits { value < 2 ^ width_of var }

@@ -7,15 +7,16 @@ ghost use Rattle.balise_rules.specs.Tags.{same_tag};
 ghost use Rattle.balise_rules.specs.declared.tag.Tag.{Tag};
 ghost use Rattle.balise_telegram.specs.Moving.{place_after, inserted, Inserts, Shifts, Takes};
 
+use crate::PacketTag;
 use crate::fault::TelegramFault;
 use crate::telegram::Telegram;
 use balise_layout::Packet;
-use balise_rules::Tag;
 use std::alloc::AllocFailed;
 
 impl Telegram {
     /// Takes the packet with this tag out, and answers it and the tag of its next neighbour. Takes no memory.
-    pub fn take(&mut self, tag: Tag) -> Result<(Packet, Option<Tag>), TelegramFault>
+    /// Refused, and then all stays: `NoSuchPacket`.
+    pub fn take(&mut self, tag: PacketTag) -> Result<(Packet, Option<PacketTag>), TelegramFault>
         ensures { Takes tag self.old result self.new }
     {
         let Some(i) = self.place_of(tag) else {
@@ -26,11 +27,14 @@ impl Telegram {
         Ok((packet, next))
     }
 
-    /// Puts a packet in directly after the anchor, or first. Where it is refused it is handed back.
+    /// Puts a packet in directly after the anchor, or first where there is none.
+    ///
+    /// Refused in this order, and then all stays and the packet is handed back: `NoSuchPacket` where the anchor
+    /// doesn't stand, `NoRoom` where the packet is wider than the room, `OutOfMemory`.
     pub fn insert_after(
         &mut self,
-        anchor: Option<Tag>,
-        tag: Tag,
+        anchor: Option<PacketTag>,
+        tag: PacketTag,
         packet: Packet,
     ) -> Result<(), (TelegramFault, Packet)>
         requires { find same_tag tag self.old.packets ≡ None }
@@ -40,11 +44,14 @@ impl Telegram {
         self.put_in(place, tag, packet)
     }
 
-    /// Puts a packet in directly before the neighbour, or last. Where it is refused it is handed back.
+    /// Puts a packet in directly before the neighbour, or last where there is none.
+    ///
+    /// Refused in this order, and then all stays and the packet is handed back: `NoSuchPacket` where the neighbour
+    /// doesn't stand, `NoRoom` where the packet is wider than the room, `OutOfMemory`.
     pub fn put_before(
         &mut self,
-        next: Option<Tag>,
-        tag: Tag,
+        next: Option<PacketTag>,
+        tag: PacketTag,
         packet: Packet,
     ) -> Result<(), (TelegramFault, Packet)>
         requires { find same_tag tag self.old.packets ≡ None }
@@ -55,11 +62,14 @@ impl Telegram {
     }
 
     /// Moves the packet with this tag directly after the anchor, or to the first place, and answers the tag of its old next neighbour. Takes no memory.
+    ///
+    /// Refused in this order, and then all stays: `NoSuchPacket` where it or the anchor doesn't stand, `SamePlace`
+    /// where the anchor is itself or its left neighbour, or there is none and it is the first.
     pub fn shift_after(
         &mut self,
-        tag: Tag,
-        anchor: Option<Tag>,
-    ) -> Result<Option<Tag>, TelegramFault>
+        tag: PacketTag,
+        anchor: Option<PacketTag>,
+    ) -> Result<Option<PacketTag>, TelegramFault>
         ensures { Shifts tag anchor self.old result self.new }
     {
         let Some(from) = self.place_of(tag) else {
@@ -83,7 +93,7 @@ impl Telegram {
     fn put_in(
         &mut self,
         place: Option<usize>,
-        tag: Tag,
+        tag: PacketTag,
         packet: Packet,
     ) -> Result<(), (TelegramFault, Packet)>
         requires new { find same_tag tag self.old.packets ≡ None }
@@ -103,7 +113,7 @@ impl Telegram {
     }
 
     // The place directly after the anchor, or the first.
-    fn place_after(&self, anchor: Option<Tag>) -> Option<usize>
+    fn place_after(&self, anchor: Option<PacketTag>) -> Option<usize>
         ensures place { result ≡ place_after anchor self.now.packets }
         ensures there { is_some result ≡ stands same_tag anchor self.now.packets }
         ensures within { IfSome result (λ i. i ≤ length self.now.packets) }
@@ -119,7 +129,7 @@ impl Telegram {
     }
 
     // The place directly before the neighbour, or the last.
-    fn place_before(&self, next: Option<Tag>) -> Option<usize>
+    fn place_before(&self, next: Option<PacketTag>) -> Option<usize>
         ensures there { is_some result ≡ stands same_tag next self.now.packets }
         ensures within { IfSome result (λ i. i ≤ length self.now.packets) }
         ensures put { (z : Tag × Packet) → inserted result z self.now.packets ≡ put_before same_tag next z self.now.packets }
@@ -131,7 +141,7 @@ impl Telegram {
     }
 
     // The tag of the packet at a place.
-    fn tag_at(&self, i: usize) -> Option<Tag>
+    fn tag_at(&self, i: usize) -> Option<PacketTag>
         ensures { result ≡ option_map (λ q. q.0) (slice_get self.now.packets i) }
     {
         match self.packets.get(i) {

@@ -1,7 +1,7 @@
 //! What turning and renumbering change, and copies, with digits made by hand.
 
 use crate::tests::{TWO_PACKETS, shows, telegram};
-use balise_rules::{Tag, Var};
+use crate::{PacketTag, Var};
 
 // One packet 5 with one element.
 const LINKING: &str = "a1007f80a032c15022a07d00326301ffffffffffffffffffffffc0";
@@ -10,12 +10,12 @@ const LINKING: &str = "a1007f80a032c15022a07d00326301ffffffffffffffffffffffc0";
 fn turns_a_packet(rt: HostRuntime) {
     let alloc = rt.alloc();
     let mut telegram = telegram(&rt, alloc, TWO_PACKETS);
-    telegram.flip_dir(Tag::Base(2));
+    telegram.flip_dir(PacketTag::Base(2));
     assert!(rt; shows(&rt, alloc, &telegram, TWO_PACKETS));
-    telegram.flip_dir(Tag::Base(0));
+    telegram.flip_dir(PacketTag::Base(0));
     let turned = "a1007f80a03250800f82a1201f07ffffffffffffffffffffffffc0";
     assert!(rt; shows(&rt, alloc, &telegram, turned));
-    telegram.flip_dir(Tag::Base(0));
+    telegram.flip_dir(PacketTag::Base(0));
     assert!(rt; shows(&rt, alloc, &telegram, TWO_PACKETS));
 }
 
@@ -23,16 +23,16 @@ fn turns_a_packet(rt: HostRuntime) {
 fn changes_an_element(rt: HostRuntime) {
     let alloc = rt.alloc();
     let mut telegram = telegram(&rt, alloc, LINKING);
-    telegram.flip_link(Tag::Base(0), 1);
-    telegram.flip_link(Tag::Base(1), 0);
-    telegram.name_link(Tag::Base(0), 1, 777);
-    telegram.name_link(Tag::Base(1), 0, 777);
+    telegram.flip_link(PacketTag::Base(0), 1);
+    telegram.flip_link(PacketTag::Base(1), 0);
+    telegram.name_link(PacketTag::Base(0), 1, 777);
+    telegram.name_link(PacketTag::Base(1), 0, 777);
     assert!(rt; shows(&rt, alloc, &telegram, LINKING));
-    telegram.flip_link(Tag::Base(0), 0);
+    telegram.flip_link(PacketTag::Base(0), 0);
     let flipped = "a1007f80a032c15022a07d00322301ffffffffffffffffffffffc0";
     assert!(rt; shows(&rt, alloc, &telegram, flipped));
-    telegram.flip_link(Tag::Base(0), 0);
-    telegram.name_link(Tag::Base(0), 0, 777);
+    telegram.flip_link(PacketTag::Base(0), 0);
+    telegram.name_link(PacketTag::Base(0), 0, 777);
     let renamed = "a1007f80a032c15022a07d0184e301ffffffffffffffffffffffc0";
     assert!(rt; shows(&rt, alloc, &telegram, renamed));
 }
@@ -53,8 +53,8 @@ fn copies_a_telegram(rt: HostRuntime) {
     let alloc = rt.alloc();
     let mut telegram = telegram(&rt, alloc, TWO_PACKETS);
     let copy = telegram.copy().expect(&rt, "memory");
-    assert!(rt; telegram.take(Tag::Base(0)).is_ok());
+    assert!(rt; telegram.take(PacketTag::Base(0)).is_ok());
     assert_eq!(rt; copy.count(), 2);
-    assert!(rt; copy.packet(Tag::Base(1)).is_some());
+    assert!(rt; copy.packet(PacketTag::Base(1)).is_some());
     assert!(rt; shows(&rt, alloc, &copy, TWO_PACKETS));
 }

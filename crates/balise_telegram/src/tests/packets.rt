@@ -1,10 +1,7 @@
 //! Packets taken out and put in, with digits made by hand.
 
 use crate::tests::{TWO_PACKETS, shows, telegram};
-use crate::{Telegram, TelegramFault};
-use balise_bits::Bits;
-use balise_layout::Packet;
-use balise_rules::{Tag, Var};
+use crate::{Bits, Packet, PacketTag, Telegram, TelegramFault, Var};
 use std::alloc::Global;
 use std::process::Abort;
 
@@ -19,44 +16,55 @@ const COLOURED_ONE: &str = "a1007f80a03250900f82ffda5a5a5a5a5a5a5a5a5a5a5a5a5a5a
 // The two packets, the second one first.
 const EXCHANGED: &str = "a1007f80a03250900f83a1201f05ffffffffffffffffffffffffc0";
 
-/// Packet 66, which takes back restriction 5.
-pub fn revocation(rt: &impl Abort, alloc: Global) -> Packet {
-    let bits = Bits::from_hex(alloc, "42403e0a", 31).expect(rt, "digits");
+/// Packets 66, which take back restrictions 5 and 9.
+const FIVE: &str = "42403e0a";
+
+const NINE: &str = "42403e12";
+
+/// The bits of such a packet.
+fn packet_bits(rt: &impl Abort, alloc: Global, text: &str) -> Bits {
+    Bits::from_hex(alloc, text, 31).expect(rt, "digits")
+}
+
+fn packet(rt: &impl Abort, alloc: Global, text: &str) -> Packet {
+    let bits = packet_bits(rt, alloc, text);
     Packet::read(&bits, 0, 33).expect(rt, "a packet").0
 }
 
-type Outcome = Result<(), (TelegramFault, Packet)>;
+pub(crate) type Outcome = Result<(), (TelegramFault, Packet)>;
 
-/// Puts that packet in after the anchor, under a new tag.
-fn put_after(
+/// Puts a packet in after the anchor, under a new tag.
+pub(crate) fn put_after(
     rt: &impl Abort,
-    alloc: Global,
     telegram: &mut Telegram,
-    anchor: Option<Tag>,
-    tag: Tag,
+    anchor: Option<PacketTag>,
+    tag: PacketTag,
+    packet: Packet,
 ) -> Outcome {
     assert!(rt; telegram.packet(tag).is_none());
-    telegram.insert_after(anchor, tag, revocation(rt, alloc))
+    telegram.insert_after(anchor, tag, packet)
 }
 
-/// Puts that packet in before the neighbour, under a new tag.
-fn put_before(
+/// Puts a packet in before the neighbour, under a new tag.
+pub(crate) fn put_before(
     rt: &impl Abort,
-    alloc: Global,
     telegram: &mut Telegram,
-    next: Option<Tag>,
-    tag: Tag,
+    next: Option<PacketTag>,
+    tag: PacketTag,
+    packet: Packet,
 ) -> Outcome {
     assert!(rt; telegram.packet(tag).is_none());
-    telegram.put_before(next, tag, revocation(rt, alloc))
+    telegram.put_before(next, tag, packet)
 }
 
-/// Why a packet was handed back, where it is the one that was given.
-fn handed_back(outcome: Outcome) -> Option<TelegramFault> {
-    match outcome {
-        Err((fault, packet)) if packet.field(Var::NidTsr, 0) == Some(5) => Some(fault),
-        _ => None,
-    }
+/// Why a packet was handed back, where it has these bits.
+pub(crate) fn handed_back(rt: &impl Abort, outcome: Outcome, bits: &Bits) -> Option<TelegramFault> {
+    let Err((fault, packet)) = outcome else {
+        return None;
+    };
+    let mut given = bits.slice(0, 0).expect(rt, "memory");
+    packet.write(&mut given).expect(rt, "memory");
+    if given == *bits { Some(fault) } else { None }
 }
 
 /// Whether the packets have these restrictions, in order.
@@ -76,14 +84,15 @@ fn puts_a_packet_in_and_takes_it_out(rt: HostRuntime) {
     let alloc = rt.alloc();
     for (before, after) in [(EMPTY, ONE_PACKET), (COLOURED, COLOURED_ONE)] {
         let mut telegram = telegram(&rt, alloc, before);
-        let first = put_after(&rt, alloc, &mut telegram, None, Tag::Fresh(1));
-        assert!(rt; first.is_ok());
+        let tag = PacketTag::Fresh(1);
+        let five = packet(&rt, alloc, FIVE);
+        assert!(rt; put_after(&rt, &mut telegram, None, tag, five).is_ok());
         assert!(rt; shows(&rt, alloc, &telegram, after));
-        let (packet, next) = telegram.take(Tag::Fresh(1)).expect(&rt, "a packet");
+        let (packet, next) = telegram.take(tag).expect(&rt, "a packet");
         assert!(rt; packet.field(Var::NidTsr, 0) == Some(5));
         assert!(rt; next.is_none());
         assert!(rt; shows(&rt, alloc, &telegram, before));
-        assert!(rt; telegram.take(Tag::Fresh(1)).is_err());
+        assert!(rt; telegram.take(tag).is_err());
     }
 }
 
@@ -91,16 +100,18 @@ fn puts_a_packet_in_and_takes_it_out(rt: HostRuntime) {
 fn puts_a_packet_in_after_another(rt: HostRuntime) {
     let alloc = rt.alloc();
     let mut telegram = telegram(&rt, alloc, TWO_PACKETS);
-    let last = put_after(&rt, alloc, &mut telegram, Some(Tag::Base(1)), Tag::Fresh(1));
-    assert!(rt; last.is_ok());
-    assert!(rt; has(&telegram, &[5, 7, 5]));
-    let (_, next) = telegram.take(Tag::Base(1)).expect(&rt, "a packet");
-    assert!(rt; next == Some(Tag::Fresh(1)));
-    assert!(rt; has(&telegram, &[5, 5]));
-    assert!(rt; telegram.set_field(Tag::Fresh(1), Var::NidTsr, 0, 9) == Ok(5));
-    let middle = put_after(&rt, alloc, &mut telegram, Some(Tag::Base(0)), Tag::Fresh(2));
-    assert!(rt; middle.is_ok());
-    assert!(rt; has(&telegram, &[5, 5, 9]));
+    for (anchor, tag, restrictions) in [
+        (Some(PacketTag::Base(0)), PacketTag::Fresh(1), [5, 9, 7]),
+        (Some(PacketTag::Base(1)), PacketTag::Fresh(2), [5, 7, 9]),
+        (None, PacketTag::Fresh(3), [9, 5, 7]),
+    ] {
+        let nine = packet(&rt, alloc, NINE);
+        assert!(rt; put_after(&rt, &mut telegram, anchor, tag, nine).is_ok());
+        assert!(rt; has(&telegram, &restrictions));
+        assert!(rt; telegram.set_field(tag, Var::NidTsr, 0, 8) == Ok(9));
+        assert!(rt; telegram.take(tag).is_ok());
+        assert!(rt; shows(&rt, alloc, &telegram, TWO_PACKETS));
+    }
 }
 
 #[test]
@@ -108,12 +119,15 @@ fn puts_a_packet_in_before_another(rt: HostRuntime) {
     let alloc = rt.alloc();
     let mut telegram = telegram(&rt, alloc, TWO_PACKETS);
     for (next, tag, restrictions) in [
-        (Some(Tag::Base(1)), Tag::Fresh(1), [5, 5, 7]),
-        (None, Tag::Fresh(2), [5, 7, 5]),
+        (Some(PacketTag::Base(0)), PacketTag::Fresh(1), [9, 5, 7]),
+        (Some(PacketTag::Base(1)), PacketTag::Fresh(2), [5, 9, 7]),
+        (None, PacketTag::Fresh(3), [5, 7, 9]),
     ] {
-        assert!(rt; put_before(&rt, alloc, &mut telegram, next, tag).is_ok());
+        let nine = packet(&rt, alloc, NINE);
+        assert!(rt; put_before(&rt, &mut telegram, next, tag, nine).is_ok());
         assert!(rt; has(&telegram, &restrictions));
-        assert!(rt; telegram.take(tag).is_ok());
+        let (_, was) = telegram.take(tag).expect(&rt, "a packet");
+        assert!(rt; was == next);
         assert!(rt; shows(&rt, alloc, &telegram, TWO_PACKETS));
     }
 }
@@ -122,18 +136,26 @@ fn puts_a_packet_in_before_another(rt: HostRuntime) {
 fn hands_a_refused_packet_back(rt: HostRuntime) {
     let alloc = rt.alloc();
     let mut telegram = telegram(&rt, alloc, TWO_PACKETS);
-    let lacking = Some(Tag::Base(2));
-    let outcome = put_after(&rt, alloc, &mut telegram, lacking, Tag::Fresh(1));
-    assert!(rt; handed_back(outcome) == Some(TelegramFault::NoSuchPacket));
-    let outcome = put_before(&rt, alloc, &mut telegram, lacking, Tag::Fresh(1));
-    assert!(rt; handed_back(outcome) == Some(TelegramFault::NoSuchPacket));
+    let given = packet_bits(&rt, alloc, NINE);
+    let (lacking, tag) = (Some(PacketTag::Base(2)), PacketTag::Fresh(9));
+    let nine = packet(&rt, alloc, NINE);
+    let outcome = put_after(&rt, &mut telegram, lacking, tag, nine);
+    assert!(rt; handed_back(&rt, outcome, &given) == Some(TelegramFault::NoSuchPacket));
+    let nine = packet(&rt, alloc, NINE);
+    let outcome = put_before(&rt, &mut telegram, lacking, tag, nine);
+    assert!(rt; handed_back(&rt, outcome, &given) == Some(TelegramFault::NoSuchPacket));
     assert!(rt; shows(&rt, alloc, &telegram, TWO_PACKETS));
     for n in 0..2 {
-        assert!(rt; put_before(&rt, alloc, &mut telegram, None, Tag::Fresh(n)).is_ok());
+        let five = packet(&rt, alloc, FIVE);
+        assert!(rt; put_before(&rt, &mut telegram, None, PacketTag::Fresh(n), five).is_ok());
     }
     assert_eq!(rt; telegram.room(), 28);
-    let outcome = put_after(&rt, alloc, &mut telegram, None, Tag::Fresh(2));
-    assert!(rt; handed_back(outcome) == Some(TelegramFault::NoRoom));
+    let nine = packet(&rt, alloc, NINE);
+    let outcome = put_after(&rt, &mut telegram, None, tag, nine);
+    assert!(rt; handed_back(&rt, outcome, &given) == Some(TelegramFault::NoRoom));
+    let nine = packet(&rt, alloc, NINE);
+    let outcome = put_before(&rt, &mut telegram, None, tag, nine);
+    assert!(rt; handed_back(&rt, outcome, &given) == Some(TelegramFault::NoRoom));
     assert_eq!(rt; TelegramFault::NoRoom.refusal().number(), 20);
     assert!(rt; has(&telegram, &[5, 7, 5, 5]));
 }
@@ -142,24 +164,27 @@ fn hands_a_refused_packet_back(rt: HostRuntime) {
 fn moves_a_packet(rt: HostRuntime) {
     let alloc = rt.alloc();
     let mut telegram = telegram(&rt, alloc, TWO_PACKETS);
-    let (first, second) = (Tag::Base(0), Tag::Base(1));
+    let (first, second) = (PacketTag::Base(0), PacketTag::Base(1));
     assert!(rt; telegram.shift_after(first, Some(second)) == Ok(Some(second)));
     assert!(rt; shows(&rt, alloc, &telegram, EXCHANGED));
     assert!(rt; telegram.shift_after(first, None) == Ok(None));
     assert!(rt; shows(&rt, alloc, &telegram, TWO_PACKETS));
-    assert!(rt; put_before(&rt, alloc, &mut telegram, None, Tag::Fresh(1)).is_ok());
-    assert!(rt; telegram.shift_after(Tag::Fresh(1), Some(first)) == Ok(None));
-    assert!(rt; has(&telegram, &[5, 5, 7]));
-    assert!(rt; telegram.shift_after(first, Some(Tag::Fresh(1))) == Ok(Some(Tag::Fresh(1))));
+    let third = PacketTag::Fresh(1);
+    let nine = packet(&rt, alloc, NINE);
+    assert!(rt; put_before(&rt, &mut telegram, None, third, nine).is_ok());
+    assert!(rt; telegram.shift_after(third, Some(first)) == Ok(None));
+    assert!(rt; has(&telegram, &[5, 9, 7]));
+    assert!(rt; telegram.shift_after(first, Some(third)) == Ok(Some(third)));
+    assert!(rt; has(&telegram, &[9, 5, 7]));
     assert!(rt; telegram.shift_after(second, None) == Ok(None));
-    assert!(rt; has(&telegram, &[7, 5, 5]));
+    assert!(rt; has(&telegram, &[7, 9, 5]));
 }
 
 #[test]
 fn says_why_a_packet_is_not_moved(rt: HostRuntime) {
     let alloc = rt.alloc();
     let mut telegram = telegram(&rt, alloc, TWO_PACKETS);
-    let (first, second, lacking) = (Tag::Base(0), Tag::Base(1), Tag::Base(2));
+    let (first, second, lacking) = (PacketTag::Base(0), PacketTag::Base(1), PacketTag::Base(2));
     for (tag, anchor, fault) in [
         (lacking, Some(lacking), TelegramFault::NoSuchPacket),
         (first, Some(lacking), TelegramFault::NoSuchPacket),

@@ -9,7 +9,6 @@ use Rattle.balise_rules.specs.Telegram.{header, read_packets, read_header, read_
 use Rattle.balise_rules.specs.Plan.{read_telegrams, read_group}
 use Rattle.balise_rules.specs.Edits.{group_of}
 use Rattle.balise_rules.specs.Addresses.{packet_in}
-use Rattle.balise_rules.proofs.JournalRowsHold as journals
 use Rattle.balise_rules.proofs.rows.strike_rows.Goals as goal
 
 -- each side of a row computes to the other
@@ -19,8 +18,4 @@ returns c = record {
   two_inserted = (refl, refl, refl);
   two_added = (refl, refl);
   moved_behind = (refl, refl);
-  set_said = journals.set_said;
-  struck_said = journals.struck_said;
-  entry_follows = journals.entry_follows;
-  journals_refused = journals.journals_refused;
 }

@@ -6,7 +6,7 @@ use Rattle.balise_rules.specs.Addresses as rules
 use Rattle.balise_cli.specs.declared.edit.Entry.{Entry}
 use Rattle.balise_cli.specs.Held.{asked, edit_of}
 use Rattle.balise_cli.specs.Sessions.{state_of}
-use Rattle.balise_cli.proofs.Results.{unless_err, pushed}
+use Rattle.balise_cli.proofs.Results.{pushed}
 use Rattle.balise_cli.proofs.Steps.{EditStep, edit_kept, edit_state, edit_answered}
 use Rattle.balise_cli.proofs.session.Session.edit.Goals as goal
 
@@ -16,7 +16,7 @@ entry_of c = record { serial = c.self.inside.serial; edit = c.in_ok-edit.edit; o
 items : (c : goal.After-self-3-1) → c.push-pushed.new.self.items ≡ take c.self.inside.standing c.self.inside.entries.items ++ entry_of c ∷ []
 unfolding entry_of
 items c =
-    let room = unless_err c.reserve.result c.reserve.ensures.ok c.if-is_err.ensures.value in
+    let room = c.in_ok-reserve.ensures.ok in
     let e = entry_of c in
     pushed c.push-pushed.result c.push-pushed.new.self.items c.truncate.new.self.items e c.push-pushed.ensures.items (c.push-pushed.ensures.succeeds (omega (arith, room)))
     ∙ ap (λ (l : List Entry). l ++ e ∷ []) (c.truncate.ensures.items ∙ ap (take c.self.inside.standing) c.reserve.ensures.items)

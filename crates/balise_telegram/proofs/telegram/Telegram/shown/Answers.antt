@@ -18,7 +18,7 @@ returns-clause-ok c =
     let items : ps ≡ c.self.inside.packets.items = c.deref-packet-items.ensures.value in
     let u : c.used-used.result ≡ used ps = c.used-used.ensures ∙ ap (λ (x : Telegram). used x.packets) (sym c.self.view_is) ∙ ap used (sym items) in
     let part_is : c.append_part.new.self ≡ c.push.new.self ++ part c.used-used.result (length padding - c.used-used.result) padding =
-    c.in_ok-append_part.ensures.ok ∙ ap (λ (k : ℕ). c.push.new.self ++ part c.used-used.result (k - c.used-used.result) padding) c.len-2.ensures in
+    c.in_ok-append_part.ensures.ok ∙ ap (λ (k : ℕ). c.push.new.self ++ part c.used-used.result (k - c.used-used.result) padding) (c.width-2.ensures.width ∙ ap (λ (x : Telegram). length x.padding) (sym c.self.view_is)) in
     shown_is (spelling y.head) ps padding c.loop-packet.bits c.push.new.self c.append_part.new.self c.loop-packet.packet-index c.used-used.result (let h = c.loop-packet-test.false in omega arith) c.loop-packet.invariant c.in_ok-push.ensures.ok u part_is
     ∙ ap (λ (x : Telegram). spelling x.head ++ (packets_bits ps ++ (ones 8 ++ drop (used ps) padding))) (sym c.self.view_is)
     ∙ ap (λ (l : List (Tag × Packet)). spelling c.self.inside.header ++ (packets_bits l ++ (ones 8 ++ drop (used l) padding))) items

@@ -1,5 +1,5 @@
 use Rattle.balise_strike_laws.proofs.Symmetry.{symmetric}
-use Rattle.balise_strike_laws.proofs.independent_from_both_sides.Goals as goal
+use Rattle.balise_strike_laws.proofs.apart_from_both_sides.Goals as goal
 
 pub returns : goal.returns
 returns c = symmetric

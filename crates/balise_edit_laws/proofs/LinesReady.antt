@@ -5,22 +5,19 @@ use Rattle.std.specs.Prelude.{is_none}
 use Rattle.std.proofs.lemmas.Bool.{and_parts, ltb-true, eqb-true}
 use Rattle.balise_rules.specs.declared.refusal.Refusal.{Refusal}
 use Rattle.balise_rules.specs.declared.tag.Tag.{Tag}
-use Rattle.balise_rules.specs.Tagged.{same_spot}
-use Rattle.balise_rules.specs.Tags.{same_tag}
 use Rattle.balise_rules.specs.Packet.{Packet, IsSpelt}
 use Rattle.balise_rules.specs.Telegram.{Telegram, version_of}
-use Rattle.balise_rules.specs.Plan.{Plan, IsSound, telegram_at}
+use Rattle.balise_rules.specs.Plan.{Plan, telegram_at}
 use Rattle.balise_rules.specs.Edits.{Edit, Item, InsertPacket}
 use Rattle.balise_rules.specs.Notes.{noted}
 use Rattle.balise_rules.specs.Doing.{refusal}
-use Rattle.balise_rules.specs.Accepting.{Accepted, Unused, Spelt}
+use Rattle.balise_rules.specs.Accepting.{Spelt}
 use Rattle.balise_rules.specs.Addresses.{packet_in}
 use Rattle.balise_rules.specs.Journal.{Line, LineEdit, LineSetVar, LineSetHead, LineInsertPacket, LineDeletePacket, LineMovePacket, LineAddGroup, LineDropGroup, LineRenumber, LineTurnGroup, Noted, Nothing, Value, Number, BeforePacket, BeforeGroup, noted_of, same_noted}
 use Rattle.balise_rules.specs.Opening.{or_nothing, packet_for, inserting, edit_in, fits_line, if_fits, item_of}
-use Rattle.balise_rules.proofs.Tests.{split_on, tag_test, nat_test}
+use Rattle.balise_rules.proofs.Tests.{tag_test, spot_one}
 use Rattle.balise_rules.proofs.Cases.{unsome}
-use Rattle.balise_edit_laws.specs.TakenBack.{IsReady}
-use Rattle.balise_edit_laws.specs.Lines.{Fitting, LinesReady}
+use Rattle.balise_edit_laws.specs.Lines.{LinesReady}
 use Rattle.balise_edit_laws.proofs.Refusing.{refused_exactly}
 use Rattle.balise_edit_laws.proofs.ReadyCommands.{word_spelt}
 
@@ -56,18 +53,12 @@ line_spelt (LineDropGroup g) plan e h = subst (λ f. Spelt f plan) (unsome h) tt
 line_spelt (LineRenumber g n) plan e h = subst (λ f. Spelt f plan) (unsome h) tt
 line_spelt (LineTurnGroup g) plan e h = subst (λ f. Spelt f plan) (unsome h) tt
 
-same_spots : (a b : Option Tag) → same_spot same_tag a b ≡ true → a ≡ b
-same_spots None None h = refl
-same_spots (Some a) (Some b) h = ap (λ t. Some t) (tag_test.one a b h)
-same_spots None (Some b) h = absurd cc
-same_spots (Some a) None h = absurd cc
-
 noted_same : (m n : Noted) → same_noted m n ≡ true → m ≡ n
 noted_same Nothing Nothing h = refl
 noted_same (Value m) (Value n) h = ap (λ x. Value x) (eqb-true m n h)
 noted_same (Number m) (Number n) h = ap (λ x. Number x) (eqb-true m n h)
-noted_same (BeforePacket a) (BeforePacket b) h = ap (λ x. BeforePacket x) (same_spots a b h)
-noted_same (BeforeGroup a) (BeforeGroup b) h = ap (λ x. BeforeGroup x) (same_spots a b h)
+noted_same (BeforePacket a) (BeforePacket b) h = ap (λ x. BeforePacket x) (spot_one tag_test a b h)
+noted_same (BeforeGroup a) (BeforeGroup b) h = ap (λ x. BeforeGroup x) (spot_one tag_test a b h)
 noted_same m n h = absurd cc
 
 -- the edit of a line that fits

@@ -51,6 +51,12 @@ pub spot_itself : {K : Type 0} {same : K → K → Bool} → IsTest same → (a 
 spot_itself t None = refl
 spot_itself t (Some a) = t.itself a
 
+pub spot_one : {K : Type 0} {same : K → K → Bool} → IsTest same → (a b : Option K) → same_spot same a b ≡ true → a ≡ b
+spot_one t None None e = refl
+spot_one t None (Some b) e = cc
+spot_one t (Some a) None e = cc
+spot_one t (Some a) (Some b) e = ap Some (t.one a b e)
+
 pub flip_spot : {K : Type 0} {same : K → K → Bool} → IsTest same → (a b : Option K) → same_spot same a b ≡ false → same_spot same b a ≡ false
 flip_spot t None None n = n
 flip_spot t None (Some b) n = refl

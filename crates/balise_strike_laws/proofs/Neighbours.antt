@@ -8,7 +8,7 @@ use Rattle.balise_rules.specs.declared.tag.Tag.{Tag}
 use Rattle.balise_rules.specs.Tagged.{same_spot, find, without, each, next, behind, Distinct, move, Change, Each, Put, Take, Move, changed}
 use Rattle.balise_rules.specs.Tags.{same_tag}
 use Rattle.balise_rules.specs.Accepting.{Stands}
-use Rattle.balise_rules.proofs.Tests.{split_on, flip_spot, spot_itself, tag_test}
+use Rattle.balise_rules.proofs.Tests.{split_on, flip_spot, spot_itself, tag_test, spot_one}
 use Rattle.balise_rules.proofs.Lists.{find-put, find-without, find-each, next-put, next-each, next-without, next-gone}
 use Rattle.balise_rules.proofs.Cases.{found}
 use Rattle.balise_rules.proofs.Moved.{find-move}
@@ -59,12 +59,6 @@ pub without-move : {A : Type 0} → (c : Option Tag) → (q : Tag) → (a : Opti
     same_spot same_tag c (Some q) ≡ false → next same_tag c (move same_tag q a xs) ≡ next same_tag c (without same_tag q xs)
 without-move c q a xs n m = found (find same_tag q xs) (λ e. simp e) (λ x e. simp e (next-put tag_test c a (q, x) n m (without same_tag q xs)))
 
-pub spot-true : (a b : Option Tag) → same_spot same_tag a b ≡ true → a ≡ b
-spot-true None None e = refl
-spot-true None (Some b) e = cc
-spot-true (Some a) None e = cc
-spot-true (Some a) (Some b) e = ap Some (tag_test.one a b e)
-
 pub next-kept : {A : Type 0} → (y : Change Tag A) → (c : Option Tag) → (xs : List (Tag × A)) → Free y c → takes y (next same_tag c xs) ≡ false →
     next same_tag c (changed same_tag y xs) ≡ next same_tag c xs
 next-kept (Each f) c xs h t = next-each same_tag f c xs
@@ -76,8 +70,8 @@ pub next-moved : {A : Type 0} → (y : Change Tag A) → (c : Option Tag) → (x
     next same_tag c (changed same_tag y xs) ≡ noted_change y xs
 next-moved (Each f) c xs u h t = absurd (false≢true t)
 next-moved (Put a z) c xs u h t = absurd (false≢true t)
-next-moved (Take q) c xs u h t = next-gone tag_test c q h xs u (sym (spot-true (Some q) (next same_tag c xs) t))
-next-moved (Move q a) c xs u h t = without-move c q a xs h.1 h.0 ∙ next-gone tag_test c q h.0 xs u (sym (spot-true (Some q) (next same_tag c xs) t))
+next-moved (Take q) c xs u h t = next-gone tag_test c q h xs u (sym (spot_one tag_test (Some q) (next same_tag c xs) t))
+next-moved (Move q a) c xs u h t = without-move c q a xs h.1 h.0 ∙ next-gone tag_test c q h.0 xs u (sym (spot_one tag_test (Some q) (next same_tag c xs) t))
 
 -- an anchor that a change leaves alone stands before it as after it
 pub stands-kept : {A : Type 0} → (y : Change Tag A) → (c : Option Tag) → (xs : List (Tag × A)) → Free y c → Stands c xs → Stands c (changed same_tag y xs)
@@ -140,7 +134,7 @@ accepts-back x (Take q) xs l s = stood x (Some q) xs l.0 s
 accepts-back x (Move q c) xs l s = (stood x (Some q) xs l.0 s.0, stood x c xs l.2 s.1, s.2, not_there) where
   not_there : same_spot same_tag (next same_tag c xs) (Some q) ≡ false
   not_there = split_on (same_spot same_tag (next same_tag c xs) (Some q))
-      (λ e. let w = spot-true (next same_tag c xs) (Some q) e in
+      (λ e. let w = spot_one tag_test (next same_tag c xs) (Some q) e in
       let k : takes x (next same_tag c xs) ≡ false = ap (takes x) w ∙ free-takes x (Some q) l.0 in
       let g = next-kept x c xs l.2 k in
       absurd (both_ways (same_spot same_tag (next same_tag c (changed same_tag x xs)) (Some q)) s.3 (ap (λ b. same_spot same_tag b (Some q)) g ∙ e)))

@@ -19,7 +19,7 @@ use Rattle.balise_rules.proofs.Each.{each-id}
 use Rattle.balise_edit_laws.proofs.PlansRead.{plan_read}
 use Rattle.balise_cli.specs.declared.edit.Edit.{Edit}
 use Rattle.balise_cli.specs.declared.edit.Edit.TheVariants.{SetVar, SetHead}
-use Rattle.balise_cli.specs.Held.{IsHeld, WasRead, edit_of, group_of, plan_of, telegram_tags_of}
+use Rattle.balise_cli.specs.Private.{IsUnedited, WasRead, edit_of, group_of, plan_of, telegram_tags_of}
 use Rattle.balise_cli.specs.PlanLines.{with_read}
 use Rattle.balise_cli.specs.Finding.{Sets, fault_in, set_in}
 use Rattle.balise_cli.proofs.Ready.{held_kept}
@@ -79,12 +79,12 @@ pub set_makes : (e : Edit) → (y z : Telegram) → (r : Result ℕ Refusal) →
 set_makes e y z (Ok n) h was = λ s. ap alone was.2 ∙ makes e y h s
 set_makes e y z (Err r) h was = tt
 
-pub set_held : (e : Edit) → (y z : Telegram) → (r : Result ℕ Refusal) → telegram_tags_of e ≡ (Base 0, 0) → IsHeld (alone y) → Sets e y r z → IsHeld (alone z)
-set_held e y z (Ok n) h held was = subst IsHeld (sym (ap alone was.2 ∙ makes e y h 0)) (held_kept 0 e (alone y) held (sym (refuses e y h) ∙ was.0))
-set_held e y z (Err r) h held was = subst (λ x. IsHeld (alone x)) (sym was.1) held
+pub set_held : (e : Edit) → (y z : Telegram) → (r : Result ℕ Refusal) → telegram_tags_of e ≡ (Base 0, 0) → IsUnedited (alone y) → Sets e y r z → IsUnedited (alone z)
+set_held e y z (Ok n) h held was = subst IsUnedited (sym (ap alone was.2 ∙ makes e y h 0)) (held_kept 0 e (alone y) held (sym (refuses e y h) ∙ was.0))
+set_held e y z (Err r) h held was = subst (λ x. IsUnedited (alone x)) (sym was.1) held
 
 -- a telegram that was read makes a plan that is held, where the group of it isn't at fault
-pub read_held : (y : Telegram) → WasRead (Some y) → with_read [] (group_of (Some y)) ≡ Ok (alone y) → IsHeld (alone y)
+pub read_held : (y : Telegram) → WasRead (Some y) → with_read [] (group_of (Some y)) ≡ Ok (alone y) → IsUnedited (alone y)
 unfolding read_group read_telegrams
 read_held y was ok =
     let r : read_plan ((was.0 ∷ []) ∷ []) ≡ Ok (alone y) = ap (λ (r : Result Telegram Refusal). with_group [] (checked_group (with_telegrams 0 r (Ok [])))) was.1 ∙ ok in

@@ -7,24 +7,24 @@ use Rattle.balise_rules.specs.Doing.{done, refusal}
 use Rattle.balise_rules.specs.Session.{made}
 use Rattle.balise_edit_laws.proofs.Refusing.{refused_exactly}
 use Rattle.balise_cli.specs.declared.edit.Entry.{Entry}
-use Rattle.balise_cli.specs.Held.{IsHeld, edit_of, item_of, setting}
+use Rattle.balise_cli.specs.Private.{IsUnedited, edit_of, item_of, setting}
 use Rattle.balise_cli.specs.Sessions.{Stands, before}
 use Rattle.balise_cli.proofs.OldValues.{old_stands, back_is, taken_back}
 use Rattle.balise_cli.proofs.Standing.{StandsOn, held_along, made_with, before_with, stand_with, stood_with, rise_with, rose_with, rise_up}
 
 -- what stands makes a plan that is held
-pub held_now : (base : Plan) → (es : List Entry) → (serial : ℕ) → (plan : Plan) → Stands base es serial plan → IsHeld plan
-held_now base es serial plan s = subst IsHeld s.makes (held_along es base s.held s.accepted)
+pub held_now : (base : Plan) → (es : List Entry) → (serial : ℕ) → (plan : Plan) → Stands base es serial plan → IsUnedited plan
+held_now base es serial plan s = subst IsUnedited s.makes (held_along es base s.held s.accepted)
 
 -- an entry of an edit that nothing refuses
 pub record IsNew (e : Entry) (plan : Plan) : Type 0 where
   pub none : refusal (edit_of e.edit) plan ≡ None
   pub old : (noted (edit_of e.edit) plan).old ≡ e.old
 
-pub new_stands : (e : Entry) → (plan : Plan) → IsHeld plan → IsNew e plan → StandsOn e plan
+pub new_stands : (e : Entry) → (plan : Plan) → IsUnedited plan → IsNew e plan → StandsOn e plan
 new_stands e plan held n = record { accepted = (refused_exactly (edit_of e.edit) plan held.sound).0 n.none; old = n.old }
 
-pub base_with : (es : List Entry) → (e : Entry) → (plan : Plan) → IsHeld plan → IsNew e plan → before (es ++ e ∷ []) (done (item_of e) plan) ≡ before es plan
+pub base_with : (es : List Entry) → (e : Entry) → (plan : Plan) → IsUnedited plan → IsNew e plan → before (es ++ e ∷ []) (done (item_of e) plan) ≡ before es plan
 base_with es e plan held n =
     let o = new_stands e plan held n in
     before_with es e (done (item_of e) plan) ∙ ap (before es) (taken_back e.serial e.edit e.old plan held o.accepted o.old)

@@ -25,7 +25,7 @@ use Rattle.balise_edit_laws.proofs.Refusing.{refused_exactly}
 use Rattle.balise_edit_laws.proofs.TakingBack.{taking_back}
 use Rattle.balise_cli.specs.declared.edit.Edit.{Edit}
 use Rattle.balise_cli.specs.declared.edit.Edit.TheVariants as edit
-use Rattle.balise_cli.specs.Held.{IsHeld, edit_of, setting}
+use Rattle.balise_cli.specs.Private.{IsUnedited, edit_of, setting}
 use Rattle.balise_cli.proofs.Ready.{held_kept}
 
 -- the telegram that stands under its tags after a setting
@@ -77,7 +77,7 @@ accepted_again s (edit.SetVar g t p v k n) plan sound a = field_again s g t p v 
 accepted_again s (edit.SetHead g t v n) plan sound a = head_again s g t v n plan sound a
 
 -- the old value is set without a refusal
-pub old_stands : (s : ℕ) → (e : Edit) → (old : ℕ) → (plan : Plan) → IsHeld plan → Accepted (edit_of e) plan → (noted (edit_of e) plan).old ≡ old → refusal (edit_of (setting old e)) (done (s, edit_of e) plan) ≡ None
+pub old_stands : (s : ℕ) → (e : Edit) → (old : ℕ) → (plan : Plan) → IsUnedited plan → Accepted (edit_of e) plan → (noted (edit_of e) plan).old ≡ old → refusal (edit_of (setting old e)) (done (s, edit_of e) plan) ≡ None
 old_stands s e old plan held a is =
     let next = held_kept s e plan held ((refused_exactly (edit_of e) plan held.sound).1 a) in
     subst (λ n. refusal (edit_of (setting n e)) (done (s, edit_of e) plan) ≡ None) is ((refused_exactly (edit_of (setting (noted (edit_of e) plan).old e)) (done (s, edit_of e) plan) next.sound).1 (accepted_again s e plan held.sound a))
@@ -92,7 +92,7 @@ back_as_noted s (edit.SetVar g t p v k n) before plan = refl
 back_as_noted s (edit.SetHead g t v n) before plan = refl
 
 -- taken back by the old value alone, an edit leaves the plan as it was
-pub taken_back : (s : ℕ) → (e : Edit) → (old : ℕ) → (plan : Plan) → IsHeld plan → Accepted (edit_of e) plan → (noted (edit_of e) plan).old ≡ old → back (s, edit_of e) (record nothing { old = old }) (done (s, edit_of e) plan) ≡ plan
+pub taken_back : (s : ℕ) → (e : Edit) → (old : ℕ) → (plan : Plan) → IsUnedited plan → Accepted (edit_of e) plan → (noted (edit_of e) plan).old ≡ old → back (s, edit_of e) (record nothing { old = old }) (done (s, edit_of e) plan) ≡ plan
 taken_back s e old plan held a is =
     ap (λ n. back (s, edit_of e) (record nothing { old = n }) (done (s, edit_of e) plan)) (sym is)
     ∙ back_as_noted s e plan (done (s, edit_of e) plan)

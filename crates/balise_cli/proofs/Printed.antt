@@ -7,7 +7,7 @@ use Rattle.balise_rules.specs.Telegram.{Telegram, shown}
 use Rattle.balise_rules.specs.Plan.{Plan}
 use Rattle.balise_lines.specs.Writing.{AppendsSome}
 use Rattle.balise_lines.proofs.WrittenTexts.{some_after, some_all, some_front}
-use Rattle.balise_cli.specs.Held.{plan_of}
+use Rattle.balise_cli.specs.Private.{plan_of}
 use Rattle.balise_cli.specs.Replies.{Text, group_lines, plan_text, text_of}
 
 -- the lines of the one group, with the digits of its telegram

@@ -10,7 +10,7 @@ use Rattle.balise_edit_laws.proofs.SoundKept.{sound_kept}
 use Rattle.balise_edit_laws.proofs.UnusedKept.{unused_kept}
 use Rattle.balise_cli.specs.declared.edit.Edit.{Edit}
 use Rattle.balise_cli.specs.declared.edit.Edit.TheVariants.{SetVar, SetHead}
-use Rattle.balise_cli.specs.Held.{IsHeld, edit_of}
+use Rattle.balise_cli.specs.Private.{IsUnedited, edit_of}
 
 pub no_packet : (e : Edit) → (plan : Plan) → Spelt (edit_of e) plan
 no_packet (SetVar g t p v k n) plan = tt
@@ -21,10 +21,10 @@ pub any_serial : (e : Edit) → (s t : ℕ) → (plan : Plan) → done (s, edit_
 any_serial (SetVar g t0 p v k n) s t plan = refl
 any_serial (SetHead g t0 v n) s t plan = refl
 
-pub ready : (s : ℕ) → (e : Edit) → (plan : Plan) → IsHeld plan → refusal (edit_of e) plan ≡ None → IsReady (s, edit_of e) plan
+pub ready : (s : ℕ) → (e : Edit) → (plan : Plan) → IsUnedited plan → refusal (edit_of e) plan ≡ None → IsReady (s, edit_of e) plan
 ready s e plan held none = record { sound = held.sound; unused = held.unused s; spelt = no_packet e plan; accepted = (refused_exactly (edit_of e) plan held.sound).0 none }
 
-pub held_kept : (s : ℕ) → (e : Edit) → (plan : Plan) → IsHeld plan → refusal (edit_of e) plan ≡ None → IsHeld (done (s, edit_of e) plan)
+pub held_kept : (s : ℕ) → (e : Edit) → (plan : Plan) → IsUnedited plan → refusal (edit_of e) plan ≡ None → IsUnedited (done (s, edit_of e) plan)
 held_kept s e plan held none = record { sound = sound_kept (s, edit_of e) plan (ready s e plan held none); unused = unused }
   where
     unused : (t : ℕ) → Unused t (done (s, edit_of e) plan)

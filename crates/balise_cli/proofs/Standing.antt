@@ -11,12 +11,12 @@ use Rattle.balise_rules.specs.Session.{made, last, others}
 use Rattle.balise_rules.proofs.Tests.{nat_test}
 use Rattle.balise_edit_laws.proofs.Refusing.{refused_exactly}
 use Rattle.balise_cli.specs.declared.edit.Entry.{Entry}
-use Rattle.balise_cli.specs.Held.{IsHeld, edit_of, item_of, entry_of}
+use Rattle.balise_cli.specs.Private.{IsUnedited, edit_of, item_of, entry_of}
 use Rattle.balise_cli.specs.Sessions.{AllStand, Rise, before}
 use Rattle.balise_cli.proofs.Ready.{held_kept}
 
 -- what stands makes a plan that is held
-pub held_along : (es : List Entry) → (plan : Plan) → IsHeld plan → AllStand plan es → IsHeld (made plan (map item_of es))
+pub held_along : (es : List Entry) → (plan : Plan) → IsUnedited plan → AllStand plan es → IsUnedited (made plan (map item_of es))
 held_along [] plan held a = held
 held_along (e ∷ es) plan held a = held_along es (done (item_of e) plan) (held_kept e.serial e.edit plan held ((refused_exactly (edit_of e.edit) plan held.sound).1 a.0)) a.2
 

@@ -11,7 +11,7 @@ use Rattle.balise_rules.specs.Addresses.{Command}
 use Rattle.balise_rules.specs.Addresses as rules
 use Rattle.balise_rules.specs.Session.{State, Removed, lone, Reply, Ask, Undo, Done, Undone, Refused, answer, answer_edit, answer_accepted, answer_undo, answer_in_time, held, last, others, taken_out, most_commands}
 use Rattle.balise_cli.specs.declared.edit.Entry.{Entry}
-use Rattle.balise_cli.specs.Held.{edit_of, item_of, setting}
+use Rattle.balise_cli.specs.Private.{edit_of, item_of, setting}
 use Rattle.balise_cli.specs.Sessions.{IsSession, Rise, Stands, before, removed_of, state_of}
 use Rattle.balise_cli.proofs.Standing.{last_with, others_with, rose_with}
 use Rattle.balise_cli.proofs.Histories.{IsNew, Without, base_with, held_now, one_more, one_less}

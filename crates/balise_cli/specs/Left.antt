@@ -7,6 +7,6 @@ abbrev pub left : Parts → List Word
 left w = cond w.over [] (parts_of w.mark w.text.now)
 
 -- the next part was taken as what it says
-abbrev pub Takes : {A : Type 0} → (Word → Option A) → List Word → Option (A × Parts) → Type 0
-Takes says old None = taken says old ≡ None
-Takes says old (Some p) = taken says old ≡ Some (p.0, left p.1)
+abbrev pub TakesPart : {A : Type 0} → (Word → Option A) → List Word → Option (A × Parts) → Type 0
+TakesPart says old None = taken says old ≡ None
+TakesPart says old (Some p) = taken says old ≡ Some (p.0, left p.1)

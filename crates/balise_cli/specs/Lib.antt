@@ -1,7 +1,7 @@
 pub mod Words
 pub mod Left
 pub mod Commands
-pub mod Held
+pub mod Private
 pub mod Finding
 pub mod Sessions
 pub mod Requests

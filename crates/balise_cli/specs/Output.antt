@@ -6,9 +6,9 @@ use Rattle.balise_rules.specs.Plan.{Group, Plan}
 use Rattle.balise_rules.specs.Session.{State, Call, Reply, Refused, answer, opened, held, takes_memory}
 use Rattle.balise_lines.specs.Lines.{Line, Fits, whole}
 use Rattle.balise_cli.specs.Commands.{call_of}
-use Rattle.balise_cli.specs.PlanLines.{kind_of, with_read, with_telegram}
-use Rattle.balise_cli.specs.declared.kind.Kind.{Kind}
-use Rattle.balise_cli.specs.declared.kind.Kind.TheVariants.{FirstLine, GroupLine, EditsLine, TelegramLine}
+use Rattle.balise_cli.specs.PlanLines.{plan_line_of, with_read, with_telegram}
+use Rattle.balise_cli.specs.declared.plan_line.PlanLine.{PlanLine}
+use Rattle.balise_cli.specs.declared.plan_line.PlanLine.TheVariants.{FirstLine, GroupLine, EditsLine, TelegramLine}
 use Rattle.balise_cli.specs.Replies.{Text, reply_line, bad_line, plan_text}
 use Rattle.balise_cli.specs.declared.status.Status.{Status}
 use Rattle.balise_cli.specs.declared.status.Status.TheVariants.{BadInput}
@@ -29,7 +29,7 @@ pub data Read : Type 0 where
   Bad : ℕ → Refusal → Read
 
 -- a plan has one group for now
-abbrev pub between : Plan → ℕ → Kind → Read
+abbrev pub between : Plan → ℕ → PlanLine → Read
 between [] n GroupLine = Good (InGroup [] n [])
 between plan n EditsLine = Good (Commands (opened plan) false)
 between plan n k = Bad n BadLine
@@ -50,20 +50,20 @@ one_more plan g n (Ok ys) = Good (InGroup plan g ys)
 abbrev pub telegram_line : Plan → ℕ → Group → ℕ → Text → Read
 telegram_line plan g ys n line = one_more plan g n (with_telegram ys line)
 
-abbrev pub in_group : Plan → ℕ → Group → ℕ → Kind → Text → Read
+abbrev pub in_group : Plan → ℕ → Group → ℕ → PlanLine → Text → Read
 in_group plan g ys n FirstLine line = telegram_line plan g ys n line
 in_group plan g ys n TelegramLine line = telegram_line plan g ys n line
 in_group plan g ys n k line = closed plan g ys (λ p. between p n k)
 
-abbrev pub first_line : ℕ → Kind → Read
+abbrev pub first_line : ℕ → PlanLine → Read
 first_line n FirstLine = Good (Between [])
 first_line n k = Bad n BadLine
 
 -- line n of the plan
 abbrev pub read_line : Phase → ℕ → Text → Read
-read_line Header n line = first_line n (kind_of line)
-read_line (Between plan) n line = between plan n (kind_of line)
-read_line (InGroup plan g ys) n line = in_group plan g ys n (kind_of line) line
+read_line Header n line = first_line n (plan_line_of line)
+read_line (Between plan) n line = between plan n (plan_line_of line)
+read_line (InGroup plan g ys) n line = in_group plan g ys n (plan_line_of line) line
 read_line (Commands s refused) n line = Good (Commands s refused)
 
 -- The commands.

@@ -7,12 +7,12 @@ use Rattle.balise_rules.specs.Digits.{read_hex}
 use Rattle.balise_rules.specs.Telegram.{Telegram, read_telegram}
 use Rattle.balise_rules.specs.Plan.{Group, Plan, checked_group, with_group}
 use Rattle.balise_cli.specs.Replies.{Text}
-use Rattle.balise_cli.specs.declared.kind.Kind.{Kind}
-use Rattle.balise_cli.specs.declared.kind.Kind.TheVariants.{FirstLine, GroupLine, EditsLine, NoLine, TelegramLine}
+use Rattle.balise_cli.specs.declared.plan_line.PlanLine.{PlanLine}
+use Rattle.balise_cli.specs.declared.plan_line.PlanLine.TheVariants.{FirstLine, GroupLine, EditsLine, NoLine, TelegramLine}
 
 -- what a line of the plan is by its words; one that begins with `journal ` isn't a telegram's, nor is an empty one
-abbrev pub kind_of : Text → Kind
-kind_of line =
+abbrev pub plan_line_of : Text → PlanLine
+plan_line_of line =
     if bytes_eq line (codes "plan 1") then FirstLine
     else if bytes_eq line (codes "group") then GroupLine
     else if bytes_eq line (codes "edits") then EditsLine

@@ -8,7 +8,7 @@ use Rattle.balise_rules.specs.Accepting.{Accepted}
 use Rattle.balise_rules.specs.Session.{State, Removed, lone, Reply, Done, Undone, Refused, made, most_commands}
 use Rattle.balise_edit_laws.specs.Along.{back_along}
 use Rattle.balise_cli.specs.declared.edit.Entry.{Entry}
-use Rattle.balise_cli.specs.Held.{IsHeld, edit_of, item_of, entry_of}
+use Rattle.balise_cli.specs.Private.{IsUnedited, edit_of, item_of, entry_of}
 
 abbrev pub edit_reply : Result ℕ Refusal → Reply
 edit_reply (Ok s) = Done s
@@ -41,7 +41,7 @@ Rise low (e ∷ es) high = (low ≤ e.serial) × Rise (suc e.serial) es high
 
 -- the edits that stand, on the plan before them, make the plan
 pub record Stands (base : Plan) (es : List Entry) (serial : ℕ) (plan : Plan) : Type 0 where
-  pub held : IsHeld base
+  pub held : IsUnedited base
   pub accepted : AllStand base es
   pub serials : Rise 1 es serial
   pub makes : made base (map item_of es) ≡ plan

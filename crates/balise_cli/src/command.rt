@@ -3,7 +3,7 @@
 ghost use Rattle.std.specs.Prelude.{◌≡◌};
 ghost use Rattle.std.specs.Result.{result_map_both};
 ghost use Rattle.balise_rules.specs.Addresses as rules;
-ghost use Rattle.balise_cli.specs.Held.{asked, edit_of};
+ghost use Rattle.balise_cli.specs.Private.{asked, edit_of};
 
 use crate::edit::Edit;
 use crate::plan::Plan;

@@ -1,7 +1,7 @@
 //! An edit by tags, and what the session keeps of it.
 
 ghost use Rattle.std.specs.Prelude.{◌≡◌};
-ghost use Rattle.balise_cli.specs.Held.{setting, telegram_tags_of};
+ghost use Rattle.balise_cli.specs.Private.{setting, telegram_tags_of};
 
 use balise_rules::Tag;
 use balise_telegram::Var;

@@ -1,7 +1,7 @@
 //! The telegrams of a group while its lines are read: at most one for now.
 
 ghost use Rattle.std.specs.Prelude.{◌≡◌, ◌≢◌, Bool, List, [], IfErr, IfOk, Ok, Err, OnErr, OnOk};
-ghost use Rattle.balise_cli.specs.Held.{WasRead, group_of};
+ghost use Rattle.balise_cli.specs.Private.{WasRead, group_of};
 ghost use Rattle.balise_cli.specs.PlanLines.{telegram_of, with_telegram};
 ghost use Rattle.balise_rules.specs.Telegram.{read_telegram};
 
@@ -17,7 +17,7 @@ pub(crate) struct Group {
 
 impl Model for Group {
     ghost use Rattle.balise_rules.specs.Plan as rules;
-    ghost use Rattle.balise_cli.specs.Held.{WasRead, group_of};
+    ghost use Rattle.balise_cli.specs.Private.{WasRead, group_of};
 
     ghost Value = { rules.Group };
 

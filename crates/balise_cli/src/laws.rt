@@ -17,7 +17,7 @@ pub fn refused_changes_nothing()
     ensures { RefusedChangesNothing }
 {}
 
-/// An undo takes back exactly the edit that was accepted before it.
+/// An undo takes back exactly the edit that was accepted directly before it.
 pub fn undo_takes_back()
     ensures { UndoTakesBack }
 {}

@@ -2,13 +2,13 @@
 
 ghost use Rattle.std.specs.Prelude.{◌≡◌, [], IfErr, IfOk};
 ghost use Rattle.balise_cli.specs.Machine.{DidRead, phase_of};
-ghost use Rattle.balise_cli.specs.PlanLines.{kind_of};
+ghost use Rattle.balise_cli.specs.PlanLines.{plan_line_of};
 ghost use Rattle.balise_cli.specs.Output.{Header, between, closed, first_line, in_group, read_line, telegram_line};
 
 use crate::fault::RunFault;
 use crate::group::Group;
-use crate::kind::{Kind, read_kind};
 use crate::plan::Plan;
+use crate::plan_line::{PlanLine, read_plan_line};
 use crate::session::Session;
 use crate::status::Status;
 use balise_telegram::Refusal;
@@ -39,23 +39,23 @@ pub(crate) enum After {
 }
 
 /// A line between groups.
-fn between(alloc: Global, plan: Plan, number: u64, kind: Kind) -> Taken
+fn between(alloc: Global, plan: Plan, number: u64, kind: PlanLine) -> Taken
     ensures { DidRead (between plan number kind) result }
 {
     match kind {
-        Kind::GroupLine => {
+        PlanLine::GroupLine => {
             if plan.telegram().is_some() {
                 return Taken::Bad(number, Refusal::BadLine);
             }
             Taken::Good(Machine::InGroup(number, Group::new()))
         }
-        Kind::EditsLine => Taken::Good(Machine::Commands(Session::new(alloc, plan), false)),
+        PlanLine::EditsLine => Taken::Good(Machine::Commands(Session::new(alloc, plan), false)),
         _ => Taken::Bad(number, Refusal::BadLine),
     }
 }
 
 /// The group ends, and another line follows.
-fn close(alloc: Global, group_number: u64, group: Group, number: u64, kind: Kind) -> Taken
+fn close(alloc: Global, group_number: u64, group: Group, number: u64, kind: PlanLine) -> Taken
     ensures { DidRead (closed [] group_number group (λ p. between p number kind)) result }
 {
     match Plan::with_group(group) {
@@ -90,15 +90,15 @@ fn in_group(
     number: u64,
     line: &[u8],
 ) -> Result<Taken, RunFault>
-    ensures ok { IfOk result (DidRead (in_group [] group_number group number (kind_of line.now) line.now)) }
+    ensures ok { IfOk result (DidRead (in_group [] group_number group number (plan_line_of line.now) line.now)) }
     ensures fault { IfErr result (λ e. e ≡ RunFault.OutOfMemory) }
 {
-    match read_kind(line) {
-        Kind::FirstLine => telegram(alloc, group_number, group, number, line),
-        Kind::TelegramLine => telegram(alloc, group_number, group, number, line),
-        Kind::GroupLine => Ok(close(alloc, group_number, group, number, Kind::GroupLine)),
-        Kind::EditsLine => Ok(close(alloc, group_number, group, number, Kind::EditsLine)),
-        Kind::NoLine => Ok(close(alloc, group_number, group, number, Kind::NoLine)),
+    match read_plan_line(line) {
+        PlanLine::FirstLine => telegram(alloc, group_number, group, number, line),
+        PlanLine::TelegramLine => telegram(alloc, group_number, group, number, line),
+        PlanLine::GroupLine => Ok(close(alloc, group_number, group, number, PlanLine::GroupLine)),
+        PlanLine::EditsLine => Ok(close(alloc, group_number, group, number, PlanLine::EditsLine)),
+        PlanLine::NoLine => Ok(close(alloc, group_number, group, number, PlanLine::NoLine)),
     }
 }
 
@@ -121,11 +121,11 @@ impl Machine {
         ensures fault { IfErr result (λ e. e ≡ RunFault.OutOfMemory) }
     {
         match self {
-            Machine::Header => match read_kind(line) {
-                Kind::FirstLine => Ok(Taken::Good(Machine::Between(Plan::empty()))),
+            Machine::Header => match read_plan_line(line) {
+                PlanLine::FirstLine => Ok(Taken::Good(Machine::Between(Plan::empty()))),
                 _ => Ok(Taken::Bad(number, Refusal::BadLine)),
             },
-            Machine::Between(plan) => Ok(between(alloc, plan, number, read_kind(line))),
+            Machine::Between(plan) => Ok(between(alloc, plan, number, read_plan_line(line))),
             Machine::InGroup(group_number, group) => {
                 in_group(alloc, group_number, group, number, line)
             }

@@ -5,7 +5,7 @@ ghost use Rattle.balise_rules.specs.Doing.{done, refusal};
 ghost use Rattle.balise_rules.specs.Notes.{noted};
 ghost use Rattle.balise_rules.specs.Packet.{value};
 ghost use Rattle.balise_rules.specs.Plan.{identity_in};
-ghost use Rattle.balise_cli.specs.Held.{edit_of, plan_of};
+ghost use Rattle.balise_cli.specs.Private.{edit_of, plan_of};
 ghost use Rattle.balise_cli.specs.Finding.{Sets, packet_tags, telegram_tags};
 ghost use Rattle.balise_cli.specs.PlanLines.{with_read};
 
@@ -26,13 +26,13 @@ pub(crate) struct Plan {
 
 impl Model for Plan {
     ghost use Rattle.balise_rules.specs.Plan as rules;
-    ghost use Rattle.balise_cli.specs.Held.{IsHeld, plan_of};
+    ghost use Rattle.balise_cli.specs.Private.{IsUnedited, plan_of};
 
     ghost Value = { rules.Plan };
 
     ghost view = { λ p. plan_of p.telegram };
 
-    ghost invariant = { λ p. IsHeld (plan_of p.telegram) };
+    ghost invariant = { λ p. IsUnedited (plan_of p.telegram) };
 }
 
 impl Plan {

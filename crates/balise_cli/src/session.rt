@@ -2,7 +2,7 @@
 
 ghost use Rattle.std.specs.Prelude.{◌≡◌};
 ghost use Rattle.balise_rules.specs.Session.{Answers, Ask, Undo, held, opened};
-ghost use Rattle.balise_cli.specs.Held.{asked};
+ghost use Rattle.balise_cli.specs.Private.{asked};
 ghost use Rattle.balise_cli.specs.Sessions.{edit_reply, undo_reply};
 
 use crate::command::Command;

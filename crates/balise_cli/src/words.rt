@@ -22,7 +22,7 @@ pub(crate) struct Parts<'a> {
 }
 
 impl<'a> Parts<'a> {
-    ghost use Rattle.balise_cli.specs.Left.{Takes, left};
+    ghost use Rattle.balise_cli.specs.Left.{left, TakesPart};
 
     /// The parts of a text.
     fn new(text: &'a [u8], mark: u8) -> Parts<'a>
@@ -78,7 +78,7 @@ impl<'a> Parts<'a> {
 
     /// The number that comes next.
     pub(crate) fn number(self) -> Option<(u32, Parts<'a>)>
-        ensures { Takes number_of (left self.entry) result }
+        ensures { TakesPart number_of (left self.entry) result }
     {
         let (word, rest) = self.next()?;
         let number = read_number(word)?;
@@ -87,7 +87,7 @@ impl<'a> Parts<'a> {
 
     /// The identity that comes next.
     pub(crate) fn id(self) -> Option<(Id, Parts<'a>)>
-        ensures { Takes id_of (left self.entry) result }
+        ensures { TakesPart id_of (left self.entry) result }
     {
         let (word, rest) = self.next()?;
         let id = read_id(word)?;
@@ -96,7 +96,7 @@ impl<'a> Parts<'a> {
 
     /// The variable that comes next.
     pub(crate) fn var(self) -> Option<(Var, Parts<'a>)>
-        ensures { Takes var_named (left self.entry) result }
+        ensures { TakesPart var_named (left self.entry) result }
     {
         let (word, rest) = self.next()?;
         let var = Var::from_bytes(word)?;

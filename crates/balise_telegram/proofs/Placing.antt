@@ -15,7 +15,7 @@ use Rattle.balise_rules.proofs.Distincts.{distinct-without}
 use Rattle.balise_rules.proofs.Used.{used-without}
 use Rattle.balise_telegram.specs.Reading.{IsHeld}
 use Rattle.balise_rules.specs.Back.{with_packets}
-use Rattle.balise_telegram.specs.Moving.{inserted, Takes}
+use Rattle.balise_telegram.specs.Moving.{inserted, TakesOut}
 use Rattle.balise_telegram.proofs.Settings.{telegram}
 use Rattle.balise_telegram.proofs.Tagging.{Packets, is_tagged, StandsAt, stands_at, stands_behind, found, not_found}
 
@@ -101,7 +101,7 @@ held_insert ps padding i z h n fits = let u = used-insert ps i z in record { tag
 
 -- what taking a packet out of a telegram that the code holds in its parts answers and leaves
 pub taken : (head : Fields) (ps now : Packets) (padding : List Bool) (y : Telegram) (tag : Tag) (i : ℕ) (x : Tag × Packet) (next : Option Tag) → telegram head ps padding ≡ y → Distinct same_tag ps → StandsAt tag ps i x → next ≡ option_map (λ (q : Tag × Packet). q.0) (slice_get y.packets (suc i)) → now ≡ remove ps i →
-    Takes tag y (Ok (x.1, next)) (telegram head now padding)
+    TakesOut tag y (Ok (x.1, next)) (telegram head now padding)
 taken head ps now padding y tag i x next view u s e is =
     let same : ps ≡ y.packets = ap (λ (t : Telegram). t.packets) view in (
       ap (find same_tag tag) (sym same) ∙ found tag ps i x s,

@@ -15,9 +15,9 @@ use Rattle.balise_telegram.specs.declared.fault.TelegramFault.TheVariants.{NoSuc
 use Rattle.balise_telegram.specs.Faults.{refusal_of}
 
 -- The packet is gone and answered, with the tag of its old next neighbour; or no packet has this tag, and all stays.
-abbrev pub Takes : Tag → Telegram → Result (Packet × Option Tag) TelegramFault → Telegram → Type 0
-Takes tag old (Ok r) new = (find same_tag tag old.packets ≡ Some r.0) × (behind same_tag tag old.packets ≡ r.1) × (new ≡ with_packets old (without same_tag tag old.packets))
-Takes tag old (Err e) new = (find same_tag tag old.packets ≡ None) × (e ≡ NoSuchPacket) × (new ≡ old)
+abbrev pub TakesOut : Tag → Telegram → Result (Packet × Option Tag) TelegramFault → Telegram → Type 0
+TakesOut tag old (Ok r) new = (find same_tag tag old.packets ≡ Some r.0) × (behind same_tag tag old.packets ≡ r.1) × (new ≡ with_packets old (without same_tag tag old.packets))
+TakesOut tag old (Err e) new = (find same_tag tag old.packets ≡ None) × (e ≡ NoSuchPacket) × (new ≡ old)
 
 -- the first reason why a packet isn't put in; `there` is whether its neighbour stands
 abbrev pub insert_refusal : Bool → Packet → Telegram → Option Refusal

@@ -5,7 +5,7 @@ ghost use Rattle.balise_rules.specs.Packet.{Packet};
 ghost use Rattle.balise_rules.specs.Tagged.{find, put, put_before, stands};
 ghost use Rattle.balise_rules.specs.Tags.{same_tag};
 ghost use Rattle.balise_rules.specs.declared.tag.Tag.{Tag};
-ghost use Rattle.balise_telegram.specs.Moving.{place_after, inserted, Inserts, Shifts, Takes};
+ghost use Rattle.balise_telegram.specs.Moving.{place_after, inserted, Inserts, Shifts, TakesOut};
 
 use crate::PacketTag;
 use crate::fault::TelegramFault;
@@ -17,7 +17,7 @@ impl Telegram {
     /// Takes the packet with this tag out, and answers it and the tag of its next neighbour. Takes no memory.
     /// Refused, and then all stays: `NoSuchPacket`.
     pub fn take(&mut self, tag: PacketTag) -> Result<(Packet, Option<PacketTag>), TelegramFault>
-        ensures { Takes tag self.old result self.new }
+        ensures { TakesOut tag self.old result self.new }
     {
         let Some(i) = self.place_of(tag) else {
             return Err(TelegramFault::NoSuchPacket);

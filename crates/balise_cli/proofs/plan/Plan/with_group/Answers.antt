@@ -1,5 +1,5 @@
 use Rattle.std.proofs.Common.{◌∙◌, sym, subst}
-use Rattle.balise_cli.specs.Held.{WasRead}
+use Rattle.balise_cli.specs.Private.{WasRead}
 use Rattle.balise_cli.proofs.Alone.{read_held, group_stands}
 use Rattle.balise_cli.proofs.plan.Plan.with_group.Goals as goal
 

@@ -4,7 +4,7 @@ use Rattle.balise_rules.specs.declared.refusal.Refusal.{Refusal}
 use Rattle.balise_rules.specs.Session.{State, Ask, Reply, Answers, Done, answer}
 use Rattle.balise_rules.specs.Addresses as rules
 use Rattle.balise_cli.specs.declared.edit.Entry.{Entry}
-use Rattle.balise_cli.specs.Held.{asked, edit_of}
+use Rattle.balise_cli.specs.Private.{asked, edit_of}
 use Rattle.balise_cli.specs.Sessions.{state_of}
 use Rattle.balise_cli.proofs.Results.{pushed}
 use Rattle.balise_cli.proofs.Steps.{EditStep, edit_kept, edit_state, edit_answered}

@@ -1,7 +1,7 @@
 use Rattle.std.proofs.Common.{◌≡◌, ◌+◌, ◌-◌, ◌∙◌, inl, sym, ap, subst, arith}
 use Rattle.balise_rules.specs.Doing.{done, refusal}
 use Rattle.balise_rules.specs.Session.{State, Reply, Answers, Undo, Undone, answer}
-use Rattle.balise_cli.specs.Held.{edit_of, item_of, setting}
+use Rattle.balise_cli.specs.Private.{edit_of, item_of, setting}
 use Rattle.balise_cli.specs.Sessions.{state_of}
 use Rattle.balise_cli.proofs.Steps.{UndoStep, undo_stands, undo_kept, undo_state, undo_last, undo_answered}
 use Rattle.balise_cli.proofs.session.Session.undo.Goals as goal

@@ -1,11 +1,11 @@
 //! What a line of the plan is.
 
 ghost use Rattle.std.specs.Prelude.{◌≡◌};
-ghost use Rattle.balise_cli.specs.PlanLines.{kind_of};
+ghost use Rattle.balise_cli.specs.PlanLines.{plan_line_of};
 
 /// What a line of the plan is, by its words. `NoLine` is nowhere one of the plan's.
 #[derive(Clone, Copy, Debug, PartialEq, Eq)]
-pub(crate) enum Kind {
+pub(crate) enum PlanLine {
     FirstLine,
     GroupLine,
     EditsLine,
@@ -14,23 +14,23 @@ pub(crate) enum Kind {
 }
 
 /// What a line is.
-pub(crate) fn read_kind(line: &[u8]) -> Kind
-    ensures { result ≡ kind_of line.now }
+pub(crate) fn read_plan_line(line: &[u8]) -> PlanLine
+    ensures { result ≡ plan_line_of line.now }
 {
     if line == b"plan 1".as_slice() {
-        return Kind::FirstLine;
+        return PlanLine::FirstLine;
     }
     if line == b"group".as_slice() {
-        return Kind::GroupLine;
+        return PlanLine::GroupLine;
     }
     if line == b"edits".as_slice() {
-        return Kind::EditsLine;
+        return PlanLine::EditsLine;
     }
     if line.is_empty() {
-        return Kind::NoLine;
+        return PlanLine::NoLine;
     }
     if line.starts_with(b"journal ") {
-        return Kind::NoLine;
+        return PlanLine::NoLine;
     }
-    Kind::TelegramLine
+    PlanLine::TelegramLine
 }

@@ -29,7 +29,7 @@ plan_of None = []
 plan_of (Some y) = (Base 0, group_of (Some y)) ∷ []
 
 -- a sound plan into which no edit put anything
-pub record IsHeld (plan : Plan) : Type 0 where
+pub record IsUnedited (plan : Plan) : Type 0 where
   pub sound : IsSound plan
   pub unused : (s : ℕ) → Unused s plan
 

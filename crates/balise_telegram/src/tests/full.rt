@@ -37,7 +37,7 @@ fn packet(rt: &impl Abort, bits: &Bits) -> Packet {
     Packet::read(bits, 0, 33).expect(rt, "a packet").0
 }
 
-/// TakesOut the packet with this tag out.
+/// Takes the packet with this tag out.
 fn taken(rt: &impl Abort, telegram: &mut Telegram, tag: PacketTag) -> Packet {
     telegram.take(tag).expect(rt, "a packet").0
 }

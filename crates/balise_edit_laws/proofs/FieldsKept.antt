@@ -19,10 +19,11 @@ use Rattle.balise_rules.specs.Names.{country_at, calls, is_it}
 use Rattle.balise_rules.specs.Accepting.{Lawful}
 use Rattle.balise_rules.specs.Edits.{Edit, SetVar, SetHead, InsertPacket, DeletePacket, MovePacket, AddGroup, DropGroup, Renumber, TurnGroup, exchanged, field_after, packet_after}
 use Rattle.balise_rules.proofs.Tests.{var_test}
+use Rattle.balise_rules.proofs.SteadyForms.{packet_steady}
 use Rattle.balise_edit_laws.proofs.HeadChanges.{value_kept}
 use Rattle.balise_edit_laws.proofs.Levels.{parts4}
 use Rattle.balise_edit_laws.proofs.FieldChanges.{steering_stays}
-use Rattle.balise_edit_laws.proofs.Steady.{Fitting, matches-each, numbered-each, length-each, packet_steady}
+use Rattle.balise_edit_laws.proofs.Steady.{Fitting, matches-each, numbered-each, length-each}
 
 -- a key of a variable
 var_is : (v : Var) → (key : Key) → is_of v key ≡ true → v ≡ key.0

@@ -4,8 +4,8 @@ pub mod First
 pub mod Keys
 pub mod Places
 pub mod Setting
+pub mod Layouts
 pub mod Held
-pub mod Bodies
 pub mod Counts
 pub mod Searches
 pub mod Elements

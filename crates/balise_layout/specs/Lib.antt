@@ -2,8 +2,7 @@ pub mod Faults
 pub mod Walks
 pub mod Reading
 pub mod Held
-pub mod Steadies
-pub mod Versions
+pub mod Layouts
 pub mod Search
 pub mod Collected
 pub mod Linked

@@ -1,8 +1,7 @@
 //! Packets of each kind read, set and written a million times, and the processor time that one takes.
 
 use anyhow::Result;
-use balise_bits::Bits;
-use balise_layout::{Packet, Var};
+use balise_layout::{Bits, Packet, Var};
 use std::time::CpuClock;
 
 /// How often each call is made.

@@ -19,7 +19,7 @@ use Rattle.balise_rules.specs.Names.{country_at, calls, is_it}
 use Rattle.balise_rules.specs.Accepting.{Lawful}
 use Rattle.balise_rules.specs.Edits.{Edit, SetVar, SetHead, InsertPacket, DeletePacket, MovePacket, AddGroup, DropGroup, Renumber, TurnGroup, exchanged, field_after, packet_after}
 use Rattle.balise_rules.proofs.Tests.{var_test}
-use Rattle.balise_rules.proofs.SteadyForms.{packet_steady}
+use Rattle.balise_rules.proofs.Tables.{packet_steady}
 use Rattle.balise_edit_laws.proofs.HeadChanges.{value_kept}
 use Rattle.balise_edit_laws.proofs.Levels.{parts4}
 use Rattle.balise_edit_laws.proofs.FieldChanges.{steering_stays}

@@ -20,7 +20,7 @@ use Rattle.balise_rules.specs.Plan.{IsSoundTelegram}
 use Rattle.balise_rules.specs.Accepting.{Lawful}
 use Rattle.balise_rules.specs.Edits.{Edit, SetVar, SetHead, InsertPacket, DeletePacket, MovePacket, AddGroup, DropGroup, Renumber, TurnGroup, exchanged, head_after}
 use Rattle.balise_rules.proofs.Tests.{split_on, var_test}
-use Rattle.balise_rules.proofs.SteadyForms.{header_steady}
+use Rattle.balise_rules.proofs.Tables.{header_steady}
 use Rattle.balise_edit_laws.proofs.Headers.{count_in, header_variables, header_has, value-each, value_found}
 use Rattle.balise_edit_laws.proofs.Found.{field_fits}
 use Rattle.balise_edit_laws.proofs.HeadChanges.{fixed_kept, country_fixed, total_fixed, IsFixed}

@@ -4,10 +4,10 @@ use Rattle.std.proofs.lemmas.Bool.{eqb-true, eq-eqb}
 use Rattle.balise_rules.specs.declared.variable.Var.TheVariants.{NidPacket, QDir, LPacket}
 use Rattle.balise_rules.specs.Variables.{width_of, steers}
 use Rattle.balise_rules.specs.Bits.{num}
-use Rattle.balise_rules.specs.Forms.{Form, done, shut, never, plain, Fields, Matches, read_form}
-use Rattle.balise_rules.specs.Packets.{linking, gradients, speeds, levels, restriction, revocation, infill, is_known, known_body, body, packet, major}
+use Rattle.balise_rules.specs.Forms.{Form, done, never, plain, Fields, Matches, read_form}
+use Rattle.balise_rules.specs.Packets.{is_known, known_body, body, packet, major}
 use Rattle.balise_rules.specs.Steady.{IsSteady}
-use Rattle.balise_rules.proofs.SteadyForms.{steady_if, known_steady}
+use Rattle.balise_rules.proofs.Tables.{steady_if, known_steady, known_fields}
 use Rattle.balise_layout.specs.Held.{headed}
 use Rattle.balise_layout.specs.Layouts.{form_of, takes, next_of, layout_in, SpeltWhere}
 
@@ -29,20 +29,6 @@ next_steady None n = steady_if (takes None n) done never tt tt
 next_steady (Some own) n = steady_if (takes (Some own) n) (known_body own) never (known_steady own) tt
 
 -- ---- which versions spell it
-
--- no known packet ends with its first three fields
-fields_known : (n : ℕ) (rest : List Bool) → Matches (known_body n) [] rest → ⊥
-unfolding known_body linking gradients speeds levels restriction revocation infill
-fields_known n rest m = at (eqb n 5) (eqb n 21) (eqb n 27) (eqb n 41) (eqb n 65) (eqb n 66) m
-  where
-    at : (a b c d e f : Bool) → Matches (cond a (linking shut) (cond b (gradients shut) (cond c (speeds shut) (cond d (levels shut) (cond e (restriction shut) (cond f (revocation shut) (infill shut))))))) [] rest → ⊥
-    at true b c d e f h = h
-    at false true c d e f h = h
-    at false false true d e f h = h
-    at false false false true e f h = h
-    at false false false false true f h = h
-    at false false false false false true h = h
-    at false false false false false false h = h
 
 and_false : (b : Bool) → (b && false) ≡ false
 and_false true = refl
@@ -71,7 +57,7 @@ unfolding body
 known_there version n fs rest m = at (eqb n 0 || eqb n 255) refl (is_known version n) refl
   where
     none : (gs : Fields) → Matches (known_body n) gs rest → Matches done gs rest → ⊥
-    none [] p q = fields_known n rest p
+    none [] p q = known_fields n rest p
     none (g ∷ gs) p q = q
 
     at : (a : Bool) → (eqb n 0 || eqb n 255) ≡ a → (b : Bool) → is_known version n ≡ b → (Matches (cond a never (cond b (known_body n) done)) fs rest ↔ (b ≡ true))
@@ -84,7 +70,7 @@ unfolding body
 kept_there version n fs rest real m = rw real (at (is_known version n) fs m)
   where
     at : (b : Bool) (gs : Fields) → Matches done gs rest → (Matches (cond b (known_body n) done) gs rest ↔ (b ≡ false))
-    at true [] h = (λ k. absurd (fields_known n rest k), λ e. absurd cc)
+    at true [] h = (λ k. absurd (known_fields n rest k), λ e. absurd cc)
     at true (g ∷ gs) h = absurd h
     at false gs h = (λ _. refl, λ _. h)
 

@@ -10,7 +10,7 @@ use Rattle.balise_rules.specs.Packets.{body}
 use Rattle.balise_rules.specs.Packet.{Packet, field_of, value, with_value, bits_of, width, IsSpelt}
 use Rattle.balise_rules.proofs.Numbers.{length-bits}
 use Rattle.balise_rules.specs.Steady.{IsSteady}
-use Rattle.balise_rules.proofs.SteadyForms.{headed_steady, body_steady}
+use Rattle.balise_rules.proofs.Tables.{headed_steady, body_steady}
 use Rattle.balise_layout.specs.Held.{headed, Holds, with_field, before}
 use Rattle.balise_layout.proofs.Keys.{same_key_is, other_key, distinct}
 use Rattle.balise_layout.proofs.Places.{put_spelling}

@@ -1,7 +1,6 @@
 -- The value stands where the occurrence does.
 use Rattle.std.proofs.Common.{arith, ◌≡◌, ℕ, Some, take, drop, sym, ap, ◌∙◌}
 use Rattle.balise_rules.specs.Bits.{num}
-use Rattle.balise_rules.specs.Packet.{Packet, field_of}
 use Rattle.balise_layout.specs.Held.{before}
 use Rattle.balise_layout.proofs.Places.{missing}
 use Rattle.balise_layout.proofs.Values.{stands_within, stands_value}

@@ -1,7 +1,7 @@
 -- What was collected is the fields.
 use Rattle.std.proofs.Common.{[], ap, ◌∙◌}
 use Rattle.balise_rules.specs.Forms.{Fields}
-use Rattle.balise_rules.specs.Packet.{Packet, width}
+use Rattle.balise_rules.specs.Packet.{width}
 use Rattle.balise_layout.specs.Walks.{kept, collect}
 use Rattle.balise_layout.proofs.Walks.{kept_collect}
 use Rattle.balise_layout.proofs.packet.Packet.fields.Goals as goal

@@ -2,7 +2,7 @@
 use Rattle.std.proofs.Common.{arith, ◌≡◌, ◌<◌, ◌^◌, ◌-◌, ℕ, Some, drop, refl, sym, ap, ◌∙◌}
 use Rattle.balise_rules.specs.declared.variable.Var.TheVariants.{QLinkorientation}
 use Rattle.balise_rules.specs.Variables.{width_of, steers}
-use Rattle.balise_rules.specs.Packet.{Packet, value}
+use Rattle.balise_rules.specs.Packet.{value}
 use Rattle.balise_layout.specs.Held.{before, with_field}
 use Rattle.balise_layout.proofs.Values.{stands_within, stands_value, value_is, small_bit, with_field-missing, spelt_still}
 use Rattle.balise_layout.proofs.packet.Packet.flip_link.Goals as goal

@@ -1,9 +1,8 @@
 -- The number is put where the element has its own.
-use Rattle.std.proofs.Common.{◌≡◌, Some, refl, sym, ap, ◌∙◌}
+use Rattle.std.proofs.Common.{◌≡◌, Some, refl, sym}
 use Rattle.balise_rules.specs.declared.variable.Var.TheVariants.{NidBg}
 use Rattle.balise_rules.specs.Variables.{width_of, steers}
-use Rattle.balise_rules.specs.Packet.{Packet}
-use Rattle.balise_layout.specs.Held.{before, with_field}
+use Rattle.balise_layout.specs.Held.{before}
 use Rattle.balise_layout.proofs.Values.{with_field-missing, spelt_still}
 use Rattle.balise_layout.proofs.packet.Packet.name_link.Goals as goal
 

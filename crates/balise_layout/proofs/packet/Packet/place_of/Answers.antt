@@ -1,7 +1,6 @@
 -- A search over the fields finds where the occurrence stands.
 use Rattle.std.proofs.Common.{arith, ◌≡◌, ◌-◌, ℕ, Some, sym, ap, ◌∙◌}
-use Rattle.balise_rules.specs.Packet.{Packet, width}
-use Rattle.balise_layout.specs.Held.{before}
+use Rattle.balise_rules.specs.Packet.{width}
 use Rattle.balise_layout.proofs.Searches.{search_found, search_none}
 use Rattle.balise_layout.proofs.packet.Packet.place_of.Goals as goal
 

@@ -1,8 +1,7 @@
 -- A value put where a field stands keeps the form, and is the field's new value.
-use Rattle.std.proofs.Common.{◌≡◌, ℕ, List, Bool, sym, subst, ap, ◌∙◌, arith}
+use Rattle.std.proofs.Common.{◌≡◌, ℕ, sym, subst, ap, ◌∙◌, arith}
 use Rattle.balise_rules.specs.Variables.{width_of}
 use Rattle.balise_rules.specs.Bits.{bits, put_at}
-use Rattle.balise_rules.specs.Packet.{Packet}
 use Rattle.balise_layout.specs.Held.{held, Holds, IsHeld}
 use Rattle.balise_layout.specs.Layouts.{next_of}
 use Rattle.balise_layout.specs.Kinds.{number_of}

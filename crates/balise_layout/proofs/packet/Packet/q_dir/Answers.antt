@@ -1,7 +1,5 @@
 -- The field stands at its place in every packet.
-use Rattle.std.proofs.Common.{ap, ◌∙◌}
-use Rattle.balise_rules.specs.declared.variable.Var.TheVariants.{QDir}
-use Rattle.balise_rules.specs.Packet.{Packet, value}
+use Rattle.std.proofs.Common.{◌∙◌}
 use Rattle.balise_layout.proofs.Values.{dir_within, dir_value}
 use Rattle.balise_layout.proofs.packet.Packet.q_dir.Goals as goal
 

@@ -2,8 +2,8 @@
 use Rattle.std.proofs.Common.{arith, ◌≡◌, ◌≤◌, ◌<◌, ◌^◌, ℕ, false, Some, take, drop, refl, sym, ap, ◌∙◌}
 use Rattle.balise_rules.specs.Variables.{width_of, steers}
 use Rattle.balise_rules.specs.Bits.{num}
-use Rattle.balise_rules.specs.Packet.{Packet, field_of}
-use Rattle.balise_layout.specs.Held.{before, with_field}
+use Rattle.balise_rules.specs.Packet.{field_of}
+use Rattle.balise_layout.specs.Held.{before}
 use Rattle.balise_layout.proofs.Values.{stands_within, stands_value, refused_missing, refused_steering, refused_wide, accepted, shifted_out, nothing_left, spelt_still}
 use Rattle.balise_layout.proofs.packet.Packet.set_field.Goals as goal
 

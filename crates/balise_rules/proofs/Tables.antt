@@ -1,9 +1,9 @@
--- Each form of the standard's tables is steady: in a packet only variables that steer say what follows them, and in a header none does.
-use Rattle.std.proofs.Common.{ℕ, zero, suc, Bool, true, false, cond, ◌||◌, eqb, refl}
+-- What holds of each of the standard's tables: it is steady, that is, in a packet only variables that steer say what follows them, and in a header none does; and no known packet ends with its first three fields.
+use Rattle.std.proofs.Common.{ℕ, zero, suc, Bool, true, false, cond, ◌||◌, eqb, List, [], refl}
 use Rattle.balise_rules.specs.declared.variable.Var.{Var}
 use Rattle.balise_rules.specs.declared.variable.Var.TheVariants.{NidPacket, QDir, LPacket, NidC}
 use Rattle.balise_rules.specs.Variables.{steers}
-use Rattle.balise_rules.specs.Forms.{Form, done, shut, never, valued, plain, repeat}
+use Rattle.balise_rules.specs.Forms.{Form, done, shut, never, valued, plain, repeat, Matches}
 use Rattle.balise_rules.specs.Packets.{packet, country, counted, link, linking, gradient, gradients, difference, section, speeds, level, levels, restriction, revocation, infill, is_known, known_body, body}
 use Rattle.balise_rules.specs.Telegram.{header}
 use Rattle.balise_rules.specs.Steady.{IsSteady}
@@ -105,3 +105,18 @@ packet_steady version = headed_steady (body version) (body_steady version)
 pub header_steady : IsSteady (λ v. false) header
 unfolding header
 header_steady = (λ _ x y. refl, λ _. (λ _ x y. refl, λ _. (λ _ x y. refl, λ _. (λ _ x y. refl, λ _. (λ _ x y. refl, λ _. (λ _ x y. refl, λ _. (λ _ x y. refl, λ _. (λ _ x y. refl, λ _. (λ _ x y. refl, λ _. (λ _ x y. refl, λ _. tt))))))))))
+
+-- ---- no known packet ends with its first three fields
+
+-- no packet of the form lacks fields
+abbrev HasFields : Form → Type 0
+HasFields form = (rest : List Bool) → Matches form [] rest → ⊥
+
+fields_if : (b : Bool) (x y : Form) → HasFields x → HasFields y → HasFields (cond b x y)
+fields_if true x y s t = s
+fields_if false x y s t = t
+
+pub known_fields : (n : ℕ) (rest : List Bool) → Matches (known_body n) [] rest → ⊥
+unfolding known_body linking gradients speeds levels restriction revocation infill
+known_fields n =
+    fields_if (eqb n 5) _ _ (λ _ m. m) (fields_if (eqb n 21) _ _ (λ _ m. m) (fields_if (eqb n 27) _ _ (λ _ m. m) (fields_if (eqb n 41) _ _ (λ _ m. m) (fields_if (eqb n 65) _ _ (λ _ m. m) (fields_if (eqb n 66) _ _ (λ _ m. m) (λ _ m. m))))))

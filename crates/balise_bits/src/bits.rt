@@ -63,12 +63,17 @@ impl Bits {
         self.len() == 0
     }
 
+    /// Where its memory comes from.
+    pub fn allocator(&self) -> Global {
+        *self.bytes.allocator()
+    }
+
     /// The same bits once more.
     pub fn copy(&self) -> Result<Bits, BitsFault>
         ensures ok { IfOk result (λ b. b ≡ self.now) }
         ensures fault { IsOkUnless result BitsFault.OutOfMemory }
     {
-        let bytes = Vec::from_slice(*self.bytes.allocator(), &self.bytes)?;
+        let bytes = Vec::from_slice(self.allocator(), &self.bytes)?;
         Ok(Bits {
             bytes,
             len: self.len,

@@ -188,7 +188,7 @@ fn bits_grow(rt: HostRuntime) -> Result<(), Fail> {
     check_hex(&rt, &bits, "a1007f80a03250bfc0")?;
     bits.push_zeros(20)?;
     check_hex(&rt, &bits, "a1007f80a03250bfc00000")?;
-    let mut bits = Bits::new(rt.alloc());
+    let mut bits = Bits::new(bits.allocator());
     bits.push(3, 5)?;
     check_hex(&rt, &bits, "a0")
 }

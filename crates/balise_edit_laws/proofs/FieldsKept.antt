@@ -21,8 +21,9 @@ use Rattle.balise_rules.proofs.Tests.{var_test}
 use Rattle.balise_rules.proofs.Cases.{parts4}
 use Rattle.balise_rules.proofs.Values.{value_kept}
 use Rattle.balise_rules.proofs.Used.{width-each}
+use Rattle.balise_rules.proofs.Tables.{packet_steady}
 use Rattle.balise_edit_laws.proofs.FieldChanges.{steering_stays}
-use Rattle.balise_edit_laws.proofs.Steady.{Fitting, matches-each, numbered-each, packet_steady}
+use Rattle.balise_edit_laws.proofs.Steady.{Fitting, matches-each, numbered-each}
 
 -- a key of a variable
 var_is : (v : Var) → (key : Key) → is_of v key ≡ true → v ≡ key.0

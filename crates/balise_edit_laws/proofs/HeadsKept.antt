@@ -21,10 +21,11 @@ use Rattle.balise_rules.specs.Accepting.{Lawful}
 use Rattle.balise_rules.specs.Edits.{Edit, SetVar, SetHead, Renumber, TurnGroup, exchanged, head_after}
 use Rattle.balise_rules.proofs.Tests.{split_on}
 use Rattle.balise_rules.proofs.Values.{value-each, value_found}
+use Rattle.balise_rules.proofs.Tables.{header_steady}
 use Rattle.balise_rules.proofs.Found.{field_fits}
 use Rattle.balise_edit_laws.proofs.Headers.{count_in, header_variables, header_has}
 use Rattle.balise_edit_laws.proofs.HeadChanges.{fixed_kept, country_fixed, total_fixed, IsFixed, free_other}
-use Rattle.balise_edit_laws.proofs.Steady.{Fitting, matches-each, numbered-each, header_steady}
+use Rattle.balise_edit_laws.proofs.Steady.{Fitting, matches-each, numbered-each}
 use Rattle.balise_edit_laws.proofs.FieldsKept.{wide, narrow, fits_if}
 
 -- the identity of a group after an edit

@@ -1,27 +1,16 @@
 -- A changed value that doesn't steer keeps the form, the numbering and the length of fields.
--- From the standard's tables: each form of a packet is steady, that is, only variables that steer say what follows.
--- So a packet stays spelt, and as long, whatever accepted edit changes its fields.
-use Rattle.std.proofs.Common.{◌≡◌, ℕ, zero, suc, ◌+◌, Bool, true, false, cond, ◌||◌, eqb, IsTrue, List, [], ◌∷◌, ◌++◌, length, refl, sym, ap, subst, ◌∙◌, arith, length-append}
-use Rattle.std.proofs.lemmas.Bool.{true≢false}
+-- Each form of a packet is steady, that is, only variables that steer say what follows. So a packet stays spelt, and as long, whatever accepted edit changes its fields.
+use Rattle.std.proofs.Common.{◌≡◌, ℕ, suc, ◌+◌, Bool, true, false, IsTrue, List, [], ◌∷◌, ◌++◌, length, refl, sym, ap, subst, ◌∙◌, arith, length-append}
 use Rattle.balise_rules.specs.declared.variable.Var.{Var}
-use Rattle.balise_rules.specs.Variables.{width_of, steers}
+use Rattle.balise_rules.specs.Variables.{width_of}
 use Rattle.balise_rules.specs.Bits.{bits, fits}
-use Rattle.balise_rules.specs.Tagged.{next, each}
+use Rattle.balise_rules.specs.Tagged.{each}
 use Rattle.balise_rules.specs.Tags.{Key, is_of}
-use Rattle.balise_rules.specs.Forms.{Form, shut, never, valued, repeat, Fields, Matches, count_of, NumberedFrom, Numbered, spelling}
-use Rattle.balise_rules.specs.Packets.{packet, counted, link, linking, gradient, gradients, difference, section, speeds, level, levels, restriction, revocation, infill, is_known, known_body, body}
-use Rattle.balise_rules.specs.Telegram.{header}
+use Rattle.balise_rules.specs.Forms.{Form, done, shut, never, valued, Fields, Matches, count_of, NumberedFrom, Numbered, spelling}
+use Rattle.balise_rules.specs.Steady.{IsSteady}
 use Rattle.balise_rules.proofs.Tests.{split_on}
 use Rattle.balise_rules.proofs.Numbers.{length-bits}
 use Rattle.balise_rules.proofs.Keys.{count-append}
-use Rattle.balise_rules.specs.Forms.{done}
-
--- only variables of a set say what follows them
-abbrev pub IsSteady : (Var → Bool) → Form → Type 0
-IsSteady S done = Unit {0}
-IsSteady S shut = Unit {0}
-IsSteady S never = Unit {0}
-IsSteady S (valued v next) = (S v ≡ false → (m n : ℕ) → next m ≡ next n) × ((n : ℕ) → IsSteady S (next n))
 
 abbrev pub Keeps : (Var → Bool) → (Key → ℕ → ℕ) → Type 0
 Keeps S h = (key : Key) → (n : ℕ) → S key.0 ≡ true → h key n ≡ n
@@ -66,81 +55,3 @@ length-each h [] = refl
 length-each h (x ∷ xs) =
     let w = width_of x.0.0 in
     omega (arith, length-append (bits w (h x.0 x.1)) (spelling (each h xs)), length-append (bits w x.1) (spelling xs), length-bits w (h x.0 x.1), length-bits w x.1, length-each h xs)
-
--- each form of a packet is steady
-steady_if : (b : Bool) → (x y : Form) → IsSteady steers x → IsSteady steers y → IsSteady steers (cond b x y)
-steady_if true x y s t = s
-steady_if false x y s t = t
-
-steady_repeat : (n : ℕ) → (part : Form → Form) → (rest : Form) → ((f : Form) → IsSteady steers f → IsSteady steers (part f)) → IsSteady steers rest → IsSteady steers (repeat n part rest)
-steady_repeat zero part rest p s = s
-steady_repeat (suc n) part rest p s = p (repeat n part rest) (steady_repeat n part rest p s)
-
--- a variable that steers may say what it likes
-says : (v : Var) → (next : ℕ → Form) → steers v ≡ true → steers v ≡ false → (m n : ℕ) → next m ≡ next n
-says v next t f m n = absurd (true≢false (sym t ∙ f))
-
-steady_counted : (part : Form → Form) → (rest : Form) → ((f : Form) → IsSteady steers f → IsSteady steers (part f)) → IsSteady steers rest → IsSteady steers (counted part rest)
-unfolding counted steers
-steady_counted part rest p s = (λ e m n. absurd (true≢false e), λ n. steady_repeat n part rest p s)
-
-steady_link : (rest : Form) → IsSteady steers rest → IsSteady steers (link rest)
-unfolding link steers
-steady_link rest s = (
-  λ e m n. refl,
-  λ d. (
-    λ e m n. absurd (true≢false e),
-    λ new. steady_if (eqb new 1) _ _
-        (λ e m n. refl, λ c. (λ e m n. refl, λ a. (λ e m n. refl, λ o. (λ e m n. refl, λ r. (λ e m n. refl, λ l. s)))))
-        (λ e m n. refl, λ a. (λ e m n. refl, λ o. (λ e m n. refl, λ r. (λ e m n. refl, λ l. s)))),
-  ),
-)
-
-steady_gradient : (rest : Form) → IsSteady steers rest → IsSteady steers (gradient rest)
-unfolding gradient
-steady_gradient rest s = (λ e m n. refl, λ d. (λ e m n. refl, λ g. (λ e m n. refl, λ a. s)))
-
-steady_difference : (rest : Form) → IsSteady steers rest → IsSteady steers (difference rest)
-unfolding difference steers
-steady_difference rest s = (
-  λ e m n. absurd (true≢false e),
-  λ q. steady_if (eqb q 0) _ _ (λ e m n. refl, λ c. (λ e m n. refl, λ v. s))
-      (steady_if (eqb q 3) _ _ tt (λ e m n. refl, λ c. (λ e m n. refl, λ v. s))),
-)
-
-steady_section : (rest : Form) → IsSteady steers rest → IsSteady steers (section rest)
-unfolding section
-steady_section rest s = (λ e m n. refl, λ d. (λ e m n. refl, λ v. (λ e m n. refl, λ f. steady_counted difference rest steady_difference s)))
-
-steady_level : (rest : Form) → IsSteady steers rest → IsSteady steers (level rest)
-unfolding level steers
-steady_level rest s =
-    (λ e m n. absurd (true≢false e), λ m. steady_if (eqb m 1) _ _ (λ e m n. refl, λ c. (λ e m n. refl, λ l. s)) (λ e m n. refl, λ l. s))
-
-steady_infill : IsSteady steers (infill shut)
-unfolding infill steers
-steady_infill =
-    (λ e m n. absurd (true≢false e), λ new. steady_if (eqb new 1) _ _ (λ e m n. refl, λ c. (λ e m n. refl, λ b. tt)) (λ e m n. refl, λ b. tt))
-
-steady_known : (n : ℕ) → IsSteady steers (known_body n)
-unfolding known_body linking gradients speeds levels restriction revocation
-steady_known n =
-    steady_if (eqb n 5) _ _ (λ e m n. refl, λ q. steady_link _ (steady_counted link shut steady_link tt))
-    (steady_if (eqb n 21) _ _ (λ e m n. refl, λ q. steady_gradient _ (steady_counted gradient shut steady_gradient tt))
-    (steady_if (eqb n 27) _ _ (λ e m n. refl, λ q. steady_section _ (steady_counted section shut steady_section tt))
-    (steady_if (eqb n 41) _ _ (λ e m n. refl, λ q. (λ e m n. refl, λ d. steady_level _ (steady_counted level shut steady_level tt)))
-    (steady_if (eqb n 65) _ _ (λ e m n. refl, λ q. (λ e m n. refl, λ t. (λ e m n. refl, λ d. (λ e m n. refl, λ l. (λ e m n. refl, λ f. (λ e m n. refl, λ v. tt))))))
-    (steady_if (eqb n 66) _ _ (λ e m n. refl, λ t. tt) steady_infill)))))
-
-steady_body : (version n : ℕ) → IsSteady steers (body version n)
-unfolding body
-steady_body version n = steady_if (eqb n 0 || eqb n 255) _ _ tt (steady_if (is_known version n) _ _ (steady_known n) tt)
-
-pub packet_steady : (version : ℕ) → IsSteady steers (packet version)
-unfolding packet steers
-packet_steady version = (λ e m n. absurd (true≢false e), λ n. (λ e a b. refl, λ q. (λ e a b. absurd (true≢false e), λ l. steady_body version n)))
-
--- a header's variables say nothing of what follows
-pub header_steady : IsSteady (λ v. false) header
-unfolding header
-header_steady = (λ e m n. refl, λ a. (λ e m n. refl, λ b. (λ e m n. refl, λ c. (λ e m n. refl, λ d. (λ e m n. refl, λ f. (λ e m n. refl, λ g. (λ e m n. refl, λ i. (λ e m n. refl, λ j. (λ e m n. refl, λ k. (λ e m n. refl, λ l. tt))))))))))

@@ -1,22 +1,24 @@
 -- What a type of packets does with its bits: it reads them, goes over them, and puts values into them.
-use Rattle.std.proofs.Common.{◌≡◌, ◌↔◌, ℕ, ◌+◌, ◌-◌, ◌^◌, ◌<◌, ◌≤◌, Bool, false, List, [], length, take, drop, Some, None, Ok, Err, refl, sym, ap, subst, ◌∙◌, arith}
+use Rattle.std.proofs.Common.{◌≡◌, ◌↔◌, ℕ, ◌-◌, ◌^◌, ◌<◌, Bool, false, List, [], length, take, drop, Option, is_some, Some, None, Ok, Err, refl, sym, ap, subst, ◌∙◌, arith}
 use Rattle.std.proofs.lemmas.List.{take_all}
 use Rattle.balise_rules.specs.declared.variable.Var.{Var}
+use Rattle.balise_rules.specs.declared.variable.Var.TheVariants.{NidPacket}
 use Rattle.balise_rules.specs.Variables.{width_of, steers}
-use Rattle.balise_rules.specs.Bits.{num, bits, put_at}
+use Rattle.balise_rules.specs.Bits.{bits, put_at}
 use Rattle.balise_rules.specs.Forms.{Form, Fields, Matches, read_form}
 use Rattle.balise_rules.specs.Packets.{packet, is_known, body}
-use Rattle.balise_rules.specs.Packet.{Packet, bits_of, width, length_said, IsSpelt}
 use Rattle.balise_rules.proofs.Cases.{unok}
+use Rattle.balise_rules.specs.Packet.{Packet, bits_of, value, width, length_said, IsSpelt}
 use Rattle.balise_layout.specs.declared.fault.LayoutFault.{LayoutFault}
 use Rattle.balise_layout.specs.declared.fault.LayoutFault.TheVariants.{LayoutMismatch}
 use Rattle.balise_layout.specs.Walks.{walk, kept, collect}
-use Rattle.balise_layout.specs.Held.{headed, held, Holds, IsHeld, Steady, before, with_field}
-use Rattle.balise_layout.specs.Versions.{SpeltWhere}
+use Rattle.balise_rules.specs.Steady.{IsSteady}
+use Rattle.balise_layout.specs.Held.{headed, held, Holds, IsHeld, before, with_field}
+use Rattle.balise_layout.specs.Layouts.{next_of}
 use Rattle.balise_layout.proofs.Walks.{good, walk_again, walk_found, walk_fails, walk_fault, found_or_none, read_form_is}
-use Rattle.balise_layout.proofs.Spelt.{read_spelling, head_of, Front, front_alone, holds_read, read_holds, held_is, is_held}
+use Rattle.balise_layout.proofs.Spelt.{read_spelling, head_of, number_is, holds_read, read_holds, held_is, is_held}
+use Rattle.balise_layout.proofs.Layouts.{next_spelt}
 use Rattle.balise_layout.proofs.Setting.{Holds-put}
-use Rattle.balise_layout.proofs.Places.{standing}
 
 -- ---- reading
 
@@ -60,35 +62,27 @@ not_stuck {A = A} step next a b p n old e h all start is = differ (kept step a (
 pub holds_own : (next : ℕ → Form) (b : List Bool) (p : Packet) → Holds next b p → Holds next (bits_of p) p
 holds_own next b p h = subst (λ (x : List Bool). Holds next x p) h.spelt h
 
-pub placed_within : (next : ℕ → Form) (b : List Bool) (p : Packet) (v : Var) (k d : ℕ) → Holds next b p → before (v, k) p.fields ≡ Some d → d + width_of v ≤ length (bits_of p)
-placed_within next b p v k d h e = (standing v k p.fields p.rest d e).within
-
-pub put_held : (next : ℕ → Form) (b : List Bool) (p : Packet) (v : Var) (k n d : ℕ) → ((m : ℕ) → Steady (next m)) → steers v ≡ false → n < 2 ^ width_of v → Holds next b p → before (v, k) p.fields ≡ Some d → IsHeld next (put_at d (bits (width_of v) n) (bits_of p)) × (held next (put_at d (bits (width_of v) n) (bits_of p)) ≡ with_field v k n p)
+pub put_held : (next : ℕ → Form) (b : List Bool) (p : Packet) (v : Var) (k n d : ℕ) → ((m : ℕ) → IsSteady steers (next m)) → steers v ≡ false → n < 2 ^ width_of v → Holds next b p → before (v, k) p.fields ≡ Some d → IsHeld next (put_at d (bits (width_of v) n) b) × (held next (put_at d (bits (width_of v) n) b) ≡ with_field v k n p)
 put_held next b p v k n d s free fit h e =
-    let new = Holds-put next (bits_of p) p v k n d s free fit (holds_own next b p h) e in
+    let new = Holds-put next b p v k n d s free fit h e in
     (is_held next _ (with_field v k n p) new, held_is next _ (with_field v k n p) new)
 
 -- ---- which versions spell it
 
-pub number_at : (next : ℕ → Form) (b : List Bool) (p : Packet) (h : Holds next b p) → Front b (head_of next p.fields p.rest h.form h.numbered).number (head_of next p.fields p.rest h.form h.numbered).size
-number_at next b p h =
-    let a = head_of next p.fields p.rest h.form h.numbered in
-    subst (λ (x : List Bool). Front x a.number a.size) (sym h.spelt) (front_alone next p.fields p.rest a)
-
-pub spelt_where : (next : ℕ → Form) (known : Bool) (version : ℕ) (b : List Bool) (p : Packet) → SpeltWhere next known → Holds next b p → (is_known version (num (take 8 b)) ≡ known) ↔ IsSpelt version p
+pub spelt_where : (own : Option ℕ) (version : ℕ) (b : List Bool) (p : Packet) → Holds (next_of own) b p → (is_known version (value NidPacket 0 p.fields) ≡ is_some own) ↔ IsSpelt version p
 unfolding packet
-spelt_where next known version b p w h =
+spelt_where own version b p h =
+    let next = next_of own in
     let a = head_of next p.fields p.rest h.form h.numbered in
-    let own = holds_own next b p h in
-    let n : num (take 8 b) ≡ a.number = (number_at next b p h).has_number in
-    let test : is_known version (num (take 8 b)) ≡ is_known version a.number = ap (is_known version) n in
+    let alone = holds_own next b p h in
+    let test : is_known version (value NidPacket 0 p.fields) ≡ is_known version a.number = ap (is_known version) (number_is next p.fields p.rest a) in
     let m = subst (λ (x : Fields). Matches (headed next) x p.rest) a.is h.form in
-    let iff = w version a.number a.more p.rest a.matches in (
+    let iff = next_spelt own version a.number a.more p.rest a.matches in (
       λ e. record {
         spelt = refl;
         form = subst (λ (x : Fields). Matches (headed (body version)) x p.rest) (sym a.is) (refl, m.1, (refl, m.2.1, (refl, m.2.2.1, iff.1 (sym test ∙ e))));
         numbered = h.numbered;
-        said = own.said;
+        said = alone.said;
       },
       λ s. test ∙ iff.0 ((subst (λ (x : Fields). Matches (headed (body version)) x p.rest) a.is s.form).2.2.2),
     )

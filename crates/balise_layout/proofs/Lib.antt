@@ -3,8 +3,8 @@ pub mod Spelt
 pub mod First
 pub mod Places
 pub mod Setting
+pub mod Layouts
 pub mod Held
-pub mod Bodies
 pub mod Counts
 pub mod Searches
 pub mod Elements

@@ -8,19 +8,20 @@ use Rattle.balise_rules.specs.Tags.{Key, same_key, is_of}
 use Rattle.balise_rules.specs.Forms.{Form, done, shut, never, valued, Fields, Matches, Numbered, NumberedFrom, count_of}
 use Rattle.balise_rules.specs.Packets.{body}
 use Rattle.balise_rules.specs.Packet.{Packet, field_of, value, with_value, bits_of, width, IsSpelt}
+use Rattle.balise_rules.specs.Steady.{IsSteady}
+use Rattle.balise_rules.proofs.Tables.{headed_steady, body_steady}
 use Rattle.balise_rules.proofs.Tests.{key_test, other_no}
 use Rattle.balise_rules.proofs.Keys.{count-append, numbered_distinct}
 use Rattle.balise_rules.proofs.Used.{width-each}
 use Rattle.balise_rules.proofs.Lists.{find-each}
 use Rattle.balise_rules.proofs.Cases.{map_itself}
-use Rattle.balise_layout.specs.Held.{headed, Holds, Steady, with_field, before}
-use Rattle.balise_layout.specs.Steadies.{steady_body}
+use Rattle.balise_layout.specs.Held.{headed, Holds, with_field, before}
 use Rattle.balise_layout.proofs.Places.{put_spelling}
 use Rattle.balise_layout.proofs.Walks.{is_fit}
 use Rattle.balise_layout.proofs.First.{spells_holds, holds_spells}
 
 -- the fields stay of their form
-pub Matches-with_value : (form : Form) (fs : Fields) (raw : List Bool) (v : Var) (k n : ℕ) → Steady form → steers v ≡ false → n < 2 ^ width_of v → Matches form fs raw → Matches form (with_value v k n fs) raw
+pub Matches-with_value : (form : Form) (fs : Fields) (raw : List Bool) (v : Var) (k n : ℕ) → IsSteady steers form → steers v ≡ false → n < 2 ^ width_of v → Matches form fs raw → Matches form (with_value v k n fs) raw
 Matches-with_value done [] raw v k n s free fit m = m
 Matches-with_value done (f ∷ fs) raw v k n s free fit m = absurd m
 Matches-with_value shut [] raw v k n s free fit m = m
@@ -76,10 +77,10 @@ value_stays v w k n j fs a b = ap (λ (o : Option ℕ). unwrap_or o 0) (field_of
 
 -- ---- the packet
 
-pub Holds-with_field : (next : ℕ → Form) (b : List Bool) (p : Packet) (v : Var) (k n : ℕ) → ((m : ℕ) → Steady (next m)) → steers v ≡ false → n < 2 ^ width_of v → Holds next b p → Holds next (bits_of (with_field v k n p)) (with_field v k n p)
+pub Holds-with_field : (next : ℕ → Form) (b : List Bool) (p : Packet) (v : Var) (k n : ℕ) → ((m : ℕ) → IsSteady steers (next m)) → steers v ≡ false → n < 2 ^ width_of v → Holds next b p → Holds next (bits_of (with_field v k n p)) (with_field v k n p)
 unfolding steers
 Holds-with_field next b p v k n s free fit h =
-    let steady : Steady (headed next) = (λ e. absurd cc, λ m. (λ _ x y. refl, λ _. (λ e. absurd cc, λ _. s m))) in
+    let steady : IsSteady steers (headed next) = headed_steady next s in
     record {
       spelt = refl;
       form = Matches-with_value (headed next) p.fields p.rest v k n steady free fit h.form;
@@ -88,7 +89,7 @@ Holds-with_field next b p v k n s free fit h =
     }
 
 -- another value put where the field stands
-pub Holds-put : (next : ℕ → Form) (b : List Bool) (p : Packet) (v : Var) (k n d : ℕ) → ((m : ℕ) → Steady (next m)) → steers v ≡ false → n < 2 ^ width_of v → Holds next b p → before (v, k) p.fields ≡ Some d → Holds next (put_at d (bits (width_of v) n) b) (with_field v k n p)
+pub Holds-put : (next : ℕ → Form) (b : List Bool) (p : Packet) (v : Var) (k n d : ℕ) → ((m : ℕ) → IsSteady steers (next m)) → steers v ≡ false → n < 2 ^ width_of v → Holds next b p → before (v, k) p.fields ≡ Some d → Holds next (put_at d (bits (width_of v) n) b) (with_field v k n p)
 Holds-put next b p v k n d s free fit h at =
     let new : put_at d (bits (width_of v) n) b ≡ bits_of (with_field v k n p) = ap (put_at d (bits (width_of v) n)) h.spelt ∙ put_spelling v k n p.fields p.rest d (numbered_distinct [] p.fields h.numbered) at in
     subst (λ (x : List Bool). Holds next x (with_field v k n p)) (sym new) (Holds-with_field next b p v k n s free fit h)
@@ -96,4 +97,4 @@ Holds-put next b p v k n d s free fit h at =
 -- a version that spells the packet spells it so too
 pub IsSpelt-with_field : (version : ℕ) (p : Packet) (v : Var) (k n : ℕ) → steers v ≡ false → n < 2 ^ width_of v → IsSpelt version p → IsSpelt version (with_field v k n p)
 IsSpelt-with_field version p v k n free fit s =
-    holds_spells version (bits_of (with_field v k n p)) (with_field v k n p) (Holds-with_field (body version) (bits_of p) p v k n (steady_body version) free fit (spells_holds version (bits_of p) p s))
+    holds_spells version (bits_of (with_field v k n p)) (with_field v k n p) (Holds-with_field (body version) (bits_of p) p v k n (body_steady version) free fit (spells_holds version (bits_of p) p s))

@@ -1,23 +1,15 @@
 -- A packet as its bits hold it.
-use Rattle.std.specs.Prelude.{◌≡◌, ℕ, ◌+◌, ◌==◌, ◌||◌, List, [], ◌∷◌, Bool, false, cond, length, Option, Some, None, if◌then◌else◌}
+use Rattle.std.specs.Prelude.{◌≡◌, ℕ, ◌+◌, List, [], ◌∷◌, Bool, cond, length, Option, Some, None}
 use Rattle.balise_rules.specs.declared.variable.Var.{Var}
 use Rattle.balise_rules.specs.declared.variable.Var.TheVariants.{NidPacket, QDir, LPacket}
-use Rattle.balise_rules.specs.Variables.{width_of, steers}
+use Rattle.balise_rules.specs.Variables.{width_of}
 use Rattle.balise_rules.specs.Tags.{Key, same_key}
-use Rattle.balise_rules.specs.Forms.{Form, done, shut, never, valued, plain, Fields, Matches, Numbered, read_form}
+use Rattle.balise_rules.specs.Forms.{Form, valued, plain, Fields, Matches, Numbered, read_form}
 use Rattle.balise_rules.specs.Packet.{Packet, value, with_value, bits_of}
 
 -- the first three fields, and what follows them as the number says
 abbrev pub headed : (ℕ → Form) → Form
 headed next = valued NidPacket (λ n. plain QDir (plain LPacket (next n)))
-
--- the packet of this number alone
-abbrev pub only : ℕ → Form → ℕ → Form
-only number rest n = if n == number then rest else never
-
--- any packet that has the first three fields, kept bit for bit
-abbrev pub unknown : ℕ → Form
-unknown n = if n == 0 || n == 255 then never else done
 
 -- The bits are one packet of this form; L_PACKET is their number.
 pub record Holds (next : ℕ → Form) (b : List Bool) (p : Packet) : Type 0 where
@@ -37,13 +29,6 @@ held next b = packet_or_none (read_form (headed next) [] b)
 -- The bits are a packet of this form.
 abbrev pub IsHeld : (ℕ → Form) → List Bool → Type 0
 IsHeld next b = Holds next b (held next b)
-
--- Only a variable that isn't set in place says what comes next.
-abbrev pub Steady : Form → Type 0
-Steady done = Unit {0}
-Steady shut = Unit {0}
-Steady never = Unit {0}
-Steady (valued v next) = (steers v ≡ false → (x y : ℕ) → next x ≡ next y) × ((x : ℕ) → Steady (next x))
 
 -- the packet with another value of one of its fields
 abbrev pub with_field : Var → ℕ → ℕ → Packet → Packet

@@ -1,28 +1,14 @@
--- A packet of any kind: what it shows, and what follows its first three fields.
-use Rattle.std.specs.Prelude.{ℕ}
-use Rattle.balise_rules.specs.Forms.{Form, shut}
-use Rattle.balise_rules.specs.Packets.{linking, gradients, speeds, levels, restriction, revocation, infill}
-use Rattle.balise_rules.specs.Packet.{Packet}
+-- The number of each kind of packet; those that are kept bit for bit have none of their own.
+use Rattle.std.specs.Prelude.{ℕ, Option, Some, None}
 use Rattle.balise_layout.specs.declared.kind.Kind.{Kind}
-use Rattle.balise_layout.specs.declared.kind.Kind.TheVariants as kind
-use Rattle.balise_layout.specs.Held.{only, unknown}
+use Rattle.balise_layout.specs.declared.kind.Kind.TheVariants.{Linking, GradientProfile, SpeedProfile, LevelTransition, SpeedRestriction, Revocation, InfillLocation, Opaque}
 
-abbrev pub shown_of : Kind → Packet
-shown_of (kind.Linking p) = p
-shown_of (kind.GradientProfile p) = p
-shown_of (kind.SpeedProfile p) = p
-shown_of (kind.LevelTransition p) = p
-shown_of (kind.SpeedRestriction p) = p
-shown_of (kind.Revocation p) = p
-shown_of (kind.InfillLocation p) = p
-shown_of (kind.Opaque p) = p
-
-abbrev pub next_of : Kind → ℕ → Form
-next_of (kind.Linking p) = only 5 (linking shut)
-next_of (kind.GradientProfile p) = only 21 (gradients shut)
-next_of (kind.SpeedProfile p) = only 27 (speeds shut)
-next_of (kind.LevelTransition p) = only 41 (levels shut)
-next_of (kind.SpeedRestriction p) = only 65 (restriction shut)
-next_of (kind.Revocation p) = only 66 (revocation shut)
-next_of (kind.InfillLocation p) = only 136 (infill shut)
-next_of (kind.Opaque p) = unknown
+abbrev pub number_of : Kind → Option ℕ
+number_of Linking = Some 5
+number_of GradientProfile = Some 21
+number_of SpeedProfile = Some 27
+number_of LevelTransition = Some 41
+number_of SpeedRestriction = Some 65
+number_of Revocation = Some 66
+number_of InfillLocation = Some 136
+number_of Opaque = None

@@ -1,25 +1,30 @@
 -- The laws of packets.
-use Rattle.std.specs.Prelude.{◌≡◌, ◌<◌, ◌^◌, ◌↔◌, ℕ, ◌++◌, Bool, false, List, Ok}
+use Rattle.std.specs.Prelude.{◌≡◌, ◌<◌, ◌^◌, ◌↔◌, ℕ, ◌++◌, Bool, false, List, Option, is_some, Ok}
 use Rattle.balise_rules.specs.declared.variable.Var.{Var}
 use Rattle.balise_rules.specs.declared.variable.Var.TheVariants.{NidPacket, LPacket}
 use Rattle.balise_rules.specs.Variables.{width_of, steers}
-use Rattle.balise_rules.specs.Forms.{Form}
 use Rattle.balise_rules.specs.Packets.{is_known}
 use Rattle.balise_rules.specs.Packet.{Packet, bits_of, value, width, read_first, Spells, IsSpelt}
+use Rattle.balise_rules.specs.Steady.{IsSteady}
 use Rattle.balise_layout.specs.Held.{Holds, with_field}
+use Rattle.balise_layout.specs.Layouts.{next_of}
 
--- Of a type of packets: what is written is read, whatever follows, by every version that knows its number or, of a packet kept bit for bit, that doesn't.
-abbrev pub WrittenIsRead : (ℕ → Form) → Bool → Type 0
-WrittenIsRead next known = (version : ℕ) (p : Packet) (behind : List Bool) → Holds next (bits_of p) p → is_known version (value NidPacket 0 p.fields) ≡ known → read_first version (bits_of p ++ behind) ≡ Ok (p, behind)
+-- Of a layout: only variables that aren't set in place say what follows them.
+abbrev pub IsSteadyLayout : Option ℕ → Type 0
+IsSteadyLayout own = (n : ℕ) → IsSteady steers (next_of own n)
+
+-- What is written is read, whatever follows, by every version that knows its number or, of a packet kept bit for bit, that doesn't.
+abbrev pub WrittenIsRead : Option ℕ → Type 0
+WrittenIsRead own = (version : ℕ) (p : Packet) (behind : List Bool) → Holds (next_of own) (bits_of p) p → is_known version (value NidPacket 0 p.fields) ≡ is_some own → read_first version (bits_of p ++ behind) ≡ Ok (p, behind)
 
 -- What is written is as long as L_PACKET says.
-abbrev pub IsAsLongAsSaid : (ℕ → Form) → Type 0
-IsAsLongAsSaid next = (b : List Bool) (p : Packet) → Holds next b p → value LPacket 0 p.fields ≡ width p
+abbrev pub IsAsLongAsSaid : Option ℕ → Type 0
+IsAsLongAsSaid own = (b : List Bool) (p : Packet) → Holds (next_of own) b p → value LPacket 0 p.fields ≡ width p
 
 -- The same bits are of one packet, and a packet has one spelling.
-pub record HasOneSpelling (next : ℕ → Form) : Type 0 where
-  pub one_packet : (b : List Bool) (p q : Packet) → Holds next b p → Holds next b q → p ≡ q
-  pub one_spelling : (a b : List Bool) (p : Packet) → Holds next a p → Holds next b p → a ≡ b
+pub record HasOneSpelling (own : Option ℕ) : Type 0 where
+  pub one_packet : (b : List Bool) (p q : Packet) → Holds (next_of own) b p → Holds (next_of own) b q → p ≡ q
+  pub one_spelling : (a b : List Bool) (p : Packet) → Holds (next_of own) a p → Holds (next_of own) b p → a ≡ b
 
 -- The bits begin with those of a packet that the version spells, and these stand behind it.
 abbrev pub BeginsWith : ℕ → List Bool → Packet → List Bool → Type 0

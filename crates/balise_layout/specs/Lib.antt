@@ -2,8 +2,7 @@ pub mod Faults
 pub mod Walks
 pub mod Reading
 pub mod Held
-pub mod Steadies
-pub mod Versions
+pub mod Layouts
 pub mod Search
 pub mod Collected
 pub mod Linked
@@ -14,9 +13,12 @@ pub mod Laws
 pub use Rattle.balise_rules.specs.Variables
 pub use Rattle.balise_rules.specs.Refusals
 pub use Rattle.balise_rules.specs.Bits
+pub use Rattle.balise_rules.specs.Digits
 pub use Rattle.balise_rules.specs.Tagged
 pub use Rattle.balise_rules.specs.Tags
 pub use Rattle.balise_rules.specs.Forms
 pub use Rattle.balise_rules.specs.Packets
 pub use Rattle.balise_rules.specs.Packet
+pub use Rattle.balise_rules.specs.Steady
 pub use Rattle.balise_rules.specs.Names
+pub use Rattle.balise_bits.specs.Equal

@@ -1,22 +1,33 @@
 //! The laws of packets. Each function does nothing: its contract is the law, proved for every packet.
 
-ghost use Rattle.balise_layout.specs.Laws.{HasOneSpelling, IsAsLongAsSaid, ReadsWhatIsSpelt, SettingKeeps, SpellsOnce, WrittenIsRead};
+ghost use Rattle.balise_layout.specs.Layouts.{SpeltWhere};
+ghost use Rattle.balise_layout.specs.Laws.{HasOneSpelling, IsAsLongAsSaid, IsSteadyLayout, ReadsWhatIsSpelt, SettingKeeps, SpellsOnce, WrittenIsRead};
 
 use crate::layout::Layout;
 
-/// What is written of a packet of this type is read as the same packet, whatever follows.
+/// In a packet of this layout only a variable that isn't set in place says what follows it.
+pub fn is_steady<L: Layout>()
+    ensures { IsSteadyLayout L.NUMBER }
+{}
+
+/// The versions that know its number spell a packet of this layout, or of one kept bit for bit, the others.
+pub fn spelt_where_known<L: Layout>()
+    ensures { SpeltWhere L.NUMBER }
+{}
+
+/// What is written of a packet of this layout is read as the same packet, whatever follows.
 pub fn written_is_read<L: Layout>()
-    ensures { WrittenIsRead L.next L.KNOWN }
+    ensures { WrittenIsRead L.NUMBER }
 {}
 
-/// What is written of a packet of this type is as long as its L_PACKET says.
+/// What is written of a packet of this layout is as long as its L_PACKET says.
 pub fn as_long_as_said<L: Layout>()
-    ensures { IsAsLongAsSaid L.next }
+    ensures { IsAsLongAsSaid L.NUMBER }
 {}
 
-/// A packet of this type has one spelling, and its bits are of no other packet.
+/// A packet of this layout has one spelling, and its bits are of no other packet.
 pub fn one_spelling<L: Layout>()
-    ensures { HasOneSpelling L.next }
+    ensures { HasOneSpelling L.NUMBER }
 {}
 
 /// A packet is read exactly where the bits begin with one that the version spells.

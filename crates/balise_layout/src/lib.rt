@@ -10,28 +10,23 @@ pub mod laws;
 mod layout;
 mod links;
 mod packet;
-mod packets;
+mod parts;
 mod search;
 mod tables;
 #[cfg(test)]
 mod tests;
-mod versions;
 mod visit;
 mod walker;
 
+pub use balise_bits::{Bits, BitsFault};
 pub use balise_rules::{Id, Var};
 pub use fault::LayoutFault;
-pub use kind::Kind;
+pub use kind::{Kind, is_known};
 pub use layout::Layout;
 pub use packet::Packet;
-pub use packets::gradient_profile::GradientProfile;
-pub use packets::infill_location::InfillLocation;
-pub use packets::level_transition::LevelTransition;
-pub use packets::linking::Linking;
-pub use packets::opaque::Opaque;
-pub use packets::revocation::Revocation;
-pub use packets::speed_profile::SpeedProfile;
-pub use packets::speed_restriction::SpeedRestriction;
-pub use versions::is_known;
+pub use tables::{
+    GradientProfile, InfillLocation, LevelTransition, Linking, Opaque, Revocation, SpeedProfile,
+    SpeedRestriction,
+};
 pub use visit::Visit;
 pub use walker::Walker;

@@ -1,39 +1,51 @@
 //! A packet of a telegram.
 
-ghost use Rattle.std.specs.Prelude.{◌≡◌, ◌↔◌, ◌++◌, ◌<◌, ◌^◌, ℕ, IfOk, IsOkUnless, IsTrue, OnErr, OnOk};
+ghost use Rattle.std.specs.Prelude.{◌≡◌, ◌↔◌, ◌++◌, ◌-◌, ◌<◌, ◌≤◌, ◌^◌, ℕ, false, length, Some, IfOk, IsOkUnless, IsTrue, MatchResult, OnErr, OnOk};
 ghost use Rattle.balise_rules.specs.declared.variable.Var.TheVariants.{NidPacket, QDir};
-ghost use Rattle.balise_rules.specs.Packet.{bits_of, field_of, value, width, IsSpelt};
+ghost use Rattle.balise_rules.specs.Variables.{steers, width_of};
+ghost use Rattle.balise_rules.specs.Bits.{part};
+ghost use Rattle.balise_rules.specs.Forms.{Form, Numbered};
+ghost use Rattle.balise_rules.specs.Packet.{bits_of, field_of, length_said, value, width, IsSpelt};
 ghost use Rattle.balise_rules.specs.Names.{links_of};
+ghost use Rattle.balise_layout.specs.Walks.{kept};
+ghost use Rattle.balise_layout.specs.Reading.{Gives, Sure};
 ghost use Rattle.balise_layout.specs.Collected.{all_keyed};
 ghost use Rattle.balise_layout.specs.First.{LiesAt, ReadsFirst};
-ghost use Rattle.balise_layout.specs.Held.{before};
-ghost use Rattle.balise_layout.specs.Kinds.{shown_of};
+ghost use Rattle.balise_layout.specs.Held.{before, headed, with_field, Holds};
+ghost use Rattle.balise_layout.specs.Layouts.{next_of};
+ghost use Rattle.balise_layout.specs.Kinds.{number_of};
 ghost use Rattle.balise_layout.specs.Setting.{flipped, renamed, turned, Sets};
 
 use crate::bounds::bounds;
 use crate::collect::Collect;
 use crate::fault::LayoutFault;
-use crate::kind::Kind;
+use crate::kind::{Kind, is_known};
 use crate::links::Links;
 use crate::search::Search;
+use crate::visit::{Nothing, Visit};
+use crate::walker::Walker;
 use balise_bits::Bits;
 use balise_rules::{Id, Var};
-use std::alloc::Global;
 use std::marker::Model;
 
 /// A packet: its fields in bit order and, where it isn't known, the rest of its bits.
 #[derive(Debug, Drop)]
 pub struct Packet {
     kind: Kind,
+    packed: Bits,
 }
 
 impl Model for Packet {
     ghost use Rattle.balise_rules.specs.Packet as rules;
-    ghost use Rattle.balise_layout.specs.Kinds.{shown_of};
+    ghost use Rattle.balise_layout.specs.Held.{held, IsHeld};
+    ghost use Rattle.balise_layout.specs.Layouts.{next_of};
+    ghost use Rattle.balise_layout.specs.Kinds.{number_of};
 
     ghost Value = { rules.Packet };
 
-    ghost view = { λ p. shown_of p.kind };
+    ghost view = { λ p. held (next_of (number_of p.kind)) p.packed };
+
+    ghost invariant = { λ p. IsHeld (next_of (number_of p.kind)) p.packed };
 }
 
 impl Packet {
@@ -44,15 +56,28 @@ impl Packet {
         ensures lies { LiesAt version bits.now at result }
     {
         let (number, end) = bounds(bits, at)?;
-        let kind = Kind::read(bits, at, end, version, number)?;
-        Ok((Packet { kind }, end))
+        let packet = Packet::read_as(Kind::of(version, number), bits, at, end)?;
+        Ok((packet, end))
+    }
+
+    // Reads a packet of this kind that is all of the bits from the place `at` up to the place `end`.
+    fn read_as(kind: Kind, bits: &Bits, at: usize, end: usize) -> Result<Packet, LayoutFault>
+        requires ordered { at ≤ end }
+        requires within { end ≤ length bits.now }
+        requires said { length_said (part at (end - at) bits.now) ≡ end - at }
+        ensures { Gives (λ p. p) (headed (next_of (number_of kind))) (part at (end - at) bits.now) result }
+    {
+        let mut walker = Walker::new(Nothing, bits, at, end);
+        kind.walk(&mut walker)?;
+        let packed = bits.slice(at, end - at)?;
+        Ok(Packet { kind, packed })
     }
 
     /// What kind of packet it is.
-    pub fn kind(&self) -> &Kind
-        ensures { shown_of result.now ≡ self.now }
+    pub fn kind(&self) -> Kind
+        ensures { Holds (next_of (number_of result)) (bits_of self.now) self.now }
     {
-        &self.kind
+        self.kind
     }
 
     /// Adds the packet's bits at the end of others. On want of memory those stay.
@@ -61,7 +86,7 @@ impl Packet {
         ensures err { OnErr result (out.new ≡ out.old) }
         ensures fault { IsOkUnless result LayoutFault.OutOfMemory }
     {
-        out.append(self.kind.bits())?;
+        out.append(self.bits())?;
         Ok(())
     }
 
@@ -69,48 +94,46 @@ impl Packet {
     pub fn width(&self) -> usize
         ensures { result ≡ width self.now }
     {
-        self.kind.bits().len()
+        self.bits().len()
     }
 
     /// NID_PACKET.
     pub fn number(&self) -> u32
         ensures { result ≡ value NidPacket 0 self.now.fields }
     {
-        self.kind.bits().number(0, 8)
+        self.bits().number(0, 8)
     }
 
     /// Q_DIR.
     pub fn q_dir(&self) -> u32
         ensures { result ≡ value QDir 0 self.now.fields }
     {
-        self.kind.bits().number(8, 2)
+        self.bits().number(8, 2)
     }
 
     /// Whether a telegram of this M_VERSION may hold it.
     pub fn is_spelt(&self, version: u32) -> bool
         ensures { IsTrue result ↔ IsSpelt version self.now }
     {
-        self.kind.is_spelt(version)
+        is_known(version, self.number()) == self.kind.is_known()
     }
 
     /// Its fields in bit order: variable, occurrence from 0, and value.
-    pub fn fields(&self, alloc: Global) -> Result<Vec<(Var, u32, u32)>, LayoutFault>
+    pub fn fields(&self) -> Result<Vec<(Var, u32, u32)>, LayoutFault>
         ensures ok { IfOk result (λ fields. all_keyed fields.items ≡ self.now.fields) }
         ensures fault { IsOkUnless result LayoutFault.OutOfMemory }
     {
-        Ok(self.kind.visit(Collect::new(alloc))?.into_fields())
+        let alloc = self.bits().allocator();
+        Ok(self.visit(Collect::new(alloc))?.into_fields())
     }
 
     /// The identities of its elements, one each in order, with number 16383 kept, in a telegram of this country.
-    pub fn links(&self, alloc: Global, country: u32) -> Result<Vec<Id>, LayoutFault>
+    pub fn links(&self, country: u32) -> Result<Vec<Id>, LayoutFault>
         ensures ok { IfOk result (λ links. links.items ≡ links_of country self.now) }
         ensures fault { IsOkUnless result LayoutFault.OutOfMemory }
     {
-        Ok(
-            self.kind
-                .visit(Links::new(alloc, country))?
-                .into_identities(),
-        )
+        let alloc = self.bits().allocator();
+        Ok(self.visit(Links::new(alloc, country))?.into_identities())
     }
 
     /// The value of the occurrence `k`, from 0, of a variable.
@@ -120,7 +143,7 @@ impl Packet {
         let Some(at) = self.place_of(var, k) else {
             return None;
         };
-        Some(self.kind.bits().number(at, var.width()))
+        Some(self.bits().number(at, var.width()))
     }
 
     /// Sets an occurrence of a variable and answers the old value. Takes no memory.
@@ -138,8 +161,8 @@ impl Packet {
         if value >> width != 0 {
             return Err(LayoutFault::ValueTooWide);
         }
-        let old = self.kind.bits().number(at, width);
-        self.kind.put_field(at, var, value);
+        let old = self.bits().number(at, width);
+        self.put_field(at, var, value);
         Ok(old)
     }
 
@@ -148,9 +171,9 @@ impl Packet {
         ensures turned { self.new ≡ turned self.old }
         ensures spelt { (version : ℕ) → IsSpelt version self.old → IsSpelt version self.new }
     {
-        let dir = self.kind.bits().number(8, 2);
+        let dir = self.bits().number(8, 2);
         if dir < 2 {
-            self.kind.put_field(8, Var::QDir, 1 - dir);
+            self.put_field(8, Var::QDir, 1 - dir);
         }
     }
 
@@ -160,8 +183,8 @@ impl Packet {
         ensures spelt { (version : ℕ) → IsSpelt version self.old → IsSpelt version self.new }
     {
         if let Some(at) = self.place_of(Var::QLinkorientation, k) {
-            let old = self.kind.bits().number(at, 1);
-            self.kind.put_field(at, Var::QLinkorientation, 1 - old);
+            let old = self.bits().number(at, 1);
+            self.put_field(at, Var::QLinkorientation, 1 - old);
         }
     }
 
@@ -172,7 +195,7 @@ impl Packet {
         ensures spelt { (version : ℕ) → IsSpelt version self.old → IsSpelt version self.new }
     {
         if let Some(at) = self.place_of(Var::NidBg, k) {
-            self.kind.put_field(at, Var::NidBg, number);
+            self.put_field(at, Var::NidBg, number);
         }
     }
 
@@ -181,9 +204,39 @@ impl Packet {
         ensures ok { IfOk result (λ packet. packet ≡ self.now) }
         ensures fault { IsOkUnless result LayoutFault.OutOfMemory }
     {
+        let packed = self.packed.copy()?;
         Ok(Packet {
-            kind: self.kind.copy()?,
+            kind: self.kind,
+            packed,
         })
+    }
+
+    // Its bits, one spelling of its fields.
+    fn bits(&self) -> &Bits
+        ensures { (next : ℕ → Form) × Holds next result.now self.now }
+    {
+        &self.packed
+    }
+
+    // Shows each field to a visitor.
+    fn visit<V: Visit + Drop>(&self, visitor: V) -> Result<V, LayoutFault>
+        ensures shows { MatchResult result (λ v. v ≡ kept V.step visitor (width self.now) self.now.fields) (λ e. Sure V.allocates e → ⊥) }
+        ensures numbered { Numbered self.now.fields }
+    {
+        let Packet { kind, packed } = self;
+        let mut walker = Walker::new(visitor, packed, 0, packed.len());
+        kind.walk(&mut walker)?;
+        Ok(walker.into_visitor())
+    }
+
+    // Puts a value into the field of a variable that stands behind so many bits.
+    fn put_field(&mut self, at: usize, var: Var, value: u32)
+        requires stands { (k : ℕ) × (before (var, k) self.old.fields ≡ Some at) }
+        requires free { steers var ≡ false }
+        requires fits { value < 2 ^ width_of var }
+        ensures { (k : ℕ) → before (var, k) self.old.fields ≡ Some at → self.new ≡ with_field var k value self.old }
+    {
+        self.packed.put(at, var.width(), value);
     }
 
     // How many bits stand before an occurrence of a variable.
@@ -195,7 +248,7 @@ impl Packet {
             skip: k,
             found: None,
         };
-        let Ok(search) = self.kind.visit(search) else {
+        let Ok(search) = self.visit(search) else {
             return None;
         };
         match search.found {

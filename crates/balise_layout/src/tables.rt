@@ -1,214 +1,215 @@
-//! The tables of the known packets (SUBSET-026, chapter 7), one field after another as the standard lists them.
-
-ghost use Rattle.std.specs.Prelude.{◌≡◌};
-ghost use Rattle.balise_rules.specs.Forms.{Form};
-ghost use Rattle.balise_rules.specs.Packets.{counted, gradients, infill, levels, linking, restriction, revocation, speeds};
-ghost use Rattle.balise_layout.specs.Reading.{Reads};
+//! The layouts of packets (SUBSET-026, chapter 7), one field after another as the standard lists them.
 
 use crate::fault::LayoutFault;
+use crate::layout::Layout;
+use crate::parts::{Difference, Gradient, Level, Link, Part, Section, walk_counted};
 use crate::visit::Visit;
 use crate::walker::Walker;
 use balise_rules::Var;
 
-/// A part of a packet that may stand several times.
-trait Part {
-    /// Its fields, before those that follow.
-    ghost form: { Form → Form };
+/// Packet 5, linking: the balise groups that follow on the line.
+pub struct Linking;
 
-    /// Goes over one.
-    fn walk<V: Visit + Drop>(walker: &mut Walker<V>) -> Result<(), LayoutFault>
-        ensures { Reads V.allocates V.step form walker.old result walker.new };
-}
+impl Layout for Linking {
+    ghost use Rattle.std.specs.Prelude.{Some, refl};
+    ghost use Rattle.balise_rules.specs.Forms.{shut};
+    ghost use Rattle.balise_rules.specs.Packets.{known_body, linking};
+    ghost use Rattle.balise_layout.specs.Layouts.{form_of};
 
-/// N_ITER and as many parts.
-#[tactic(auto, unfolding(balise_rules::specs::Packets::counted), using(crate::proofs::Walks::repeat_next, crate::proofs::Walks::repeat_last))]
-fn walk_counted<P: Part, V: Visit + Drop>(walker: &mut Walker<V>) -> Result<(), LayoutFault>
-    ensures { Reads V.allocates V.step (counted P.form) walker.old result walker.new }
-{
-    let more = walker.take(Var::NIter)?;
-    for _ in 0..more {
-        P::walk(walker)?;
-    }
-    Ok(())
-}
+    const NUMBER: Option<u32> = Some(5);
 
-/// An element of packet 5.
-struct Link;
+    ghost NUMBER = { Some 5 };
 
-impl Part for Link {
-    ghost use Rattle.balise_rules.specs.Packets.{link};
+    ghost form = { linking shut };
 
-    ghost form = { link };
-
-    #[tactic(auto, unfolding(balise_rules::specs::Packets::link))]
+    #[tactic(auto, unfolding(balise_rules::specs::Packets::linking))]
     fn walk<V: Visit + Drop>(walker: &mut Walker<V>) -> Result<(), LayoutFault> {
-        walker.take(Var::DLink)?;
-        let new_country = walker.take(Var::QNewcountry)?;
-        if new_country == 1 {
+        walker.take(Var::QScale)?;
+        Link::walk(walker)?;
+        walk_counted::<Link, V>(walker)?;
+        walker.end()
+    }
+
+    ghost ruled = { unfold form_of known_body in refl };
+}
+
+/// Packet 21, gradient profile.
+pub struct GradientProfile;
+
+impl Layout for GradientProfile {
+    ghost use Rattle.std.specs.Prelude.{Some, refl};
+    ghost use Rattle.balise_rules.specs.Forms.{shut};
+    ghost use Rattle.balise_rules.specs.Packets.{known_body, gradients};
+    ghost use Rattle.balise_layout.specs.Layouts.{form_of};
+
+    const NUMBER: Option<u32> = Some(21);
+
+    ghost NUMBER = { Some 21 };
+
+    ghost form = { gradients shut };
+
+    #[tactic(auto, unfolding(balise_rules::specs::Packets::gradients))]
+    fn walk<V: Visit + Drop>(walker: &mut Walker<V>) -> Result<(), LayoutFault> {
+        walker.take(Var::QScale)?;
+        Gradient::walk(walker)?;
+        walk_counted::<Gradient, V>(walker)?;
+        walker.end()
+    }
+
+    ghost ruled = { unfold form_of known_body in refl };
+}
+
+/// Packet 27, international static speed profile.
+pub struct SpeedProfile;
+
+impl Layout for SpeedProfile {
+    ghost use Rattle.std.specs.Prelude.{Some, refl};
+    ghost use Rattle.balise_rules.specs.Forms.{shut};
+    ghost use Rattle.balise_rules.specs.Packets.{known_body, speeds};
+    ghost use Rattle.balise_layout.specs.Layouts.{form_of};
+
+    const NUMBER: Option<u32> = Some(27);
+
+    ghost NUMBER = { Some 27 };
+
+    ghost form = { speeds shut };
+
+    #[tactic(auto, unfolding(balise_rules::specs::Packets::speeds))]
+    fn walk<V: Visit + Drop>(walker: &mut Walker<V>) -> Result<(), LayoutFault> {
+        walker.take(Var::QScale)?;
+        Section::walk(walker)?;
+        walk_counted::<Section, V>(walker)?;
+        walker.end()
+    }
+
+    ghost ruled = { unfold form_of known_body in refl };
+}
+
+/// Packet 41, level transition order.
+pub struct LevelTransition;
+
+impl Layout for LevelTransition {
+    ghost use Rattle.std.specs.Prelude.{Some, refl};
+    ghost use Rattle.balise_rules.specs.Forms.{shut};
+    ghost use Rattle.balise_rules.specs.Packets.{known_body, levels};
+    ghost use Rattle.balise_layout.specs.Layouts.{form_of};
+
+    const NUMBER: Option<u32> = Some(41);
+
+    ghost NUMBER = { Some 41 };
+
+    ghost form = { levels shut };
+
+    #[tactic(auto, unfolding(balise_rules::specs::Packets::levels))]
+    fn walk<V: Visit + Drop>(walker: &mut Walker<V>) -> Result<(), LayoutFault> {
+        walker.take(Var::QScale)?;
+        walker.take(Var::DLeveltr)?;
+        Level::walk(walker)?;
+        walk_counted::<Level, V>(walker)?;
+        walker.end()
+    }
+
+    ghost ruled = { unfold form_of known_body in refl };
+}
+
+/// Packet 65, temporary speed restriction.
+pub struct SpeedRestriction;
+
+impl Layout for SpeedRestriction {
+    ghost use Rattle.std.specs.Prelude.{Some, refl};
+    ghost use Rattle.balise_rules.specs.Forms.{shut};
+    ghost use Rattle.balise_rules.specs.Packets.{known_body, restriction};
+    ghost use Rattle.balise_layout.specs.Layouts.{form_of};
+
+    const NUMBER: Option<u32> = Some(65);
+
+    ghost NUMBER = { Some 65 };
+
+    ghost form = { restriction shut };
+
+    #[tactic(auto, unfolding(balise_rules::specs::Packets::restriction))]
+    fn walk<V: Visit + Drop>(walker: &mut Walker<V>) -> Result<(), LayoutFault> {
+        walker.take(Var::QScale)?;
+        walker.take(Var::NidTsr)?;
+        walker.take(Var::DTsr)?;
+        walker.take(Var::LTsr)?;
+        walker.take(Var::QFront)?;
+        walker.take(Var::VTsr)?;
+        walker.end()
+    }
+
+    ghost ruled = { unfold form_of known_body in refl };
+}
+
+/// Packet 66, temporary speed restriction revocation.
+pub struct Revocation;
+
+impl Layout for Revocation {
+    ghost use Rattle.std.specs.Prelude.{Some, refl};
+    ghost use Rattle.balise_rules.specs.Forms.{shut};
+    ghost use Rattle.balise_rules.specs.Packets.{known_body, revocation};
+    ghost use Rattle.balise_layout.specs.Layouts.{form_of};
+
+    const NUMBER: Option<u32> = Some(66);
+
+    ghost NUMBER = { Some 66 };
+
+    ghost form = { revocation shut };
+
+    #[tactic(auto, unfolding(balise_rules::specs::Packets::revocation))]
+    fn walk<V: Visit + Drop>(walker: &mut Walker<V>) -> Result<(), LayoutFault> {
+        walker.take(Var::NidTsr)?;
+        walker.end()
+    }
+
+    ghost ruled = { unfold form_of known_body in refl };
+}
+
+/// Packet 136, infill location reference.
+pub struct InfillLocation;
+
+impl Layout for InfillLocation {
+    ghost use Rattle.std.specs.Prelude.{Some, refl};
+    ghost use Rattle.balise_rules.specs.Forms.{shut};
+    ghost use Rattle.balise_rules.specs.Packets.{known_body, infill};
+    ghost use Rattle.balise_layout.specs.Layouts.{form_of};
+
+    const NUMBER: Option<u32> = Some(136);
+
+    ghost NUMBER = { Some 136 };
+
+    ghost form = { infill shut };
+
+    #[tactic(auto, unfolding(balise_rules::specs::Packets::infill))]
+    fn walk<V: Visit + Drop>(walker: &mut Walker<V>) -> Result<(), LayoutFault> {
+        if walker.take(Var::QNewcountry)? == 1 {
             walker.take(Var::NidC)?;
         }
         walker.take(Var::NidBg)?;
-        walker.take(Var::QLinkorientation)?;
-        walker.take(Var::QLinkreaction)?;
-        walker.take(Var::QLocacc)?;
+        walker.end()
+    }
+
+    ghost ruled = { unfold form_of known_body in refl };
+}
+
+/// A packet that isn't known, kept bit for bit behind its first three fields.
+pub struct Opaque;
+
+impl Layout for Opaque {
+    ghost use Rattle.std.specs.Prelude.{None, refl};
+    ghost use Rattle.balise_rules.specs.Forms.{done};
+    ghost use Rattle.balise_layout.specs.Layouts.{form_of};
+
+    const NUMBER: Option<u32> = None;
+
+    ghost NUMBER = { None };
+
+    ghost form = { done };
+
+    #[tactic(auto, using(crate::proofs::Walks::walk_done))]
+    fn walk<V: Visit + Drop>(_walker: &mut Walker<V>) -> Result<(), LayoutFault> {
         Ok(())
     }
-}
 
-/// Packet 5, linking, behind its first three fields.
-#[tactic(auto, unfolding(balise_rules::specs::Packets::linking))]
-pub fn walk_linking<V: Visit + Drop>(walker: &mut Walker<V>) -> Result<(), LayoutFault>
-    ensures { Reads V.allocates V.step linking walker.old result walker.new }
-{
-    walker.take(Var::QScale)?;
-    Link::walk(walker)?;
-    walk_counted::<Link, V>(walker)?;
-    Ok(())
-}
-
-/// A gradient of packet 21.
-struct Gradient;
-
-impl Part for Gradient {
-    ghost use Rattle.balise_rules.specs.Packets.{gradient};
-
-    ghost form = { gradient };
-
-    #[tactic(auto, unfolding(balise_rules::specs::Packets::gradient))]
-    fn walk<V: Visit + Drop>(walker: &mut Walker<V>) -> Result<(), LayoutFault> {
-        walker.take(Var::DGradient)?;
-        walker.take(Var::QGdir)?;
-        walker.take(Var::GA)?;
-        Ok(())
-    }
-}
-
-/// Packet 21, gradient profile, behind its first three fields.
-#[tactic(auto, unfolding(balise_rules::specs::Packets::gradients))]
-pub fn walk_gradient_profile<V: Visit + Drop>(walker: &mut Walker<V>) -> Result<(), LayoutFault>
-    ensures { Reads V.allocates V.step gradients walker.old result walker.new }
-{
-    walker.take(Var::QScale)?;
-    Gradient::walk(walker)?;
-    walk_counted::<Gradient, V>(walker)?;
-    Ok(())
-}
-
-/// A speed for one category of trains; Q_DIFF 3 is spare.
-struct Difference;
-
-impl Part for Difference {
-    ghost use Rattle.balise_rules.specs.Packets.{difference};
-
-    ghost form = { difference };
-
-    #[tactic(auto, unfolding(balise_rules::specs::Packets::difference), using(crate::proofs::Walks::walk_never))]
-    fn walk<V: Visit + Drop>(walker: &mut Walker<V>) -> Result<(), LayoutFault> {
-        match walker.take(Var::QDiff)? {
-            0 => {
-                walker.take(Var::NcCddiff)?;
-            }
-            3 => return Err(LayoutFault::LayoutMismatch),
-            _ => {
-                walker.take(Var::NcDiff)?;
-            }
-        }
-        walker.take(Var::VDiff)?;
-        Ok(())
-    }
-}
-
-/// A section of packet 27.
-struct Section;
-
-impl Part for Section {
-    ghost use Rattle.balise_rules.specs.Packets.{section};
-
-    ghost form = { section };
-
-    #[tactic(auto, unfolding(balise_rules::specs::Packets::section))]
-    fn walk<V: Visit + Drop>(walker: &mut Walker<V>) -> Result<(), LayoutFault> {
-        walker.take(Var::DStatic)?;
-        walker.take(Var::VStatic)?;
-        walker.take(Var::QFront)?;
-        walk_counted::<Difference, V>(walker)?;
-        Ok(())
-    }
-}
-
-/// Packet 27, static speed profile, behind its first three fields.
-#[tactic(auto, unfolding(balise_rules::specs::Packets::speeds))]
-pub fn walk_speed_profile<V: Visit + Drop>(walker: &mut Walker<V>) -> Result<(), LayoutFault>
-    ensures { Reads V.allocates V.step speeds walker.old result walker.new }
-{
-    walker.take(Var::QScale)?;
-    Section::walk(walker)?;
-    walk_counted::<Section, V>(walker)?;
-    Ok(())
-}
-
-/// A level; level 1 is followed by the national system.
-struct Level;
-
-impl Part for Level {
-    ghost use Rattle.balise_rules.specs.Packets.{level};
-
-    ghost form = { level };
-
-    #[tactic(auto, unfolding(balise_rules::specs::Packets::level))]
-    fn walk<V: Visit + Drop>(walker: &mut Walker<V>) -> Result<(), LayoutFault> {
-        let level = walker.take(Var::MLeveltr)?;
-        if level == 1 {
-            walker.take(Var::NidNtc)?;
-        }
-        walker.take(Var::LAckleveltr)?;
-        Ok(())
-    }
-}
-
-/// Packet 41, level transition order, behind its first three fields.
-#[tactic(auto, unfolding(balise_rules::specs::Packets::levels))]
-pub fn walk_level_transition<V: Visit + Drop>(walker: &mut Walker<V>) -> Result<(), LayoutFault>
-    ensures { Reads V.allocates V.step levels walker.old result walker.new }
-{
-    walker.take(Var::QScale)?;
-    walker.take(Var::DLeveltr)?;
-    Level::walk(walker)?;
-    walk_counted::<Level, V>(walker)?;
-    Ok(())
-}
-
-/// Packet 65, temporary speed restriction, behind its first three fields.
-#[tactic(auto, unfolding(balise_rules::specs::Packets::restriction))]
-pub fn walk_restriction<V: Visit + Drop>(walker: &mut Walker<V>) -> Result<(), LayoutFault>
-    ensures { Reads V.allocates V.step restriction walker.old result walker.new }
-{
-    walker.take(Var::QScale)?;
-    walker.take(Var::NidTsr)?;
-    walker.take(Var::DTsr)?;
-    walker.take(Var::LTsr)?;
-    walker.take(Var::QFront)?;
-    walker.take(Var::VTsr)?;
-    Ok(())
-}
-
-/// Packet 66, its revocation, behind its first three fields.
-#[tactic(auto, unfolding(balise_rules::specs::Packets::revocation))]
-pub fn walk_revocation<V: Visit + Drop>(walker: &mut Walker<V>) -> Result<(), LayoutFault>
-    ensures { Reads V.allocates V.step revocation walker.old result walker.new }
-{
-    walker.take(Var::NidTsr)?;
-    Ok(())
-}
-
-/// Packet 136, infill location reference, behind its first three fields.
-#[tactic(auto, unfolding(balise_rules::specs::Packets::infill))]
-pub fn walk_infill<V: Visit + Drop>(walker: &mut Walker<V>) -> Result<(), LayoutFault>
-    ensures { Reads V.allocates V.step infill walker.old result walker.new }
-{
-    if walker.take(Var::QNewcountry)? == 1 {
-        walker.take(Var::NidC)?;
-    }
-    walker.take(Var::NidBg)?;
-    Ok(())
+    ghost ruled = { unfold form_of in refl };
 }

@@ -1,6 +1,7 @@
 //! Packets of the known kinds and others read, listed, set and written, and bits that are no packet refused.
 
 mod bad;
+mod extremes;
 mod kinds;
 mod known;
 mod setting;
@@ -27,6 +28,8 @@ const RESTRICTION: &str = "41408e8280c8025810";
 const REVOCATION: &str = "42403e0a";
 // An infill location reference without a country: 38 bits.
 const INFILL: &str = "88404c0190";
+// The same with a country: 48 bits.
+const INFILL_ABROAD: &str = "884061018064";
 // A packet 44, which isn't known: 32 bits.
 const OPAQUE: &str = "2c0041a5";
 

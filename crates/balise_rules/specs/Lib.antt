@@ -7,6 +7,7 @@ pub mod Tags
 pub mod Forms
 pub mod Packets
 pub mod Packet
+pub mod Steady
 pub mod Telegram
 pub mod Plan
 pub mod Names

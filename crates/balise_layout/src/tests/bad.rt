@@ -6,7 +6,7 @@ use balise_bits::Bits;
 use std::test::Fail;
 
 // Digits, a place among their bits, and the fault there in a telegram of version 2.1.
-const ROWS: [(&str, usize, LayoutFault); 13] = [
+const ROWS: [(&str, usize, LayoutFault); 14] = [
     // No bits, no bits behind the place, and a place past the end.
     ("", 0, LayoutFault::PacketCut),
     (REVOCATION, 32, LayoutFault::PacketCut),
@@ -22,6 +22,7 @@ const ROWS: [(&str, usize, LayoutFault); 13] = [
     // Longer and shorter than the fields.
     ("4240400a", 0, LayoutFault::LayoutMismatch),
     ("42403c0a", 0, LayoutFault::LayoutMismatch),
+    ("88404e0190", 0, LayoutFault::LayoutMismatch),
     (
         "1b40fc80002810659224107d062180f0",
         0,

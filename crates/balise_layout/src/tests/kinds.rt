@@ -1,77 +1,45 @@
-//! What kind of packet each is, what the type of each kind offers, and the laws.
+//! What kind of packet each is, and the laws at a packet of each layout.
 
 use crate::laws::{
-    as_long_as_said, one_spelling, reads_what_is_spelt, setting_keeps, spells_once, written_is_read,
+    as_long_as_said, is_steady, one_spelling, reads_what_is_spelt, setting_keeps, spells_once,
+    spelt_where_known, written_is_read,
 };
 use crate::tests::{
-    GRADIENTS, INFILL, LEVELS, LINKS, OPAQUE, RESTRICTION, REVOCATION, SPEEDS, packet_of,
+    GRADIENTS, INFILL, LEVELS, LINKS, OPAQUE, RESTRICTION, REVOCATION, SPEEDS, check_digits,
+    packet_of,
 };
-use crate::visit::Nothing;
-use crate::{Kind, Layout, is_known};
+use crate::{
+    GradientProfile, InfillLocation, Kind, Layout, LevelTransition, Linking, Opaque, Packet,
+    Revocation, SpeedProfile, SpeedRestriction, Var, is_known,
+};
+use balise_bits::Bits;
+use std::alloc::Global;
 use std::process::Abort;
 use std::test::Fail;
 
-// A packet in digits, the version of its telegram, and its number where that version knows it.
-type Row = (&'static str, u32, Option<u32>);
+// A packet in digits, the version of its telegram, and its kind.
+type Row = (&'static str, u32, Kind);
 
 const ROWS: [Row; 10] = [
-    (LINKS, 33, Some(5)),
-    (GRADIENTS, 33, Some(21)),
-    (SPEEDS, 33, Some(27)),
-    (SPEEDS, 16, None),
-    (LEVELS, 33, Some(41)),
-    (LEVELS, 16, None),
-    (RESTRICTION, 16, Some(65)),
-    (REVOCATION, 33, Some(66)),
-    (INFILL, 16, Some(136)),
-    (OPAQUE, 33, None),
+    (LINKS, 33, Kind::Linking),
+    (GRADIENTS, 33, Kind::GradientProfile),
+    (SPEEDS, 33, Kind::SpeedProfile),
+    (SPEEDS, 16, Kind::Opaque),
+    (LEVELS, 33, Kind::LevelTransition),
+    (LEVELS, 16, Kind::Opaque),
+    (RESTRICTION, 16, Kind::SpeedRestriction),
+    (REVOCATION, 33, Kind::Revocation),
+    (INFILL, 16, Kind::InfillLocation),
+    (OPAQUE, 33, Kind::Opaque),
 ];
-
-// That a type's packet is spelt, gone over and held once more, and that its type has the laws.
-fn check_layout<R: Abort, L: Layout>(rt: &R, packet: &L, version: u32) -> Result<(), Fail> {
-    written_is_read::<L>();
-    as_long_as_said::<L>();
-    one_spelling::<L>();
-    assert!(rt; packet.is_spelt(version));
-    let Nothing = packet.visit(Nothing)?;
-    let copy = packet.copy()?;
-    assert!(rt; copy.bits() == packet.bits());
-    Ok(())
-}
-
-// The number of a kind, where it is known.
-fn number_of(kind: &Kind) -> Option<u32> {
-    match kind {
-        Kind::Linking(_) => Some(5),
-        Kind::GradientProfile(_) => Some(21),
-        Kind::SpeedProfile(_) => Some(27),
-        Kind::LevelTransition(_) => Some(41),
-        Kind::SpeedRestriction(_) => Some(65),
-        Kind::Revocation(_) => Some(66),
-        Kind::InfillLocation(_) => Some(136),
-        Kind::Opaque(_) => None,
-    }
-}
-
-fn check_kind<R: Abort>(rt: &R, kind: &Kind, version: u32) -> Result<(), Fail> {
-    match kind {
-        Kind::Linking(packet) => check_layout(rt, packet, version),
-        Kind::GradientProfile(packet) => check_layout(rt, packet, version),
-        Kind::SpeedProfile(packet) => check_layout(rt, packet, version),
-        Kind::LevelTransition(packet) => check_layout(rt, packet, version),
-        Kind::SpeedRestriction(packet) => check_layout(rt, packet, version),
-        Kind::Revocation(packet) => check_layout(rt, packet, version),
-        Kind::InfillLocation(packet) => check_layout(rt, packet, version),
-        Kind::Opaque(packet) => check_layout(rt, packet, version),
-    }
-}
 
 #[test]
 fn packets_are_of_their_kinds(rt: HostRuntime) -> Result<(), Fail> {
-    for (digits, version, number) in ROWS {
+    for (digits, version, kind) in ROWS {
         let packet = packet_of(rt.alloc(), digits, version)?;
-        assert!(rt; number_of(packet.kind()) == number);
-        check_kind(&rt, packet.kind(), version)?;
+        assert!(rt; packet.kind() == kind);
+        assert!(rt; Kind::of(version, packet.number()) == kind);
+        assert!(rt; kind.is_known() == (kind != Kind::Opaque));
     }
     Ok(())
 }
@@ -96,9 +64,57 @@ fn versions_know_their_packets(rt: HostRuntime) {
     }
 }
 
+// What the laws say of this packet: read again with other bits behind it, it is the same, of the length in
+// L_PACKET and spelt, whatever Q_DIR is.
+fn check_again<R: Abort>(
+    rt: &R,
+    alloc: Global,
+    packet: &mut Packet,
+    version: u32,
+) -> Result<(), Fail> {
+    for dir in 0..4 {
+        packet.set_field(Var::QDir, 0, dir)?;
+        let mut bits = Bits::new(alloc);
+        packet.write(&mut bits)?;
+        let text = bits.to_hex()?;
+        assert!(rt; packet.field(Var::LPacket, 0) == u32::try_from(bits.len()).ok());
+        assert!(rt; packet.is_spelt(version));
+        bits.push(8, 255)?;
+        let (again, end) = Packet::read(&bits, 0, version)?;
+        assert_eq!(rt; end, packet.width());
+        check_digits(rt, alloc, &again, text.as_str())?;
+    }
+    Ok(())
+}
+
+// Calls the laws of a layout, and sees what they say of a packet of it.
+fn check_laws<R: Abort, L: Layout>(
+    rt: &R,
+    alloc: Global,
+    digits: &str,
+    version: u32,
+) -> Result<(), Fail> {
+    is_steady::<L>();
+    spelt_where_known::<L>();
+    written_is_read::<L>();
+    as_long_as_said::<L>();
+    one_spelling::<L>();
+    let mut packet = packet_of(alloc, digits, version)?;
+    assert!(rt; L::takes(packet.number()));
+    check_again(rt, alloc, &mut packet, version)
+}
+
 #[test]
-fn the_laws_hold() {
+fn the_laws_hold_at_a_packet_of_each_layout(rt: HostRuntime) -> Result<(), Fail> {
     reads_what_is_spelt();
     spells_once();
     setting_keeps();
+    check_laws::<_, Linking>(&rt, rt.alloc(), LINKS, 33)?;
+    check_laws::<_, GradientProfile>(&rt, rt.alloc(), GRADIENTS, 33)?;
+    check_laws::<_, SpeedProfile>(&rt, rt.alloc(), SPEEDS, 33)?;
+    check_laws::<_, LevelTransition>(&rt, rt.alloc(), LEVELS, 33)?;
+    check_laws::<_, SpeedRestriction>(&rt, rt.alloc(), RESTRICTION, 16)?;
+    check_laws::<_, Revocation>(&rt, rt.alloc(), REVOCATION, 33)?;
+    check_laws::<_, InfillLocation>(&rt, rt.alloc(), INFILL, 16)?;
+    check_laws::<_, Opaque>(&rt, rt.alloc(), SPEEDS, 16)
 }

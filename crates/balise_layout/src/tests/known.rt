@@ -1,8 +1,8 @@
 //! Packets read, shown and listed.
 
 use crate::tests::{
-    GRADIENTS, LEVELS, LINK, LINKS, OPAQUE, RESTRICTION, REVOCATION, SPEEDS, check_digits,
-    packet_of,
+    GRADIENTS, INFILL, INFILL_ABROAD, LEVELS, LINK, LINKS, OPAQUE, RESTRICTION, REVOCATION, SPEEDS,
+    check_digits, packet_of,
 };
 use crate::{Id, Packet, Var};
 use balise_bits::Bits;
@@ -13,7 +13,7 @@ use std::test::Fail;
 // A packet in digits, the version of its telegram, its length, number and direction.
 type Row = (&'static str, u32, usize, u32, u32);
 
-const ROWS: [Row; 10] = [
+const ROWS: [Row; 12] = [
     (LINKS, 33, 118, 5, 1),
     (LINK, 33, 69, 5, 1),
     (GRADIENTS, 33, 78, 21, 1),
@@ -23,6 +23,8 @@ const ROWS: [Row; 10] = [
     (LEVELS, 16, 89, 41, 1),
     (RESTRICTION, 16, 71, 65, 1),
     (REVOCATION, 33, 31, 66, 1),
+    (INFILL, 33, 38, 136, 1),
+    (INFILL_ABROAD, 16, 48, 136, 1),
     (OPAQUE, 33, 32, 44, 0),
 ];
 
@@ -115,7 +117,7 @@ fn check_fields<R: Abort>(
     version: u32,
     expected: &[(Var, u32, u32)],
 ) -> Result<(), Fail> {
-    let fields = packet_of(alloc, digits, version)?.fields(alloc)?;
+    let fields = packet_of(alloc, digits, version)?.fields()?;
     assert!(rt; fields.as_slice() == expected);
     Ok(())
 }
@@ -127,13 +129,8 @@ fn fields_are_listed(rt: HostRuntime) -> Result<(), Fail> {
     check_fields(&rt, rt.alloc(), SPEEDS, 16, &SPEEDS_FIELDS[..3])
 }
 
-fn check_links<R: Abort>(
-    rt: &R,
-    alloc: Global,
-    packet: &Packet,
-    expected: &[Id],
-) -> Result<(), Fail> {
-    let links = packet.links(alloc, 5)?;
+fn check_links<R: Abort>(rt: &R, packet: &Packet, expected: &[Id]) -> Result<(), Fail> {
+    let links = packet.links(5)?;
     assert!(rt; links.as_slice() == expected);
     Ok(())
 }
@@ -157,17 +154,34 @@ const NONE: Id = Id {
 #[test]
 fn links_are_listed(rt: HostRuntime) -> Result<(), Fail> {
     let mut packet = packet_of(rt.alloc(), LINKS, 33)?;
-    check_links(&rt, rt.alloc(), &packet, &[SIX, SIX])?;
+    check_links(&rt, &packet, &[SIX, SIX])?;
     packet.name_link(0, 16383);
-    check_links(&rt, rt.alloc(), &packet, &[NONE, SIX])
+    check_links(&rt, &packet, &[NONE, SIX])
 }
 
 #[test]
 fn links_have_the_telegrams_country(rt: HostRuntime) -> Result<(), Fail> {
     let packet = packet_of(rt.alloc(), LINK, 33)?;
-    check_links(&rt, rt.alloc(), &packet, &[FIVE])?;
+    check_links(&rt, &packet, &[FIVE])?;
     let packet = packet_of(rt.alloc(), SPEEDS, 33)?;
-    check_links(&rt, rt.alloc(), &packet, &[])
+    check_links(&rt, &packet, &[])
+}
+
+#[test]
+fn an_infill_location_names_one_group(rt: HostRuntime) -> Result<(), Fail> {
+    let mut packet = packet_of(rt.alloc(), INFILL, 33)?;
+    check_links(&rt, &packet, &[FIVE])?;
+    packet.flip_link(0);
+    check_digits(&rt, rt.alloc(), &packet, INFILL)?;
+    packet.name_link(0, 150);
+    packet.flip_dir();
+    check_digits(&rt, rt.alloc(), &packet, "88004c0258")?;
+    let mut packet = packet_of(rt.alloc(), INFILL_ABROAD, 33)?;
+    check_links(&rt, &packet, &[SIX])?;
+    packet.name_link(0, 16383);
+    packet.name_link(1, 5);
+    check_links(&rt, &packet, &[NONE])?;
+    check_digits(&rt, rt.alloc(), &packet, "88406101bfff")
 }
 
 #[test]

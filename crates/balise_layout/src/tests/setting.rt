@@ -1,8 +1,8 @@
 //! Fields read and set, directions and links flipped, and settings refused.
 
 use crate::tests::{
-    GRADIENTS, LEVELS, LINK, LINKS, OPAQUE, RESTRICTION, REVOCATION, SPEEDS, check_digits,
-    packet_of,
+    GRADIENTS, INFILL, INFILL_ABROAD, LEVELS, LINK, LINKS, OPAQUE, RESTRICTION, REVOCATION, SPEEDS,
+    check_digits, packet_of,
 };
 use crate::{LayoutFault, Var};
 use balise_rules::Refusal;
@@ -14,7 +14,7 @@ use std::test::Fail;
 type Setting = (&'static str, u32, Var, u32, u32);
 
 // A setting, the old value, and the packet with the new one.
-const ROWS: [(Setting, u32, &str); 9] = [
+const ROWS: [(Setting, u32, &str); 11] = [
     (
         (LINKS, 33, Var::NidBg, 1, 150),
         100,
@@ -43,6 +43,12 @@ const ROWS: [(Setting, u32, &str); 9] = [
         "41408e8280c80258fe",
     ),
     ((REVOCATION, 33, Var::NidTsr, 0, 9), 5, "42403e12"),
+    ((INFILL, 33, Var::NidBg, 0, 150), 100, "88404c0258"),
+    (
+        (INFILL_ABROAD, 16, Var::NidBg, 0, 16383),
+        100,
+        "88406101bfff",
+    ),
     ((OPAQUE, 33, Var::QDir, 0, 3), 0, "2cc041a5"),
 ];
 
@@ -62,7 +68,7 @@ fn fields_are_read_and_set(rt: HostRuntime) -> Result<(), Fail> {
     Ok(())
 }
 
-const REFUSED: [(Setting, LayoutFault); 12] = [
+const REFUSED: [(Setting, LayoutFault); 14] = [
     ((LINKS, 33, Var::NidBg, 2, 5), LayoutFault::NoSuchVariable),
     ((LINKS, 33, Var::NidC, 1, 7), LayoutFault::NoSuchVariable),
     ((LINKS, 33, Var::NidC, 0, 7), LayoutFault::Steering),
@@ -79,6 +85,11 @@ const REFUSED: [(Setting, LayoutFault); 12] = [
     (
         (REVOCATION, 33, Var::NidTsr, 0, 4294967295),
         LayoutFault::ValueTooWide,
+    ),
+    ((INFILL, 33, Var::NidC, 0, 6), LayoutFault::NoSuchVariable),
+    (
+        (INFILL_ABROAD, 33, Var::QNewcountry, 0, 0),
+        LayoutFault::Steering,
     ),
     ((OPAQUE, 33, Var::LPacket, 0, 9999), LayoutFault::Steering),
 ];

@@ -2,8 +2,6 @@
 use Rattle.std.proofs.Common.{ℕ, List, ap, ◌∙◌}
 use Rattle.balise_rules.specs.declared.identity.Id.{Id}
 use Rattle.balise_rules.specs.Packet.{width}
-use Rattle.balise_rules.specs.Names.{links_of}
-use Rattle.balise_layout.specs.Kinds.{shown_of}
 use Rattle.balise_layout.specs.Walks.{kept}
 use Rattle.balise_layout.specs.Linked.{link}
 use Rattle.balise_layout.proofs.Elements.{links_found}
@@ -11,8 +9,7 @@ use Rattle.balise_layout.proofs.packet.Packet.links.Goals as goal
 
 pub returns-clause-ok : goal.returns-clause-ok
 returns-clause-ok c =
-    let p = shown_of c.self.inside.kind in
+    let p = c.args.self.now in
     c.into_identities.ensures
     ∙ ap (λ (x : ℕ × List Id). x.1) (c.in_ok-visit.ensures.shows ∙ ap (λ (a : ℕ × List Id). kept link a (width p) p.fields) c.new.ensures)
-    ∙ links_found c.args.country (width p) p c.in_ok-visit.ensures.holds.numbered
-    ∙ ap (links_of c.args.country) c.self.view_is
+    ∙ links_found c.args.country (width p) p c.in_ok-visit.ensures.numbered

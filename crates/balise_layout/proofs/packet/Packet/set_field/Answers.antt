@@ -2,9 +2,8 @@
 use Rattle.std.proofs.Common.{arith, ◌≡◌, ◌≤◌, ◌<◌, ◌^◌, ℕ, false, Some, take, drop, refl, sym, ap, ◌∙◌}
 use Rattle.balise_rules.specs.Variables.{width_of, steers}
 use Rattle.balise_rules.specs.Bits.{num}
-use Rattle.balise_rules.specs.Packet.{Packet, field_of}
-use Rattle.balise_layout.specs.Held.{before, with_field}
-use Rattle.balise_layout.specs.Kinds.{next_of, shown_of}
+use Rattle.balise_rules.specs.Packet.{field_of}
+use Rattle.balise_layout.specs.Held.{before}
 use Rattle.balise_layout.proofs.Values.{stands_within, stands_value, refused_missing, refused_steering, refused_wide, accepted, shifted_out, nothing_left, spelt_still}
 use Rattle.balise_layout.proofs.packet.Packet.set_field.Goals as goal
 
@@ -21,24 +20,21 @@ returns-then-value-width-ne0-clause-sets c =
 
 pub number-old-requires-clause-within : goal.number-old-requires-clause-within
 number-old-requires-clause-within c =
-    let place : before (c.args.var, c.args.k) (shown_of c.self.inside.kind).fields ≡ Some c.in-Some.at = ap (λ (q : Packet). before (c.args.var, c.args.k) q.fields) c.self.view_is ∙ sym c.in-Some.ensures in
-    omega (arith, c.width-width.ensures.width, stands_within (next_of c.self.inside.kind) c.bits.result.now (shown_of c.self.inside.kind) c.args.var c.args.k c.in-Some.at c.bits.ensures place)
+    let place : before (c.args.var, c.args.k) c.args.self.now.fields ≡ Some c.in-Some.at = sym c.in-Some.ensures in
+    omega (arith, c.width-width.ensures.width, stands_within c.bits.ensures.0 c.bits.result.now c.args.self.now c.args.var c.args.k c.in-Some.at c.bits.ensures.1 place)
 
 pub returns-clause-sets : goal.returns-clause-sets
 returns-clause-sets c =
-    let place : before (c.args.var, c.args.k) (shown_of c.self.inside.kind).fields ≡ Some c.in-Some.at = ap (λ (q : Packet). before (c.args.var, c.args.k) q.fields) c.self.view_is ∙ sym c.in-Some.ensures in
+    let place : before (c.args.var, c.args.k) c.args.self.now.fields ≡ Some c.in-Some.at = sym c.in-Some.ensures in
     let free : steers c.args.var ≡ false = sym c.steers.ensures ∙ c.if-steers.false in
     let fit : c.args.value < 2 ^ width_of c.args.var = omega (arith, nothing_left c.args.value c.width-width.result c.if-value-width-ne0.false, ap (λ (k : ℕ). 2 ^ k) c.width-width.ensures.width) in
     let read : num (take (width_of c.args.var) (drop c.in-Some.at c.bits.result.now)) ≡ c.number-old.result = sym (c.number-old.ensures ∙ ap (λ (w : ℕ). num (take w (drop c.in-Some.at c.bits.result.now))) c.width-width.ensures.width) in
-    let old : field_of c.args.var c.args.k c.args.self.now.fields ≡ Some c.number-old.result =
-    ap (λ (q : Packet). field_of c.args.var c.args.k q.fields) (sym c.self.view_is)
-    ∙ stands_value (next_of c.self.inside.kind) c.bits.result.now (shown_of c.self.inside.kind) c.args.var c.args.k c.in-Some.at c.bits.ensures place
-    ∙ ap Some read in
-    (accepted c.args.var c.args.k c.args.value c.in-Some.at c.args.self.now (sym c.in-Some.ensures) free fit, old, c.put_field.ensures c.args.k place ∙ ap (with_field c.args.var c.args.k c.args.value) c.self.view_is)
+    let old : field_of c.args.var c.args.k c.args.self.now.fields ≡ Some c.number-old.result = stands_value c.bits.ensures.0 c.bits.result.now c.args.self.now c.args.var c.args.k c.in-Some.at c.bits.ensures.1 place ∙ ap Some read in
+    (accepted c.args.var c.args.k c.args.value c.in-Some.at c.args.self.now (sym c.in-Some.ensures) free fit, old, c.put_field.ensures c.args.k place)
 
 pub returns-clause-spelt : goal.returns-clause-spelt
 returns-clause-spelt c = λ version s.
-    let place : before (c.args.var, c.args.k) (shown_of c.self.inside.kind).fields ≡ Some c.in-Some.at = ap (λ (q : Packet). before (c.args.var, c.args.k) q.fields) c.self.view_is ∙ sym c.in-Some.ensures in
+    let place : before (c.args.var, c.args.k) c.args.self.now.fields ≡ Some c.in-Some.at = sym c.in-Some.ensures in
     let free : steers c.args.var ≡ false = sym c.steers.ensures ∙ c.if-steers.false in
     let fit : c.args.value < 2 ^ width_of c.args.var = omega (arith, nothing_left c.args.value c.width-width.result c.if-value-width-ne0.false, ap (λ (k : ℕ). 2 ^ k) c.width-width.ensures.width) in
-    spelt_still version c.args.self.now _ c.args.var c.args.k c.args.value free fit (c.put_field.ensures c.args.k place ∙ ap (with_field c.args.var c.args.k c.args.value) c.self.view_is) s
+    spelt_still version c.args.self.now _ c.args.var c.args.k c.args.value free fit (c.put_field.ensures c.args.k place) s

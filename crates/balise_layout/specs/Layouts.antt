@@ -1,0 +1,26 @@
+-- The layout of a packet: that of one number, or of the packets that are kept bit for bit, which has no number of its own.
+use Rattle.std.specs.Prelude.{◌≡◌, ◌↔◌, ℕ, ◌==◌, ◌||◌, Bool, not, List, Option, Some, None, is_some, if◌then◌else◌}
+use Rattle.balise_rules.specs.Forms.{Form, done, never, Fields, Matches}
+use Rattle.balise_rules.specs.Packets.{is_known, known_body, body}
+
+-- what follows the first three fields
+unfoldable pub form_of : Option ℕ → Form
+form_of None = done
+form_of (Some own) = known_body own
+
+-- whether a packet of this number may have the layout
+unfoldable pub takes : Option ℕ → ℕ → Bool
+takes None n = not (n == 0 || n == 255)
+takes (Some own) n = n == own
+
+-- what follows the first three fields, as the number says
+unfoldable pub next_of : Option ℕ → ℕ → Form
+next_of own n = if takes own n then form_of own else never
+
+-- the layout by which a version reads a number
+unfoldable pub layout_in : ℕ → ℕ → Option ℕ
+layout_in version n = if is_known version n then Some n else None
+
+-- The version spells what has this layout exactly where it knows the number or, of a packet kept bit for bit, where it doesn't.
+abbrev pub SpeltWhere : Option ℕ → Type 0
+SpeltWhere own = (version n : ℕ) (fs : Fields) (rest : List Bool) → Matches (next_of own n) fs rest → (Matches (body version n) fs rest ↔ (is_known version n ≡ is_some own))

@@ -11,8 +11,12 @@ use std::test::Fail;
 const MOST_DIFFERENCES: &str =
     "1b45f4800040f800d71d71915238be374545468516cfccb71b42083db3512525820ee78c75156e599c3e4d05848106df4d33135e291eba415d0ffffffab3a20e6386788ca70c4e9b2a9e83218a77de1b4bbd240e59248ed2a0066bbeba48b500";
 // A packet 5 of 18 elements, four with a country, which fills a long telegram: 772 bits.
-const MOST_LINKS: &str =
+const FULL_LINKS: &str =
     "0546088007000200883ef070b450faf018709450bbfffe546c3c7d3bfff2a138f0001992eee54643c6d7cc4ed8cfa39c2154232f800fd2cb538ba329392aff4d5bb75dcea8c478cb3d6dad05b5bb139433a9f697b0b7d0ee104a109befff78b950";
+
+// A packet 5 of 19 elements without a country, the most that a long telegram holds: 771 bits. Element k names 100 k + 1.
+const MOST_ELEMENTS: &str =
+    "05460600640002009006500cb4100cc032504019c096f0c034019102006903eb4500d409650c01ac15ef1c036032104006d070b4900dc0fa51401bc226f2c03804b10600710a2b4d00e415e51c01cc2eef3c03a06410800750d4b5100ec1c25240";
 
 // Some of the values: the first and the last of a variable, and those at the border of the sections.
 const DIFFERENCES: [(Var, u32, Option<u32>); 16] = [
@@ -91,11 +95,23 @@ fn a_packet_27_of_52_differences_is_read(rt: HostRuntime) -> Result<(), Fail> {
 
 #[test]
 fn a_packet_5_of_18_elements_is_read(rt: HostRuntime) -> Result<(), Fail> {
-    let packet = check_spelling(&rt, rt.alloc(), MOST_LINKS, 772, 117)?;
+    let packet = check_spelling(&rt, rt.alloc(), FULL_LINKS, 772, 117)?;
     let links = packet.links(5)?;
     assert_eq!(rt; links.len(), NAMED.len());
     for (id, (country, number)) in links.into_iter().zip(NAMED) {
         assert!(rt; id == Id { country, number });
+    }
+    Ok(())
+}
+
+#[test]
+fn a_packet_5_of_19_elements_is_read(rt: HostRuntime) -> Result<(), Fail> {
+    let packet = check_spelling(&rt, rt.alloc(), MOST_ELEMENTS, 771, 119)?;
+    let links = packet.links(5)?;
+    assert_eq!(rt; links.len(), 19);
+    for (k, id) in links.into_iter().enumerate() {
+        let number = 100 * k as u32 + 1;
+        assert!(rt; id == Id { country: 5, number });
     }
     Ok(())
 }

@@ -3,7 +3,7 @@
 use Rattle.std.proofs.Common.{◌≡◌, refl}
 use Rattle.balise_rules.specs.Edits.{SetVar, SetHead, InsertPacket, DeletePacket, MovePacket, AddGroup, DropGroup, Renumber, TurnGroup}
 use Rattle.balise_rules.specs.Paths.{Entry, changes, needs}
-use Rattle.balise_edit_laws.specs.Content.{taken, ContentAside, TestedAlike}
+use Rattle.balise_edit_laws.specs.Content.{taken, ContentAside}
 
 changed : (e : Entry) → changes (taken e) ≡ changes e
 changed ((s, SetVar g t p v k n), m) = refl

@@ -1,14 +1,12 @@
 -- The laws of doing: what an edit makes is answered exactly where it is accepted.
 -- From the equivalence of refusal and acceptance.
-use Rattle.std.proofs.Common.{◌≡◌, List, [], ◌∷◌, Option, Some, None, Result, Ok, Err, refl, sym, ap, ◌∙◌}
+use Rattle.std.proofs.Common.{◌≡◌, [], ◌∷◌, Option, Some, None, Result, Ok, refl, ap, ◌∙◌}
 use Rattle.balise_rules.specs.declared.refusal.Refusal.{Refusal}
 use Rattle.balise_rules.specs.Refusals.{and_then}
-use Rattle.balise_rules.specs.Plan.{Plan, IsSound}
-use Rattle.balise_rules.specs.Edits.{Item}
+use Rattle.balise_rules.specs.Plan.{Plan}
 use Rattle.balise_rules.specs.Doing.{refusal, done, or_done, do_edit}
 use Rattle.balise_rules.specs.Accepting.{Accepted}
 use Rattle.balise_rules.specs.Session.{do_all}
-use Rattle.balise_edit_laws.specs.TakenBack.{IsReady}
 use Rattle.balise_edit_laws.specs.Done.{DoneExactly, DoneAlong}
 use Rattle.balise_edit_laws.proofs.Refusing.{refused_exactly}
 

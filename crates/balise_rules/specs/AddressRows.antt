@@ -11,7 +11,7 @@ use Rattle.balise_rules.specs.declared.address.Place.TheVariants.{Group as Group
 use Rattle.balise_rules.specs.Refusals.{and_then}
 use Rattle.balise_rules.specs.Addresses.{AskSet, resolve}
 use Rattle.balise_rules.specs.Names.{links_to}
-use Rattle.balise_rules.specs.Session.{State, Call, Ask, Undo, Reply, Done, Undone, Refused, opened, most_commands, answer_all}
+use Rattle.balise_rules.specs.Session.{Call, Ask, Undo, Reply, Done, Refused, opened, answer_all}
 use Rattle.balise_rules.specs.Examples.{Text, padded, plan_of, seen, id, alone, empty, revoking, linking_100, three}
 use Rattle.balise_rules.specs.Rows.{Gives, IsRefused, insert, set_tsr, profile, revoking_9}
 use Rattle.balise_rules.specs.GroupRows.{renumber}

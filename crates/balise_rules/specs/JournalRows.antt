@@ -6,7 +6,7 @@ use Rattle.balise_rules.specs.declared.tag.Tag.{Tag}
 use Rattle.balise_rules.specs.declared.tag.Tag.TheVariants.{Base, Fresh}
 use Rattle.balise_rules.specs.Refusals.{and_then}
 use Rattle.balise_rules.specs.Session.{State, Call, Reply, opened, held, answer_all, Undo, Redo, Strike, Undone, Redone}
-use Rattle.balise_rules.specs.Journal.{Line, LineSetVar, LineInsertPacket, LineDeletePacket, Noted, Nothing, Value, BeforePacket, lines, undone}
+use Rattle.balise_rules.specs.Journal.{Line, LineSetVar, LineInsertPacket, LineDeletePacket, Nothing, Value, BeforePacket, lines, undone}
 use Rattle.balise_rules.specs.Opening.{with_entry, from_journal}
 use Rattle.balise_rules.specs.Examples.{Text, plan_of, lines_of, word, alone, empty, revoking}
 use Rattle.balise_rules.specs.Rows.{insert, delete, set_tsr, revoking_9}

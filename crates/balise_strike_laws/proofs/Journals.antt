@@ -1,7 +1,7 @@
 -- A journal is read as the session that it was made of.
 -- Proves that each line of an entry fits where its edit stood, and that the strikes leave the stack as it was.
 -- From reading again what is spelt, and from what the stack keeps.
-use Rattle.std.proofs.Common.{◌≡◌, ◌<◌, ◌+◌, ℕ, zero, suc, true, false, cond, ◌&&◌, eqb, ltb, nat_lt, nat_le, List, [], ◌∷◌, ◌++◌, length, map, take, drop, reverse, Option, Some, None, Result, Ok, Err, refl, sym, ap, subst, ◌∙◌, arith, length-append, append_assoc}
+use Rattle.std.proofs.Common.{◌≡◌, ◌<◌, ◌+◌, ℕ, zero, suc, true, false, cond, ◌&&◌, eqb, ltb, nat_lt, nat_le, List, [], ◌∷◌, ◌++◌, length, map, take, drop, reverse, Option, Some, None, Result, Ok, refl, sym, ap, subst, ◌∙◌, arith, length-append, append_assoc}
 use Rattle.std.specs.Prelude.{is_none, option_and_then}
 use Rattle.std.proofs.lemmas.Bool.{le-ltb, lt-ltb, le-leb, and_from, eq-eqb}
 use Rattle.std.proofs.lemmas.List.{take_at, drop_at, length-replicate, reverse-append}
@@ -14,21 +14,20 @@ use Rattle.balise_rules.specs.Packet.{Packet, bits_of, width, IsSpelt, length_sa
 use Rattle.balise_rules.specs.Telegram.{Telegram, version_of}
 use Rattle.balise_rules.specs.Plan.{Plan, IsSound, telegram_at}
 use Rattle.balise_rules.specs.Edits.{Edit, Item, SetVar, SetHead, InsertPacket, DeletePacket, MovePacket, AddGroup, DropGroup, Renumber, TurnGroup}
-use Rattle.balise_rules.specs.Notes.{Note, noted}
+use Rattle.balise_rules.specs.Notes.{noted}
 use Rattle.balise_rules.specs.Doing.{refusal, done}
 use Rattle.balise_rules.specs.Accepting.{Accepted, AcceptedAt, Spelt}
-use Rattle.balise_rules.specs.Behind.{anchor_of, hung}
 use Rattle.balise_rules.specs.Addresses.{packet_in}
-use Rattle.balise_rules.specs.Session.{State, Removed, Struck, Strike, made, entries, later, others, put_back, taken_out, answer_in_time, answer_strike, answer_dependent}
+use Rattle.balise_rules.specs.Session.{State, Removed, made, entries, put_back}
 use Rattle.balise_rules.specs.Journal.{Noted, Nothing, Value, Number, BeforePacket, BeforeGroup, noted_of, same_noted, LineInsertPacket, whole_bytes, line_edit, line_of, all_back, lines, undone}
-use Rattle.balise_rules.specs.Opening.{or_nothing, packet_for, inserting, edit_in, if_fits, item_of, most_serial, opened_at, last_serial, with_item, uncounted, with_undone, or_place, with_entries, with_all_undone, and_undone, from_entries}
+use Rattle.balise_rules.specs.Opening.{or_nothing, packet_for, inserting, edit_in, if_fits, item_of, most_serial, last_serial, with_item, uncounted, with_undone, or_place, with_entries, with_all_undone, and_undone, from_entries}
 use Rattle.balise_rules.proofs.Tests.{spot_itself, tag_test, nat_test}
 use Rattle.balise_rules.proofs.Spelt.{read_again}
 use Rattle.balise_rules.proofs.PacketRead.{said_is, said_within}
 use Rattle.balise_rules.proofs.PacketAgain.{front_of}
 use Rattle.balise_edit_laws.proofs.Refusing.{refused_exactly}
 use Rattle.balise_strike_laws.specs.Striking.{Standing}
-use Rattle.balise_strike_laws.specs.Redoing.{WasStruck, Redoable, Answer}
+use Rattle.balise_strike_laws.specs.Redoing.{WasStruck, Redoable}
 use Rattle.balise_strike_laws.specs.InSession.{Between}
 use Rattle.balise_strike_laws.specs.Journals.{JournalKept}
 use Rattle.balise_strike_laws.proofs.Strikes.{standing-after, made-append}

@@ -1,23 +1,21 @@
 -- What a session promises.
 -- Proves that undo, strike and redo are taken back by one another, and that a strike is refused exactly where a later entry isn't independent.
 -- From what every state of a session keeps.
-use Rattle.std.proofs.Common.{◌≡◌, ◌↔◌, ◌≤◌, ◌<◌, inl, inr, ℕ, suc, All, Bool, true, false, cond, eqb, nat_le, List, [], ◌∷◌, ◌++◌, Option, Some, None, Result, Ok, refl, sym, ap, subst, ◌∙◌, arith}
+use Rattle.std.proofs.Common.{◌≡◌, ◌↔◌, ◌≤◌, ◌<◌, ℕ, suc, All, Bool, true, false, cond, eqb, nat_le, List, [], ◌∷◌, ◌++◌, Option, Some, None, refl, sym, ap, subst, ◌∙◌}
 use Rattle.std.specs.Prelude.{find}
 use Rattle.std.proofs.lemmas.Bool.{le-leb, lt-leb, eqb-true}
 use Rattle.std.proofs.lemmas.List.Elements.{All-nil, All-cons, All-head, All-tail}
 use Rattle.balise_rules.specs.declared.refusal.Refusal.TheVariants.{NothingToUndo, NothingToRedo, NoSuchEdit, DependsOn, Worn}
-use Rattle.balise_rules.specs.Plan.{Plan, IsSound}
 use Rattle.balise_rules.specs.Edits.{Item}
 use Rattle.balise_rules.specs.Paths.{Entry}
 use Rattle.balise_rules.specs.Behind.{independent, serials_behind}
 use Rattle.balise_rules.specs.Session.{State, Removed, lone, Call, Undo, Redo, Strike, Reply, Undone, Redone, Struck, Refused, opened, most_commands, entries, last, later, others, first_dependent, put_back, taken_out, struck_out, answer, answer_in_time, answer_undo, answer_redo, answer_strike, answer_dependent, answer_among}
 use Rattle.balise_rules.proofs.Tests.{split_on}
 use Rattle.balise_rules.proofs.Cases.{unsome}
-use Rattle.balise_strike_laws.specs.Striking.{Standing}
 use Rattle.balise_strike_laws.specs.InSession.{left_of}
-use Rattle.balise_strike_laws.specs.Redoing.{WasStruck, Redoable, Answer, counted}
-use Rattle.balise_strike_laws.specs.Sessions.{Untagged, IsSession, Leads}
-use Rattle.balise_strike_laws.specs.Headline.{TakesBack, UndosRedone, StrikesRedone, RedosStruck, FirstDependent, StrikesExactly, AllExactly, ReadBack, Promised, SessionsPromised, Headline}
+use Rattle.balise_strike_laws.specs.Redoing.{Redoable, Answer, counted}
+use Rattle.balise_strike_laws.specs.Sessions.{IsSession, Leads}
+use Rattle.balise_strike_laws.specs.Headline.{TakesBack, UndosRedone, StrikesRedone, RedosStruck, FirstDependent, AllExactly, ReadBack, Promised, SessionsPromised, Headline}
 use Rattle.balise_strike_laws.proofs.Journals.{journal_kept}
 use Rattle.balise_strike_laws.proofs.Replies.{refused_leaves}
 use Rattle.balise_strike_laws.proofs.SessionsKept.{rises, plans_made, sessions_begin, sessions_kept, all_standing}

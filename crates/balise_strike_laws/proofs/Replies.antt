@@ -1,12 +1,12 @@
 -- What a command leaves: the plan first read, and where it is refused all.
-use Rattle.std.proofs.Common.{◌≡◌, inl, inr, ℕ, nat_le, Bool, true, false, cond, List, [], ◌∷◌, Option, Some, None, Result, Ok, Err, find, eqb, refl, sym, ap, subst, ◌∙◌}
+use Rattle.std.proofs.Common.{◌≡◌, inl, inr, ℕ, nat_le, Bool, true, false, cond, List, [], ◌∷◌, Option, Some, None, Result, Ok, Err, find, eqb, refl, sym, ap, ◌∙◌}
 use Rattle.balise_rules.specs.declared.refusal.Refusal.{Refusal}
 use Rattle.balise_rules.specs.declared.refusal.Refusal.TheVariants.{Worn}
 use Rattle.balise_rules.specs.Doing.{refusal}
 use Rattle.balise_rules.specs.Addresses.{edit_of}
 use Rattle.balise_rules.specs.Edits.{Edit, Item}
 use Rattle.balise_rules.specs.Paths.{Entry}
-use Rattle.balise_rules.specs.Session.{Ask, Call, Redo, Refused, Removed, Reply, State, Strike, Undo, answer, answer_accepted, answer_dependent, answer_edit, answer_in_time, answer_redo, answer_strike, answer_undo, entries, first_dependent, held, last, later, most_commands}
+use Rattle.balise_rules.specs.Session.{Ask, Call, Redo, Refused, Removed, State, Strike, Undo, answer, answer_accepted, answer_dependent, answer_edit, answer_in_time, answer_redo, answer_strike, answer_undo, entries, first_dependent, held, last, later, most_commands}
 use Rattle.balise_strike_laws.specs.Redoing.{Answer}
 use Rattle.balise_strike_laws.specs.Headline.{RefusedLeaves}
 

@@ -1,8 +1,7 @@
 -- Serials that rise.
 -- Proves that they rise among fewer edits and with other anchors, that they rise where they lie between two numbers, and what one more behind them keeps.
-use Rattle.std.proofs.Common.{◌≡◌, ◌≢◌, ◌<◌, ◌≤◌, ℕ, suc, All, Bool, true, false, not, cond, eqb, nat_lt, List, [], ◌∷◌, ◌++◌, filter, Option, Some, None, refl, sym, subst, arith}
+use Rattle.std.proofs.Common.{◌≡◌, ◌≢◌, ◌<◌, ◌≤◌, ℕ, suc, All, Bool, true, false, not, cond, eqb, nat_lt, List, [], ◌∷◌, ◌++◌, Option, arith}
 use Rattle.std.specs.Prelude.{find, is_some}
-use Rattle.std.proofs.lemmas.Bool.{ltb-true}
 use Rattle.std.proofs.lemmas.List.Elements.{All-nil, All-cons, All-head, All-tail}
 use Rattle.balise_rules.specs.declared.tag.Tag.{Tag}
 use Rattle.balise_rules.specs.Edits.{Item}
@@ -10,7 +9,6 @@ use Rattle.balise_rules.specs.Behind.{anchored, hung}
 use Rattle.balise_rules.specs.Journal.{all_back}
 use Rattle.balise_rules.specs.Opening.{last_serial}
 use Rattle.balise_rules.specs.Session.{Removed, others, put_by_serial}
-use Rattle.balise_rules.proofs.Tests.{split_on}
 use Rattle.balise_strike_laws.specs.InSession.{Rising, Between}
 
 -- a serial that others are above

@@ -1,24 +1,22 @@
 -- Every command, and every line of a journal, leaves a state of a session.
 -- From the laws of strikes in a session, from what accepted edits keep, and from serials that rise.
-use Rattle.std.proofs.Common.{◌≡◌, ◌≢◌, ◌≤◌, ◌<◌, inl, inr, ℕ, suc, All, Bool, true, false, cond, ◌&&◌, eqb, nat_le, List, [], ◌∷◌, ◌++◌, Option, Some, None, Result, Ok, Err, refl, sym, ap, subst, ◌∙◌, arith}
+use Rattle.std.proofs.Common.{◌≡◌, ◌≢◌, ◌≤◌, inl, inr, ℕ, All, Bool, true, false, cond, ◌&&◌, eqb, nat_le, List, [], ◌∷◌, ◌++◌, Option, Some, None, Result, Ok, Err, refl, sym, ap, subst, arith}
 use Rattle.std.specs.Prelude.{find, is_none}
 use Rattle.std.proofs.lemmas.Bool.{and_parts, leb-true}
-use Rattle.std.proofs.lemmas.List.Elements.{All-head, All-tail}
 use Rattle.balise_rules.specs.declared.refusal.Refusal.{Refusal}
 use Rattle.balise_rules.specs.declared.refusal.Refusal.TheVariants.{Worn}
-use Rattle.balise_rules.specs.Plan.{Plan, IsSound}
+use Rattle.balise_rules.specs.Plan.{Plan}
 use Rattle.balise_rules.specs.Edits.{Edit, Item}
 use Rattle.balise_rules.specs.Doing.{refusal}
 use Rattle.balise_rules.specs.Accepting.{Unused}
 use Rattle.balise_rules.specs.Paths.{Entry}
 use Rattle.balise_rules.specs.Behind.{serials_behind}
 use Rattle.balise_rules.specs.Addresses.{Command, edit_of}
-use Rattle.balise_rules.specs.Session.{State, Removed, lone, Call, Ask, Undo, Redo, Strike, Reply, Done, Undone, Redone, Struck, Refused, opened, held, made, most_commands, entries, last, later, others, first_dependent, put_back, taken_out, struck_out, answer, answer_in_time, answer_accepted, answer_edit, answer_undo, answer_redo, answer_strike, answer_dependent, Answers, top}
+use Rattle.balise_rules.specs.Session.{State, Removed, lone, Call, Ask, Undo, Redo, Strike, Done, Undone, Redone, Struck, Refused, held, most_commands, entries, last, later, others, first_dependent, put_back, taken_out, answer, answer_in_time, answer_accepted, answer_edit, answer_undo, answer_redo, answer_strike, answer_dependent, top}
 use Rattle.balise_rules.specs.Journal.{Line, all_back}
-use Rattle.balise_rules.specs.Opening.{item_of, most_serial, opened_at, last_serial, with_item, with_entry, with_undone, uncounted}
+use Rattle.balise_rules.specs.Opening.{item_of, most_serial, last_serial, with_item, with_entry, uncounted}
 use Rattle.balise_rules.proofs.Cases.{unsome}
 use Rattle.balise_edit_laws.specs.TakenBack.{IsReady}
-use Rattle.balise_edit_laws.specs.Along.{AllUnused, AllReady}
 use Rattle.balise_edit_laws.proofs.DoneExactly.{done_along}
 use Rattle.balise_edit_laws.proofs.Histories.{kept_along}
 use Rattle.balise_edit_laws.proofs.LinesReady.{when_some, line_between, lines_ready}
@@ -26,7 +24,7 @@ use Rattle.balise_edit_laws.proofs.ReadyCommands.{command_ready}
 use Rattle.balise_strike_laws.specs.Striking.{Standing}
 use Rattle.balise_strike_laws.specs.InSession.{Rising, Between, left_of}
 use Rattle.balise_strike_laws.specs.Redoing.{WasStruck, Redoable, Answer}
-use Rattle.balise_strike_laws.specs.Sessions.{Untagged, IsSession, SessionsBegin, SessionsKept, OpeningsBegin, OpeningsKept, IsMade, PlansMade}
+use Rattle.balise_strike_laws.specs.Sessions.{IsSession, SessionsBegin, SessionsKept, OpeningsBegin, OpeningsKept, PlansMade}
 use Rattle.balise_strike_laws.proofs.Replies.{base_kept, base_in_time}
 use Rattle.balise_strike_laws.proofs.Rising.{rising-between, between-back, between-next, others-above, between-more, between-before}
 use Rattle.balise_strike_laws.proofs.Standing.{standing-next}

@@ -7,7 +7,7 @@ use Rattle.balise_rules.specs.Plan.{Plan}
 use Rattle.balise_rules.specs.Edits.{Item}
 use Rattle.balise_rules.specs.Notes.{noted}
 use Rattle.balise_rules.specs.Doing.{done}
-use Rattle.balise_rules.specs.Accepting.{Accepted, Unused}
+use Rattle.balise_rules.specs.Accepting.{Unused}
 use Rattle.balise_rules.specs.Back.{back}
 use Rattle.balise_rules.specs.Paths.{Entry}
 use Rattle.balise_rules.specs.Session.{made, AllAccepted, entries}

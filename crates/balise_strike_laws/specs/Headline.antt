@@ -5,7 +5,7 @@ use Rattle.balise_rules.specs.declared.refusal.Refusal.TheVariants.{DependsOn, W
 use Rattle.balise_rules.specs.Plan.{Plan, IsSound}
 use Rattle.balise_rules.specs.Paths.{Entry}
 use Rattle.balise_rules.specs.Behind.{independent}
-use Rattle.balise_rules.specs.Session.{State, Call, Undo, Redo, Strike, Reply, Undone, Redone, Struck, Refused, opened, held, most_commands, entries, later, answer, Answers}
+use Rattle.balise_rules.specs.Session.{State, Call, Undo, Redo, Strike, Reply, Undone, Redone, Struck, Refused, opened, most_commands, entries, later, answer, Answers}
 use Rattle.balise_rules.specs.Journal.{lines, undone}
 use Rattle.balise_rules.specs.Opening.{most_serial, from_journal}
 use Rattle.balise_strike_laws.specs.Redoing.{Answer, counted}

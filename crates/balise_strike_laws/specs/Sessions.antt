@@ -1,15 +1,11 @@
 -- What holds of each state of a session, whatever commands led to it, and of each that is read from a journal.
-use Rattle.std.specs.Prelude.{◌≡◌, ◌≤◌, ◌<◌, ℕ, suc, List, [], ◌∷◌, Some, Result, Ok}
+use Rattle.std.specs.Prelude.{◌≡◌, ◌≤◌, ℕ, List, [], ◌∷◌, Some, Result, Ok}
 use Rattle.balise_rules.specs.declared.refusal.Refusal.{Refusal}
 use Rattle.balise_rules.specs.Plan.{Plan, IsSound}
-use Rattle.balise_rules.specs.Edits.{Edit}
-use Rattle.balise_rules.specs.Doing.{refusal}
 use Rattle.balise_rules.specs.Accepting.{Unused}
-use Rattle.balise_rules.specs.Addresses.{Command, edit_of}
-use Rattle.balise_rules.specs.Session.{State, Call, Reply, opened, held, do_all, answer, Answers}
+use Rattle.balise_rules.specs.Session.{State, Call, Reply, opened, held, do_all, Answers}
 use Rattle.balise_rules.specs.Journal.{Line, all_back}
 use Rattle.balise_rules.specs.Opening.{opened_at, with_entry, with_undone}
-use Rattle.balise_edit_laws.specs.TakenBack.{IsReady}
 use Rattle.balise_strike_laws.specs.Striking.{Standing}
 use Rattle.balise_strike_laws.specs.InSession.{Between}
 use Rattle.balise_strike_laws.specs.Redoing.{Redoable}

@@ -1,6 +1,7 @@
 -- Digits and bytes: what the decoder reads are the bits of the digits, and what the encoder writes are the digits of the bits.
-use Rattle.std.proofs.Common.{◌≡◌, ℕ, zero, suc, ◌+◌, ◌*◌, ◌/◌, ◌%◌, ◌^◌, ◌<◌, Bool, List, [], ◌∷◌, ◌++◌, length, get_or, slice_index, Option, Some, None, Result, Ok, Err, refl, sym, ap, ◌∙◌, append_assoc, arith, length-append, inl, inr, ◌⊎◌, ◌≢◌}
-use Rattle.std.proofs.lemmas.Bool.{cases_eq}
+use Rattle.std.proofs.Common.{◌≡◌, ℕ, zero, suc, ◌+◌, ◌*◌, ◌/◌, ◌%◌, ◌^◌, ◌<◌, Bool, true, false, eqb, List, [], ◌∷◌, ◌++◌, length, get_or, slice_index, Option, Some, None, Result, Ok, Err, refl, sym, ap, ◌∙◌, append_assoc, arith, length-append, inl, inr, ◌⊎◌, ◌≢◌}
+use Rattle.std.specs.Prelude.{MatchResult}
+use Rattle.std.proofs.lemmas.Bool.{cases_eq, eq-eqb, ne_eqb}
 use Rattle.std.proofs.lemmas.Bool.Decides.{nat_tests}
 use Rattle.balise_rules.specs.declared.refusal.Refusal.{Refusal}
 use Rattle.balise_rules.specs.declared.refusal.Refusal.TheVariants.{BadHex}
@@ -14,7 +15,7 @@ use Rattle.hex.specs.declared.error.FromHexError.{FromHexError}
 use Rattle.hex.specs.declared.error.FromHexError.TheVariants.{InvalidHexCharacter, OddLength, InvalidStringLength, OutOfMemory}
 use Rattle.balise_bits.specs.declared.fault.BitsFault.TheVariants as fault
 use Rattle.balise_bits.specs.Faults.{refusal_of, fault_of}
-use Rattle.hex.specs.Hex.{hex_digit_value, digit_or_error, decode_pairs, decode_of, encode_with, encode_lower, lower_digits, ◌>>=◌}
+use Rattle.hex.specs.Hex.{hex_digit_value, digit_or_error, decode_pairs, decode_of, decode_sized, encode_with, encode_lower, lower_digits, ◌>>=◌}
 
 -- ---- reading
 
@@ -69,6 +70,23 @@ read_digits-decoded text = elim (cases_eq (length text % 2) 0) [
   | inl even ↦ rw even (ap digits_or_bad (digit_bits-decoded 0 text even) ∙ or_bad (decode_pairs 0 text))
   | inr not_even ↦ let odd : length text % 2 ≡ 1 = omega arith in rw odd refl
 ]
+
+-- decoding into room for half as many bytes reads the digits
+pub digit_bits-sized : (text : List ℕ) (n : ℕ) → length text ≡ 2 * n → digit_bits text ≡ bits_decoded (decode_sized text n)
+digit_bits-sized text n e =
+    let even : length text % 2 ≡ 0 = omega (arith, e) in
+    let no_odd : eqb (length text % 2) 1 ≡ false = ne_eqb (length text % 2) 1 (λ q. absurd (omega (arith, even))) in
+    let half : eqb (length text / 2) n ≡ true = eq-eqb (length text / 2) n (omega (arith, e)) in
+    rw (no_odd, half) (digit_bits-decoded 0 text even)
+
+-- what is written where decoding answers Ok, and that there is no reading where it doesn't
+pub sized-ok : {A : Type 0} (r : Result (List ℕ) FromHexError) (out : List ℕ) (t u : A) → MatchResult r (λ bytes. ((◌≡◌ {A = Result A FromHexError} (Ok u) (Ok t)) × (out ≡ bytes))) (λ e. ◌≡◌ {A = Result A FromHexError} (Ok u) (Err e)) → bits_decoded r ≡ Some (flat out)
+sized-ok (Ok bytes) out t u m = ap (λ (x : List ℕ). Some (flat x)) (sym m.1)
+sized-ok (Err e) out t u m = absurd cc
+
+pub sized-err : {A : Type 0} (r : Result (List ℕ) FromHexError) (out : List ℕ) (t : A) (f : FromHexError) → MatchResult r (λ bytes. ((◌≡◌ {A = Result A FromHexError} (Err f) (Ok t)) × (out ≡ bytes))) (λ e. ◌≡◌ {A = Result A FromHexError} (Err f) (Err e)) → bits_decoded r ≡ None
+sized-err (Ok bytes) out t f m = let bad = m.0 in absurd cc
+sized-err (Err e) out t f m = refl
 
 -- ---- lengths
 

@@ -8,13 +8,14 @@ mod numbers;
 mod parts;
 
 use crate::fault::BitsFault;
+use smallvec::SmallVec;
 use std::alloc::Global;
 use std::marker::Model;
 
 /// A list of bits, eight in a byte, the most significant first. The bits behind the last one are zero.
 #[derive(Debug, Drop)]
 pub struct Bits {
-    bytes: Vec<u8>,
+    bytes: SmallVec<u8, 30>,
     len: usize,
 }
 
@@ -35,7 +36,7 @@ impl Bits {
         ensures { result ≡ [] }
     {
         Bits {
-            bytes: Vec::new(alloc),
+            bytes: SmallVec::new(alloc),
             len: 0,
         }
     }
@@ -45,7 +46,7 @@ impl Bits {
         ensures ok { IfOk result (λ b. b ≡ []) }
         ensures fault { IsOkUnless result BitsFault.OutOfMemory }
     {
-        let bytes = Vec::with_capacity(alloc, len.div_ceil(8))?;
+        let bytes = SmallVec::with_capacity(alloc, len.div_ceil(8))?;
         Ok(Bits { bytes, len: 0 })
     }
 
@@ -73,7 +74,7 @@ impl Bits {
         ensures ok { IfOk result (λ b. b ≡ self.now) }
         ensures fault { IsOkUnless result BitsFault.OutOfMemory }
     {
-        let bytes = Vec::from_slice(self.allocator(), &self.bytes)?;
+        let bytes = SmallVec::from_slice(self.allocator(), &self.bytes)?;
         Ok(Bits {
             bytes,
             len: self.len,

@@ -5,6 +5,7 @@
 
 mod bits;
 mod fault;
+mod nibbles;
 #[cfg(test)]
 mod tests;
 mod window;

@@ -34,7 +34,7 @@ fn read_line(alloc: Global, line: &[u8]) -> Result<Telegram, Refusal>
 {
     let due = if line.len() == 208 { 830 } else { 210 };
     let bits = Bits::from_hex_bytes(alloc, line, due)?;
-    Ok(Telegram::read(alloc, &bits)?)
+    Ok(Telegram::read(alloc, bits)?)
 }
 
 impl Group {

@@ -57,6 +57,13 @@ not_stuck {A = A} step next a b p n old e h all start is = differ (kept step a (
     differ : (x : A × List Bool) (e : LayoutFault) → good x ≡ Err e → ⊥
     differ x e k = cc
 
+-- a walk over a part of more bits
+pub seen_within : {A : Type 0} (step : A → ℕ → Var → ℕ → A) (next : ℕ → Form) (a : A) (b : List Bool) (old after : A × List Bool) → IsHeld next b → old ≡ (a, b) → walk step (headed next) old ≡ Ok after → after.0 ≡ kept step a (width (held next b)) (held next b).fields
+seen_within step next a b old after h start e = visited step next a b (held next b) (length b) old after h refl (start ∙ ap (λ (x : List Bool). (a, x)) (sym (whole_part b (length b) refl))) e
+
+pub not_stuck_within : {A : Type 0} (step : A → ℕ → Var → ℕ → A) (next : ℕ → Form) (a : A) (b : List Bool) (old : A × List Bool) (e : LayoutFault) → IsHeld next b → old ≡ (a, b) → walk step (headed next) old ≡ Err e → ⊥
+not_stuck_within step next a b old e h start is = not_stuck step next a b (held next b) (length b) old e h refl (start ∙ ap (λ (x : List Bool). (a, x)) (sym (whole_part b (length b) refl))) is
+
 -- ---- putting a value
 
 pub holds_own : (next : ℕ → Form) (b : List Bool) (p : Packet) → Holds next b p → Holds next (bits_of p) p

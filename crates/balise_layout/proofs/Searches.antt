@@ -12,11 +12,8 @@ use Rattle.balise_rules.proofs.Cases.{unsome}
 use Rattle.balise_layout.specs.declared.search.Search.{Search}
 use Rattle.balise_layout.specs.Walks.{kept}
 use Rattle.balise_layout.specs.Held.{before, further}
-use Rattle.balise_layout.specs.Search.{look}
+use Rattle.balise_layout.specs.Search.{look, searching}
 use Rattle.balise_layout.proofs.Places.{standing}
-
-abbrev pub searching : Var → ℕ → Search
-searching v k = record { var = v; skip = k; found = None }
 
 abbrev pub found_at : Var → ℕ → ℕ → Search
 found_at v k at = record { var = v; skip = k; found = Some at }

@@ -1,10 +1,13 @@
 -- The packet at the front of bits: its number and its length, and what reading answers.
-use Rattle.std.specs.Prelude.{◌≡◌, ◌≢◌, ◌≤◌, ◌+◌, ℕ, ◌==◌, Bool, false, List, length, take, drop, Result, Ok, Err}
+use Rattle.std.specs.Prelude.{◌≡◌, ◌≢◌, ◌≤◌, ◌+◌, ℕ, ◌==◌, Bool, false, List, length, take, drop, Option, None, Result, Ok, Err}
+use Rattle.balise_rules.specs.declared.refusal.Refusal.{Refusal}
 use Rattle.balise_rules.specs.Bits.{num}
+use Rattle.balise_rules.specs.Tags.{Key}
 use Rattle.balise_rules.specs.Packet.{Packet, IsSpelt, length_said, read_first, width}
 use Rattle.balise_layout.specs.declared.fault.LayoutFault.{LayoutFault}
 use Rattle.balise_layout.specs.declared.fault.LayoutFault.TheVariants.{OutOfMemory}
 use Rattle.balise_layout.specs.Faults.{refusal_of}
+use Rattle.balise_layout.specs.Held.{before, further}
 
 -- The bits begin with a packet's number and length, and have that length.
 pub record Bounded (b : List Bool) (number size : ℕ) : Type 0 where
@@ -20,7 +23,17 @@ abbrev pub ReadsFirst : ℕ → List Bool → ℕ → Result (Packet × ℕ) Lay
 ReadsFirst version b at (Ok r) = read_first version (drop at b) ≡ Ok (r.0, drop r.1 b)
 ReadsFirst version b at (Err e) = e ≢ OutOfMemory → read_first version (drop at b) ≡ Err (refusal_of e)
 
+-- a packet stands at the place and would be read, or the first fault
+abbrev pub StandsAt : ℕ → List Bool → ℕ → Result ℕ LayoutFault → Type 0
+StandsAt version b at (Ok end) = (p : Packet) × (read_first version (drop at b) ≡ Ok (p, drop end b)) × IsSpelt version p × (at + width p ≡ end) × (end ≤ length b)
+StandsAt version b at (Err e) = read_first version (drop at b) ≡ Err (refusal_of e)
+
 -- the packet that was read is of the version, and the place behind it is as far as the packet is long
 abbrev pub LiesAt : ℕ → List Bool → ℕ → Result (Packet × ℕ) LayoutFault → Type 0
 LiesAt version b at (Ok r) = IsSpelt version r.0 × (at + width r.0 ≡ r.1) × (r.1 ≤ length b)
 LiesAt version b at (Err e) = Unit {0}
+
+-- where a field of the packet that is read from a place on stands
+abbrev pub field_place : ℕ → Key → Result (Packet × List Bool) Refusal → Option ℕ
+field_place at key (Err e) = None
+field_place at key (Ok r) = further at (before key r.0.fields)

@@ -1,5 +1,11 @@
 -- The number of each kind of packet; those that are kept bit for bit have none of their own.
-use Rattle.std.specs.Prelude.{ℕ, Option, Some, None}
+use Rattle.std.specs.Prelude.{◌≡◌, ◌≤◌, ◌-◌, ℕ, Bool, List, length, drop, Option, Some, None, Result, Ok, Err}
+use Rattle.balise_rules.specs.Bits.{part}
+use Rattle.balise_rules.specs.Packet.{read_first}
+use Rattle.balise_layout.specs.declared.fault.LayoutFault.{LayoutFault}
+use Rattle.balise_layout.specs.Faults.{refusal_of}
+use Rattle.balise_layout.specs.Held.{held, IsHeld}
+use Rattle.balise_layout.specs.Layouts.{next_of}
 use Rattle.balise_layout.specs.declared.kind.Kind.{Kind}
 use Rattle.balise_layout.specs.declared.kind.Kind.TheVariants.{Linking, GradientProfile, SpeedProfile, LevelTransition, SpeedRestriction, Revocation, InfillLocation, Opaque}
 
@@ -12,3 +18,9 @@ number_of SpeedRestriction = Some 65
 number_of Revocation = Some 66
 number_of InfillLocation = Some 136
 number_of Opaque = None
+
+-- a packet of this kind stands at the place, up to the place behind it, and is read there; or the first fault
+abbrev pub Finds : ℕ → List Bool → ℕ → Result (Kind × ℕ) LayoutFault → Type 0
+Finds version b at (Ok r) = (at ≤ r.1) × (r.1 ≤ length b) × IsHeld (next_of (number_of r.0)) (part at (r.1 - at) b)
+    × (read_first version (drop at b) ≡ Ok (held (next_of (number_of r.0)) (part at (r.1 - at) b), drop r.1 b))
+Finds version b at (Err e) = read_first version (drop at b) ≡ Err (refusal_of e)

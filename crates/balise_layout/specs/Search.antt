@@ -15,3 +15,7 @@ look_from s left v None =
 -- one field more looked at, with so many bits from it on
 abbrev pub look : Search → ℕ → Var → ℕ → Search
 look s left v n = look_from s left v s.found
+
+-- nothing found yet
+abbrev pub searching : Var → ℕ → Search
+searching v k = record { var = v; skip = k; found = None }

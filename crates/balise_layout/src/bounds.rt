@@ -1,7 +1,8 @@
 //! The number and the end of the packet at a place.
 
-ghost use Rattle.std.specs.Prelude.{◌≡◌, ◌-◌, ◌≤◌, ℕ, drop, length, Err, MatchResult};
+ghost use Rattle.std.specs.Prelude.{◌≡◌, ◌≢◌, ◌-◌, ◌≤◌, ℕ, drop, length, Err, MatchResult};
 ghost use Rattle.balise_rules.specs.Packet.{read_first};
+ghost use Rattle.balise_layout.specs.declared.fault.LayoutFault.TheVariants.{OutOfMemory};
 ghost use Rattle.balise_layout.specs.Faults.{refusal_of};
 ghost use Rattle.balise_layout.specs.First.{Bounded};
 
@@ -10,7 +11,7 @@ use balise_bits::Bits;
 
 /// The packet's number and the place behind it, or the first fault that its first 23 bits show.
 pub fn bounds(bits: &Bits, at: usize) -> Result<(u32, usize), LayoutFault>
-    ensures { MatchResult result (λ r. (at ≤ r.1) × (r.1 ≤ length bits.now) × Bounded (drop at bits.now) r.0 (r.1 - at)) (λ e. (version : ℕ) → read_first version (drop at bits.now) ≡ Err (refusal_of e)) }
+    ensures { MatchResult result (λ r. (at ≤ r.1) × (r.1 ≤ length bits.now) × Bounded (drop at bits.now) r.0 (r.1 - at)) (λ e. (e ≢ OutOfMemory) × ((version : ℕ) → read_first version (drop at bits.now) ≡ Err (refusal_of e))) }
 {
     let left = bits.len().saturating_sub(at);
     if left < 8 {

@@ -1,19 +1,18 @@
 //! A packet of a telegram.
 
-ghost use Rattle.std.specs.Prelude.{◌≡◌, ◌↔◌, ◌++◌, ◌-◌, ◌<◌, ◌≤◌, ◌^◌, ℕ, false, length, Some, IfOk, IsOkUnless, IsTrue, MatchResult, OnErr, OnOk};
+ghost use Rattle.std.specs.Prelude.{◌≡◌, ◌≢◌, ◌↔◌, ◌++◌, ◌<◌, ◌^◌, ℕ, false, Some, drop, IfErr, IfOk, IsOkUnless, IsTrue, MatchResult, OnErr, OnOk};
 ghost use Rattle.balise_rules.specs.declared.variable.Var.TheVariants.{NidPacket, QDir};
 ghost use Rattle.balise_rules.specs.Variables.{steers, width_of};
-ghost use Rattle.balise_rules.specs.Bits.{part};
 ghost use Rattle.balise_rules.specs.Forms.{Form, Numbered};
-ghost use Rattle.balise_rules.specs.Packet.{bits_of, field_of, length_said, value, width, IsSpelt};
+ghost use Rattle.balise_rules.specs.Packet.{bits_of, field_of, read_first, value, width, IsSpelt};
 ghost use Rattle.balise_rules.specs.Names.{links_of};
 ghost use Rattle.balise_layout.specs.Walks.{kept};
-ghost use Rattle.balise_layout.specs.Reading.{Gives, Sure};
+ghost use Rattle.balise_layout.specs.Reading.{Sure};
 ghost use Rattle.balise_layout.specs.Collected.{all_keyed};
-ghost use Rattle.balise_layout.specs.First.{LiesAt, ReadsFirst};
-ghost use Rattle.balise_layout.specs.Held.{before, headed, with_field, Holds};
+ghost use Rattle.balise_layout.specs.First.{field_place, LiesAt, ReadsFirst, StandsAt};
+ghost use Rattle.balise_layout.specs.Held.{before, with_field, Holds};
 ghost use Rattle.balise_layout.specs.Layouts.{next_of};
-ghost use Rattle.balise_layout.specs.Kinds.{number_of};
+ghost use Rattle.balise_layout.specs.Kinds.{number_of, Finds};
 ghost use Rattle.balise_layout.specs.Setting.{flipped, renamed, turned, Sets};
 
 use crate::bounds::bounds;
@@ -55,22 +54,49 @@ impl Packet {
         ensures first { ReadsFirst version bits.now at result }
         ensures lies { LiesAt version bits.now at result }
     {
-        let (number, end) = bounds(bits, at)?;
-        let packet = Packet::read_as(Kind::of(version, number), bits, at, end)?;
-        Ok((packet, end))
+        let (kind, end) = Packet::find(bits, at, version)?;
+        let packed = bits.slice(at, end - at)?;
+        Ok((Packet { kind, packed }, end))
     }
 
-    // Reads a packet of this kind that is all of the bits from the place `at` up to the place `end`.
-    fn read_as(kind: Kind, bits: &Bits, at: usize, end: usize) -> Result<Packet, LayoutFault>
-        requires ordered { at ≤ end }
-        requires within { end ≤ length bits.now }
-        requires said { length_said (part at (end - at) bits.now) ≡ end - at }
-        ensures { Gives (λ p. p) (headed (next_of (number_of kind))) (part at (end - at) bits.now) result }
+    /// The place behind the packet that `read` would read, or the first fault. Takes no memory.
+    pub fn check(bits: &Bits, at: usize, version: u32) -> Result<usize, LayoutFault>
+        ensures stands { StandsAt version bits.now at result }
+        ensures fault { IfErr result (λ e. e ≢ LayoutFault.OutOfMemory) }
     {
+        let (_, end) = Packet::find(bits, at, version)?;
+        Ok(end)
+    }
+
+    /// Where occurrence `k`, from 0, of a variable of the packet at the place `at` stands, as a place of the bits:
+    /// none where no packet is read there, or it hasn't the variable. Takes no memory.
+    pub fn place_in(bits: &Bits, at: usize, version: u32, var: Var, k: u32) -> Option<usize>
+        ensures { result ≡ field_place at (var, k) (read_first version (drop at bits.now)) }
+    {
+        let Ok((kind, end)) = Packet::find(bits, at, version) else {
+            return None;
+        };
+        let mut walker = Walker::new(Search::new(var, k), bits, at, end);
+        match kind.walk(&mut walker) {
+            Ok(()) => {}
+            Err(_) => return None,
+        }
+        match walker.into_visitor().found {
+            Some(left) => Some(end - left),
+            None => None,
+        }
+    }
+
+    // The kind of the packet at a place and the place behind it, or the first fault. Takes no memory.
+    fn find(bits: &Bits, at: usize, version: u32) -> Result<(Kind, usize), LayoutFault>
+        ensures found { Finds version bits.now at result }
+        ensures fault { IfErr result (λ e. e ≢ LayoutFault.OutOfMemory) }
+    {
+        let (number, end) = bounds(bits, at)?;
+        let kind = Kind::of(version, number);
         let mut walker = Walker::new(Nothing, bits, at, end);
         kind.walk(&mut walker)?;
-        let packed = bits.slice(at, end - at)?;
-        Ok(Packet { kind, packed })
+        Ok((kind, end))
     }
 
     /// What kind of packet it is.
@@ -243,12 +269,7 @@ impl Packet {
     fn place_of(&self, var: Var, k: u32) -> Option<usize>
         ensures { result ≡ before (var, k) self.now.fields }
     {
-        let search = Search {
-            var,
-            skip: k,
-            found: None,
-        };
-        let Ok(search) = self.visit(search) else {
+        let Ok(search) = self.visit(Search::new(var, k)) else {
             return None;
         };
         match search.found {

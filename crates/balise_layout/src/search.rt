@@ -1,6 +1,7 @@
 //! The search for an occurrence of a variable.
 
-ghost use Rattle.std.specs.Prelude.{◌≡◌, None};
+ghost use Rattle.std.specs.Prelude.{◌≡◌};
+ghost use Rattle.balise_layout.specs.Search.{searching};
 
 use crate::fault::LayoutFault;
 use crate::visit::Visit;
@@ -15,6 +16,19 @@ pub struct Search {
     pub skip: u32,
     /// How many bits there are from it on, once it is found.
     pub found: Option<usize>,
+}
+
+impl Search {
+    /// For occurrence `k`, from 0, of a variable.
+    pub fn new(var: Var, k: u32) -> Search
+        ensures { result ≡ searching var k }
+    {
+        Search {
+            var,
+            skip: k,
+            found: None,
+        }
+    }
 }
 
 impl Visit for Search {

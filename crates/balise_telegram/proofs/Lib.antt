@@ -10,3 +10,4 @@ pub mod Passing
 pub mod Placing
 pub mod Shifting
 pub mod Changing
+pub mod PackedPlaces

@@ -91,3 +91,21 @@ one_stands b version at count number read now p end s h e n z f l is =
 pub one_fails : (b : List Bool) (version at count number : ℕ) (read : List (Tag × Packet)) (fault : LayoutFault) → Stands b version at count read → at + 8 ≤ length b → number ≡ num (part at 8 b) → (number ≡ 255 → ⊥) → (number ≡ 0 → ⊥) → (fault ≢ layout.OutOfMemory → read_first version (drop at b) ≡ Err (layout_refusal fault)) → of_layout fault ≢ OutOfMemory → read_packets (length b) version 0 (drop 50 b) ≡ Err (refusal_of (of_layout fault))
 one_fails b version at count number read fault s h e n z f m =
     fault_ends b version at count number read (refusal_of (of_layout fault)) s h e (differs number 255 n) (differs number 0 z) (f (λ k. m (ap of_layout k)) ∙ ap (λ (r : Refusal). Err r) (same_refusal fault))
+
+-- packets stand read up to a place
+abbrev pub SomeStand : List Bool → ℕ → ℕ → Type 0
+SomeStand b version at = (read : List (Tag × Packet)) × Stands b version at (length read) read
+
+pub none_stand : (b : List Bool) (version : ℕ) → 50 ≤ length b → SomeStand b version 50
+none_stand b version h = ([], none_stands b version h)
+
+-- one more packet, as the loop that keeps none finds it
+pub another_stands : (b : List Bool) (version at number end : ℕ) (s : SomeStand b version at) → at + 8 ≤ length b → number ≡ num (part at 8 b) → (number ≡ 255 → ⊥) → (number ≡ 0 → ⊥) → (found : (p : Packet) × (read_first version (drop at b) ≡ Ok (p, drop end b)) × IsSpelt version p × (at + width p ≡ end) × (end ≤ length b)) → SomeStand b version end
+another_stands b version at number end s h e n z found =
+    let now = s.0 ++ (Base (length s.0), found.0) ∷ [] in
+    let more = one_stands b version at (length s.0) number s.0 now found.0 end s.1 h e n z found.1 (found.2, found.3, found.4) refl in
+    (now, subst (λ (k : ℕ). Stands b version end k now) more.counted more)
+
+pub another_fails : (b : List Bool) (version at number : ℕ) (fault : LayoutFault) (s : SomeStand b version at) → at + 8 ≤ length b → number ≡ num (part at 8 b) → (number ≡ 255 → ⊥) → (number ≡ 0 → ⊥) → read_first version (drop at b) ≡ Err (layout_refusal fault) → read_packets (length b) version 0 (drop 50 b) ≡ Err (refusal_of (of_layout fault))
+another_fails b version at number fault s h e n z f =
+    fault_ends b version at (length s.0) number s.0 (refusal_of (of_layout fault)) s.1 h e (differs number 255 n) (differs number 0 z) (f ∙ ap (λ (r : Refusal). Err r) (same_refusal fault))

@@ -9,7 +9,8 @@ use Rattle.balise_rules.specs.declared.tag.Tag.{Tag}
 use Rattle.balise_rules.specs.Bits.{ones}
 use Rattle.balise_rules.specs.Forms.{Fields}
 use Rattle.balise_rules.specs.Packet.{Packet, value}
-use Rattle.balise_rules.specs.Telegram.{is_balise, used, read_header, read_packets, read_telegram, with_header}
+use Rattle.balise_telegram.specs.Packed.{telegram_of, IsTelegram}
+use Rattle.balise_rules.specs.Telegram.{Telegram, is_balise, used, read_header, read_packets, read_telegram, with_header}
 
 -- neither length, as the code tests it
 wrong : (m n k : ℕ) (v : Bool) → m ≡ k → n ≡ k → (not (eqb m 210) && not (eqb n 830)) ≡ v → not (eqb k 210 || eqb k 830) ≡ v
@@ -52,3 +53,11 @@ packets_end b m n head version ps padding new end e f h i v a p u k w =
     ∙ ap (λ (x : Fields). Ok (record { head = x; packets = ps; padding = ones (used ps) ++ drop end b })) (sym i)
     ∙ ap (λ (x : ℕ). Ok (record { head = head; packets = ps; padding = ones x ++ drop end b })) (sym u)
     ∙ ap (λ (x : List Bool). Ok (record { head = head; packets = ps; padding = x })) (sym (padded b padding new end k w))
+
+-- bits whose packets are read are a telegram
+pub packets_read : (b : List Bool) (m n : ℕ) (head : Fields) (version : ℕ) (r : List (Tag × Packet) × List Bool) → m ≡ length b → n ≡ length b → (not (eqb m 210) && not (eqb n 830)) ≡ false → head ≡ read_header b → version ≡ value MVersion 0 head → is_balise head ≡ true → read_packets (length b) version 0 (drop 50 b) ≡ Ok r → IsTelegram b
+packets_read b m n head version r e f h i v a p =
+    let y : Telegram = record { head = read_header b; packets = r.0; padding = ones (used r.0) ++ r.1 } in
+    let is : read_telegram b ≡ Ok y =
+    packets_of b m n e f h (ap is_balise (sym i) ∙ a) ∙ ap (with_header (read_header b)) (ap (λ (x : ℕ). read_packets (length b) x 0 (drop 50 b)) (versioned b head version i v) ∙ p) in
+    is ∙ ap Ok (sym (ap telegram_of is))

@@ -3,6 +3,7 @@ pub mod Reading
 pub mod Faults
 pub mod Setting
 pub mod Moving
+pub mod Packed
 pub use Rattle.balise_rules.specs.Variables
 pub use Rattle.balise_rules.specs.Refusals
 pub use Rattle.balise_rules.specs.Bits

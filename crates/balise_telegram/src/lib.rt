@@ -3,6 +3,7 @@
 
 mod fault;
 mod header;
+mod packed;
 mod telegram;
 
 pub use balise_bits::{Bits, BitsFault};
@@ -10,6 +11,7 @@ pub use balise_layout::{LayoutFault, Packet};
 pub use balise_rules::{Id, Refusal, Tag as PacketTag, Var};
 pub use fault::TelegramFault;
 pub use header::Header;
+pub use packed::PackedTelegram;
 pub use telegram::Telegram;
 
 #[cfg(test)]

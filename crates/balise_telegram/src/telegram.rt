@@ -47,19 +47,19 @@ impl Telegram {
     /// Refused in this order: `BadLength` for another number of bits, `NotABalise`, and then the first of what is
     /// met packet by packet: `NoEnd` where fewer than 8 bits are left, `PacketZero`, `PacketCut`, `LayoutMismatch`.
     /// `OutOfMemory` may stand in place of any answer.
-    pub fn read(alloc: Global, bits: &Bits) -> Result<Telegram, TelegramFault>
-        ensures ok { IfOk result (λ t. read_telegram bits.now ≡ Ok t) }
-        ensures fault { IfErr result (λ e. e ≢ TelegramFault.OutOfMemory → read_telegram bits.now ≡ Err (refusal_of e)) }
+    pub fn read(alloc: Global, bits: Bits) -> Result<Telegram, TelegramFault>
+        ensures ok { IfOk result (λ t. read_telegram bits ≡ Ok t) }
+        ensures fault { IfErr result (λ e. e ≢ TelegramFault.OutOfMemory → read_telegram bits ≡ Err (refusal_of e)) }
     {
         if (bits.len() != 210) & (bits.len() != 830) {
             return Err(TelegramFault::BadLength);
         }
-        let header = Header::read(bits);
+        let header = Header::read(&bits);
         if !header.is_balise() {
             return Err(TelegramFault::NotABalise);
         }
-        let (packets, end) = read_packets(alloc, bits, header.version())?;
-        let mut padding = bits.copy()?;
+        let (packets, end) = read_packets(alloc, &bits, header.version())?;
+        let mut padding = bits;
         padding.put_ones(0, end);
         Ok(Telegram {
             header,

@@ -2,6 +2,7 @@
 
 mod changes;
 mod full;
+mod packed;
 mod packets;
 
 use crate::{Bits, Header, PacketTag, Refusal, Telegram, TelegramFault, Var};
@@ -11,13 +12,18 @@ use std::process::Abort;
 /// What reading these digits answers, where the telegram shows the same digits again.
 fn read(rt: &impl Abort, alloc: Global, text: &str, len: usize) -> Option<TelegramFault> {
     let bits = Bits::from_hex(alloc, text, len).expect(rt, "digits");
-    match Telegram::read(alloc, &bits) {
+    let fault = packed::read(rt, &bits);
+    match Telegram::read(alloc, bits.copy().expect(rt, "memory")) {
         Ok(telegram) => {
             let shown = telegram.shown().expect(rt, "memory");
             assert!(rt; shown == bits, "{text}");
+            assert!(rt; fault.is_none(), "{text}");
             None
         }
-        Err(fault) => Some(fault),
+        Err(other) => {
+            assert!(rt; fault == Some(other), "{text}");
+            fault
+        }
     }
 }
 
@@ -100,7 +106,7 @@ fn bits(rt: &impl Abort, alloc: Global, text: &str) -> Bits {
 }
 
 fn telegram(rt: &impl Abort, alloc: Global, text: &str) -> Telegram {
-    Telegram::read(alloc, &bits(rt, alloc, text)).expect(rt, "a telegram")
+    Telegram::read(alloc, bits(rt, alloc, text)).expect(rt, "a telegram")
 }
 
 /// Whether the telegram shows these digits.

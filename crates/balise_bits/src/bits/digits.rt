@@ -1,14 +1,17 @@
 //! Hexadecimal digits, four bits each.
 
-ghost use Rattle.std.specs.Prelude.{◌≡◌, ◌≢◌, length, IfErr, IfOk, IsOkUnless};
+ghost use Rattle.std.specs.Prelude.{◌≡◌, ◌≢◌, length, Ok, Err, IfErr, IfOk, OnOk, IsOkUnless};
 ghost use Rattle.std.specs.String.{string_bytes};
 ghost use Rattle.balise_rules.specs.Digits.{digits_in, hex_of, read_digits, read_hex};
 ghost use Rattle.balise_bits.specs.Bytes.{flat};
 ghost use Rattle.balise_bits.specs.Faults.{refusal_of};
 
 use crate::bits::Bits;
+use crate::bits::numbers::add_zeros;
 use crate::fault::BitsFault;
+use crate::nibbles::{decoded, put_digits};
 use hex::encode;
+use smallvec::SmallVec;
 use std::alloc::{AllocError, Global};
 
 impl Bits {
@@ -51,11 +54,31 @@ impl Bits {
         ensures ok { IfOk result (λ b. read_digits text.now ≡ Ok b) }
         ensures fault { IfErr result (λ e. e ≢ BitsFault.OutOfMemory → read_digits text.now ≡ Err (refusal_of e)) }
     {
-        let bytes = hex::decode(alloc, text)?;
+        if text.len() % 2 != 0 {
+            return Err(BitsFault::BadHex);
+        }
+        let mut bytes = SmallVec::new(alloc);
+        add_zeros(&mut bytes, text.len() / 2)?;
+        if !decoded(text, bytes.as_mut_slice()) {
+            return Err(BitsFault::BadHex);
+        }
         let Some(len) = bytes.len().checked_mul(8) else {
             return Err(BitsFault::OutOfMemory);
         };
         Ok(Bits { bytes, len })
+    }
+
+    /// Writes the digits in lower case into a buffer, in the place of all that it holds.
+    pub fn hex_into(&self, out: &mut Vec<u8>) -> Result<(), BitsFault>
+        ensures ok { OnOk result (out.new.items ≡ hex_of self.now) }
+        ensures fault { IsOkUnless result BitsFault.OutOfMemory }
+    {
+        let Some(count) = self.bytes.len().checked_mul(2) else {
+            return Err(BitsFault::OutOfMemory);
+        };
+        out.resize(count, 0)?;
+        put_digits(&self.bytes, out.as_mut_slice());
+        Ok(())
     }
 
     /// The digits in lower case, two for each byte, the last byte filled with zeros.

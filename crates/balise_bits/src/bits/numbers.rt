@@ -1,11 +1,13 @@
 //! Numbers among the bits: read, put in place, added at the end.
 
-ghost use Rattle.std.specs.Prelude.{◌≡◌, ◌+◌, ◌^◌, ◌<◌, ◌≤◌, ◌++◌, length, IsOkUnless, OnErr, OnOk};
+ghost use Rattle.std.specs.Prelude.{◌≡◌, ◌+◌, ◌^◌, ◌<◌, ◌≤◌, ◌++◌, length, replicate, IsOkUnless, OnErr, OnOk};
 ghost use Rattle.balise_rules.specs.Bits.{bits, num, ones, part, put_at, zeros};
 
 use crate::bits::Bits;
 use crate::fault::BitsFault;
 use crate::window::{WINDOW, number_before, put_over};
+use smallvec::SmallVec;
+use std::alloc::AllocError;
 
 impl Bits {
     /// The number in the `width` bits from the place `at` on.
@@ -64,7 +66,8 @@ impl Bits {
         let Some(len) = self.len.checked_add(count) else {
             return Err(BitsFault::OutOfMemory);
         };
-        self.bytes.resize(len.div_ceil(8), 0)?;
+        let more = len.div_ceil(8) - self.bytes.len();
+        add_zeros(&mut self.bytes, more)?;
         self.len = len;
         Ok(())
     }
@@ -83,4 +86,19 @@ impl Bits {
             done += width as usize;
         }
     }
+}
+
+// As many zero bytes as most calls add, or more.
+const ZEROS: [u8; 104] = [0; 104];
+
+// Adds so many zero bytes at the end. On want of memory the bytes stay.
+pub(crate) fn add_zeros(bytes: &mut SmallVec<u8, 30>, count: usize) -> Result<(), AllocError>
+    ensures ok { OnOk result (bytes.new.items ≡ bytes.old.items ++ replicate count 0) }
+    ensures err { OnErr result (bytes.new.items ≡ bytes.old.items) }
+{
+    if count <= ZEROS.len() {
+        return bytes.extend_from_slice(&ZEROS[..count]);
+    }
+    let zeros = vec![in *bytes.allocator(); 0u8; count]?;
+    bytes.extend_from_slice(&zeros)
 }

@@ -42,6 +42,7 @@ fn bits_that_are_no_packet_are_refused(rt: HostRuntime) -> Result<(), Fail> {
         let bits = Bits::digits(rt.alloc(), row.0)?;
         let fault = Packet::read(&bits, row.1, 33).err();
         assert!(rt; fault == Some(row.2));
+        assert!(rt; Packet::check(&bits, row.1, 33) == Err(row.2));
     }
     Ok(())
 }

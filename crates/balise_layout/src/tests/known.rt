@@ -33,6 +33,9 @@ fn check_row<R: Abort>(rt: &R, alloc: Global, row: &Row) -> Result<(), Fail> {
     let (packet, end) = Packet::read(&bits, 0, row.1)?;
     let shown = (end, packet.width(), packet.number(), packet.q_dir());
     assert!(rt; shown == (row.2, row.2, row.3, row.4));
+    assert!(rt; Packet::check(&bits, 0, row.1) == Ok(row.2));
+    assert!(rt; Packet::place_in(&bits, 0, row.1, Var::LPacket, 0) == Some(10));
+    assert!(rt; Packet::place_in(&bits, 0, row.1, Var::LPacket, 1).is_none());
     assert!(rt; packet.is_spelt(row.1));
     check_digits(rt, alloc, &packet, row.0)
 }

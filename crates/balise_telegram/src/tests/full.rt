@@ -8,7 +8,7 @@ use std::alloc::Global;
 use std::process::Abort;
 
 /// 830 bits with packets 100 to 132 in order, of 23 bits each; 13 bits of padding are left.
-const FULL: &str =
+pub(crate) const FULL: &str =
     "a1007f80a03259100bb2a01766402ece805da100bb4a0176a402ed6805db100bb6a0176e402ede805dc100bb8a01772402ee6805dd100bbaa01776402eee805de100bbca0177a402ef6805df100bbea0177e402efe805e0100bc0a01782402f06805e1100bfffffc";
 
 /// The same with packet 132 before all others.

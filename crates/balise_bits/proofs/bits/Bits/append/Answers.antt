@@ -4,7 +4,7 @@ use Rattle.balise_bits.proofs.Packing.{packed_joined, view-joined}
 use Rattle.balise_bits.proofs.bits.Bits.append.Goals as goal
 
 joined : (c : goal.After-self-1) → c.extend_from_slice.new.self.items ≡ c.self.inside.bytes.items ++ c.other.inside.bytes.items
-joined c = c.in_ok-extend_from_slice.ensures.items ∙ ap (λ (l : List ℕ). c.self.inside.bytes.items ++ l) c.deref.ensures.value
+joined c = c.in_ok-extend_from_slice.ensures.ok ∙ ap (λ (l : List ℕ). c.self.inside.bytes.items ++ l) c.deref.ensures
 
 pub invariant_of-self-2 : goal.invariant_of-self-2
 invariant_of-self-2 c =

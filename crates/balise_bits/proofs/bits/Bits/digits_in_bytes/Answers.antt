@@ -1,23 +1,28 @@
-use Rattle.std.proofs.Common.{sym, ap, ◌∙◌, ◌≡◌, ◌*◌, length, arith, Ok}
-use Rattle.std.proofs.lemmas.Result.{err_from_is_err_and}
-use Rattle.balise_bits.proofs.Digits.{read_digits-decoded, read_digits-refused, word_decoded}
+use Rattle.std.proofs.Common.{sym, ap, ◌∙◌, ◌≡◌, ◌*◌, ◌%◌, length, drop, arith, Ok}
+use Rattle.std.proofs.lemmas.List.{take_at}
+use Rattle.std.specs.List.{refill}
+use Rattle.balise_rules.specs.Digits.{digits_or_bad}
+use Rattle.balise_bits.specs.Bytes.{flat}
 use Rattle.balise_bits.proofs.Packing.{packed_whole, view-whole}
 use Rattle.balise_bits.proofs.bits.Bits.digits_in_bytes.Goals as goal
 
-size : (c : goal.In-Some) → c.in-Some.len ≡ 8 * length c.in_ok-bytes.bytes.items
+-- what the bytes are in the end
+filled : (c : goal.In-Some) → refill (length c.add_zeros.new.bytes.items) c.add_zeros.new.bytes.items c.decoded.new.out ≡ c.decoded.new.out
+filled c =
+    let new = c.decoded.new.out in
+    let zeros = c.add_zeros.new.bytes.items in
+    take_at new (drop (length new) zeros) (length zeros) (c.decoded.ensures.len ∙ ap length c.as_mut_slice.ensures.value)
+
+size : (c : goal.In-Some) → c.in-Some.len ≡ 8 * length (refill (length c.add_zeros.new.bytes.items) c.add_zeros.new.bytes.items c.decoded.new.out)
 size c =
     let product : c.in-Some.len ≡ c.len.result * 8 = c.in-Some.ensures.1 in
-    omega (arith, product, c.len.ensures, c.in_ok-bytes.bytes.ok.0)
-
-pub returns-in_err-bytes-clause-fault : goal.returns-in_err-bytes-clause-fault
-returns-in_err-bytes-clause-fault c =
-    let p = err_from_is_err_and c.from_residual.result c.from_residual.ensures.1 in
-    rw (p.1, p.2) (read_digits-refused c.args.text.now c.in_err-bytes.field-0.0 c.in_err-bytes.ensures.err)
+    omega (arith, product, c.len.ensures.value)
 
 pub invariant_of-result : goal.invariant_of-result
-invariant_of-result c = packed_whole c.in-Some.len c.in_ok-bytes.bytes.items (size c)
+invariant_of-result c = packed_whole c.in-Some.len _ (size c)
 
 pub returns-clause-ok : goal.returns-clause-ok
 returns-clause-ok c =
-    read_digits-decoded c.args.text.now ∙ ap word_decoded c.in_ok-bytes.ensures.ok
-    ∙ ap Ok (sym (view-whole c.in-Some.len c.in_ok-bytes.bytes.items (size c)))
+    let even : length c.args.text.now % 2 ≡ 0 = c.if-text-ne0.false in
+    rw even (ap digits_or_bad (c.decoded.ensures.ok c.if-not-decoded.false)
+    ∙ ap Ok (ap flat (sym (filled c)) ∙ sym (view-whole c.in-Some.len _ (size c))))

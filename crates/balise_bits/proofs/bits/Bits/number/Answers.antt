@@ -22,7 +22,7 @@ returns-then-first-count c =
     let len = c.self.inside.len in
     let held : len ≡ length c.args.self.now = sym (length-view len bytes c.self.invariant) ∙ ap length c.self.view_is in
     c.number_before.ensures
-    ∙ in_window bytes c.deref.result.now c.args.self.now len at w (at / 8) (at / 8 + 5 - at / 8) (40 - at % 8 - w) c.deref.ensures.value c.self.view_is (omega arith) (omega arith) (omega arith) (omega arith)
+    ∙ in_window bytes c.deref.result.now c.args.self.now len at w (at / 8) (at / 8 + 5 - at / 8) (40 - at % 8 - w) c.deref.ensures c.self.view_is (omega arith) (omega arith) (omega arith) (omega arith)
 
 pub returns : goal.returns
 returns c =
@@ -33,6 +33,6 @@ returns c =
     let held : len ≡ length c.args.self.now = sym (length-view len bytes c.self.invariant) ∙ ap length c.self.view_is in
     let size = c.min-size.result in
     let first = c.len-count.result - size in
-    let all : length c.deref-2.result.now ≡ length bytes = ap length c.deref-2.ensures.value in
+    let all : length c.deref-2.result.now ≡ length bytes = ap length c.deref-2.ensures in
     c.number_before-2.ensures
-    ∙ in_window bytes c.deref-2.result.now c.args.self.now len at w first (length c.deref-2.result.now - first) (8 * size - (at - 8 * first) - w) c.deref-2.ensures.value c.self.view_is (omega arith) (omega arith) (omega arith) (omega arith)
+    ∙ in_window bytes c.deref-2.result.now c.args.self.now len at w first (length c.deref-2.result.now - first) (8 * size - (at - 8 * first) - w) c.deref-2.ensures c.self.view_is (omega arith) (omega arith) (omega arith) (omega arith)

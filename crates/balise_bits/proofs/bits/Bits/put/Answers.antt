@@ -1,6 +1,6 @@
 use Rattle.std.proofs.Common.{sym, ap, ◌∙◌, length, take, drop, arith, ◌≡◌, ◌+◌, ◌-◌, ◌*◌, ℕ, List}
-use Rattle.std.proofs.lemmas.List.{length-take, length-drop, with_items_is}
-use Rattle.std.specs.Vec.{with_items}
+use Rattle.std.proofs.lemmas.List.{length-take, length-drop, take_at}
+use Rattle.smallvec.specs.SmallVec.{with_items}
 use borrow.Rule.Slice.PartMut.{put_mid}
 use Rattle.balise_rules.specs.Bits.{bits, put_at}
 use Rattle.balise_rules.proofs.Numbers.{length-bits}
@@ -41,9 +41,9 @@ items c =
     let x = bits c.args.width c.args.value in
     let held = len_held c in
     let same : flat new ≡ put_at c.args.at x (flat bytes) = ap (λ (l : List ℕ). flat (put_mid first n l mid)) c.deref_mut.ensures.value ∙ written c in
-    let size : length new ≡ c.self.inside.bytes.len =
-    omega (arith, sym (length-flat new) ∙ ap length same ∙ length-put_at c.args.at x (flat bytes) (omega (arith, length-bits c.args.width c.args.value, length-flat bytes)) ∙ length-flat bytes, c.deref_mut.ensures.len, ap length c.deref_mut.ensures.value) in
-    ap flat (with_items_is c.self.inside.bytes new size) ∙ same
+    let size : length new ≡ length bytes =
+    omega (arith, sym (length-flat new) ∙ ap length same ∙ length-put_at c.args.at x (flat bytes) (omega (arith, length-bits c.args.width c.args.value, length-flat bytes)) ∙ length-flat bytes) in
+    ap flat (take_at new (drop (length new) bytes) (length bytes) size) ∙ same
 
 pub invariant_of-self : goal.invariant_of-self
 invariant_of-self c =

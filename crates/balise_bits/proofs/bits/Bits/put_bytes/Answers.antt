@@ -1,6 +1,6 @@
 use Rattle.std.proofs.Common.{sym, ap, ◌∙◌, length, take, drop, arith, ◌≡◌, ◌+◌, ◌-◌, ◌*◌, ◌/◌, ◌%◌, ◌≤◌, ℕ, List}
-use Rattle.std.proofs.lemmas.List.{length-take, length-drop, take_rest, with_items_is}
-use Rattle.std.specs.Vec.{with_items}
+use Rattle.std.proofs.lemmas.List.{length-take, length-drop, take_rest, take_at}
+use Rattle.smallvec.specs.SmallVec.{with_items}
 use borrow.Rule.Slice.PartMut.{put_mid}
 use Rattle.balise_rules.specs.Bits.{part, put_at}
 use Rattle.balise_bits.specs.Bytes.{flat}
@@ -30,7 +30,7 @@ part_held c =
     let room : first + c.args.count ≤ length bytes = omega (arith, held, c.self.invariant.whole) in
     let few : length (take n (drop first c.deref_mut.result.now)) ≡ c.args.count = omega (arith, now, room, length-take n (drop first c.deref_mut.result.now), length-drop first c.deref_mut.result.now) in
     c.fill_shifted.ensures ∙ ap (λ (k : ℕ). part (at % 8) (8 * k) (flat (take (length c.deref.result.now - at / 8) (drop (at / 8) c.deref.result.now)))) few
-    ∙ ap (λ (l : List ℕ). part (at % 8) (8 * c.args.count) (flat l)) (take_rest c.deref.result.now (at / 8) ∙ ap (drop (at / 8)) c.deref.ensures.value)
+    ∙ ap (λ (l : List ℕ). part (at % 8) (8 * c.args.count) (flat l)) (take_rest c.deref.result.now (at / 8) ∙ ap (drop (at / 8)) c.deref.ensures)
     ∙ part-in_bytes others len at (8 * c.args.count) (omega (arith, c.other.invariant.whole)) (omega (arith, other_long))
     ∙ ap (part at (8 * c.args.count)) c.other.view_is
 
@@ -50,9 +50,9 @@ items c =
     let same : flat new ≡ put_at to x (flat bytes) =
     ap (λ (l : List ℕ). flat (put_mid first (first + count - first) l mid)) c.deref_mut.ensures.value ∙ ap (λ (k : ℕ). flat (put_mid first k bytes mid)) n
     ∙ flat-bytes_put bytes mid to first count x (let e : to / 8 ≡ to / 8 = omega arith in e) c.requires.aligned room long (part_held c) in
-    let size : length new ≡ c.self.inside.bytes.len =
-    omega (arith, sym (length-flat new) ∙ ap length same ∙ length-put_at to x (flat bytes) (omega (arith, long, room)) ∙ length-flat bytes, c.deref_mut.ensures.len, ap length c.deref_mut.ensures.value) in
-    ap flat (with_items_is c.self.inside.bytes new size) ∙ same
+    let size : length new ≡ length bytes =
+    omega (arith, sym (length-flat new) ∙ ap length same ∙ length-put_at to x (flat bytes) (omega (arith, long, room)) ∙ length-flat bytes) in
+    ap flat (take_at new (drop (length new) bytes) (length bytes) size) ∙ same
 
 pub invariant_of-self : goal.invariant_of-self
 invariant_of-self c =

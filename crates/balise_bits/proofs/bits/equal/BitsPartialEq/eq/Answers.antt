@@ -21,13 +21,13 @@ returns-then-self-other-clause-same c = (λ e. cc e, λ e. absurd (other_len c e
 same_from : (c : goal.After-same_bytes) → c.same_bytes.result ≡ true → c.args.self.now ≡ c.args.other.now
 same_from c t =
     let bytes : flat c.self.inside.bytes.items ≡ flat c.other.inside.bytes.items =
-    sym (ap flat c.deref.ensures.value) ∙ c.same_bytes.ensures.0 t ∙ ap flat c.deref-2.ensures.value in
+    sym (ap flat c.deref.ensures) ∙ c.same_bytes.ensures.0 t ∙ ap flat c.deref-2.ensures in
     sym c.self.view_is ∙ ap (take c.self.inside.len) bytes ∙ ap (λ (n : ℕ). take n (flat c.other.inside.bytes.items)) c.if-self-other.false ∙ c.other.view_is
 
 same_to : (c : goal.After-same_bytes) → c.args.self.now ≡ c.args.other.now → c.same_bytes.result ≡ true
 same_to c e =
     let bytes = flat_from_view c.self.inside.len c.other.inside.len c.self.inside.bytes.items c.other.inside.bytes.items c.self.invariant c.other.invariant c.if-self-other.false (c.self.view_is ∙ e ∙ sym c.other.view_is) in
-    c.same_bytes.ensures.1 (ap flat c.deref.ensures.value ∙ bytes ∙ sym (ap flat c.deref-2.ensures.value))
+    c.same_bytes.ensures.1 (ap flat c.deref.ensures ∙ bytes ∙ sym (ap flat c.deref-2.ensures))
 
 pub returns-clause-eq : goal.returns-clause-eq
 returns-clause-eq c =

@@ -1,0 +1,19 @@
+use Rattle.std.proofs.Common.{◌≡◌, ◌∙◌, ◌≤◌, length, ap, sym, arith}
+use Rattle.balise_rules.specs.Telegram.{Telegram, read_header, read_telegram, shown}
+use Rattle.balise_rules.specs.Forms.{Fields}
+use Rattle.balise_telegram.specs.Packed.{telegram_of}
+use Rattle.balise_telegram.proofs.PackedPlaces.{held_read, long_enough, head_is}
+use Rattle.balise_rules.specs.declared.variable.Var.TheVariants.{MVersion}
+use Rattle.balise_rules.specs.Packet.{value}
+use Rattle.balise_rules.specs.Telegram.{version_of}
+use Rattle.balise_telegram.proofs.packed.PackedTelegram.version.Goals as goal
+
+pub read-requires : goal.read-requires
+read-requires c =
+    let b = c.self.inside.packed in
+    let long = (long_enough b (telegram_of (read_telegram b)) (held_read b c.self.invariant)).0 in omega (arith, long)
+
+pub returns : goal.returns
+returns c =
+    let b = c.self.inside.packed in
+    c.version.ensures ∙ ap (value MVersion 0) (c.read.ensures ∙ head_is b (telegram_of (read_telegram b)) (held_read b c.self.invariant)) ∙ ap version_of c.self.view_is

@@ -29,7 +29,7 @@ pub record Further (w : ℕ) (p : Option ℕ) (d : ℕ) : Type 0 where
   pub is : p ≡ Some from
   pub sum : d ≡ w + from
 
-further_is : (w : ℕ) (p : Option ℕ) (d : ℕ) → further w p ≡ Some d → Further w p d
+pub further_is : (w : ℕ) (p : Option ℕ) (d : ℕ) → further w p ≡ Some d → Further w p d
 further_is w None d e = absurd cc
 further_is w (Some n) d e = record { from = n; is = refl; sum = sym (unsome e) }
 
@@ -42,7 +42,7 @@ take_further [] b d = ap (λ (n : ℕ). take n b) (let e : 0 + d ≡ d = omega a
 take_further (x ∷ a) b d = ap (λ (n : ℕ). take n (x ∷ (a ++ b))) (let e : suc (length a) + d ≡ suc (length a + d) = omega arith in e) ∙ ap (λ (l : List Bool). x ∷ l) (take_further a b d)
 
 -- bits put behind others
-put_further : (a b new : List Bool) (d : ℕ) → put_at (length a + d) new (a ++ b) ≡ a ++ put_at d new b
+pub put_further : (a b new : List Bool) (d : ℕ) → put_at (length a + d) new (a ++ b) ≡ a ++ put_at d new b
 put_further a b new d =
     let far : (length a + d) + length new ≡ length a + (d + length new) = omega arith in
     rw (take_further a b d, far, drop_further a b (d + length new)) (append_assoc a (take d b) (new ++ drop (d + length new) b))

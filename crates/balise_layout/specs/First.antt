@@ -1,8 +1,10 @@
 -- The packet at the front of bits: its number and its length, and what reading answers.
-use Rattle.std.specs.Prelude.{◌≡◌, ◌≢◌, ◌≤◌, ◌+◌, ℕ, ◌==◌, Bool, false, List, length, take, drop, Option, None, Result, Ok, Err}
+use Rattle.std.specs.Prelude.{◌≡◌, ◌≢◌, ◌≤◌, ◌+◌, ℕ, ◌==◌, Bool, false, List, [], length, take, drop, Option, None, Result, Ok, Err}
 use Rattle.balise_rules.specs.declared.refusal.Refusal.{Refusal}
 use Rattle.balise_rules.specs.Bits.{num}
 use Rattle.balise_rules.specs.Tags.{Key}
+use Rattle.balise_rules.specs.declared.identity.Id.{Id}
+use Rattle.balise_rules.specs.Names.{links_of}
 use Rattle.balise_rules.specs.Packet.{Packet, IsSpelt, length_said, read_first, width}
 use Rattle.balise_layout.specs.declared.fault.LayoutFault.{LayoutFault}
 use Rattle.balise_layout.specs.declared.fault.LayoutFault.TheVariants.{OutOfMemory}
@@ -37,3 +39,8 @@ LiesAt version b at (Err e) = Unit {0}
 abbrev pub field_place : ℕ → Key → Result (Packet × List Bool) Refusal → Option ℕ
 field_place at key (Err e) = None
 field_place at key (Ok r) = further at (before key r.0.fields)
+
+-- the identities of the elements of the packet that is read, in a telegram of country c
+abbrev pub links_read : ℕ → Result (Packet × List Bool) Refusal → List Id
+links_read c (Err e) = []
+links_read c (Ok r) = links_of c r.0

@@ -9,7 +9,7 @@ ghost use Rattle.balise_rules.specs.Names.{links_of};
 ghost use Rattle.balise_layout.specs.Walks.{kept};
 ghost use Rattle.balise_layout.specs.Reading.{Sure};
 ghost use Rattle.balise_layout.specs.Collected.{all_keyed};
-ghost use Rattle.balise_layout.specs.First.{field_place, LiesAt, ReadsFirst, StandsAt};
+ghost use Rattle.balise_layout.specs.First.{field_place, links_read, LiesAt, ReadsFirst, StandsAt};
 ghost use Rattle.balise_layout.specs.Held.{before, with_field, Holds};
 ghost use Rattle.balise_layout.specs.Layouts.{next_of};
 ghost use Rattle.balise_layout.specs.Kinds.{number_of, Finds};
@@ -85,6 +85,26 @@ impl Packet {
             Some(left) => Some(end - left),
             None => None,
         }
+    }
+
+    /// The identities of the elements of the packet at the place `at`, one each in order, with number 16383 kept, in a
+    /// telegram of this M_VERSION and country: none where no packet is read there.
+    pub fn links_in(
+        bits: &Bits,
+        at: usize,
+        version: u32,
+        country: u32,
+    ) -> Result<Vec<Id>, LayoutFault>
+        ensures ok { IfOk result (λ links. links.items ≡ links_read country (read_first version (drop at bits.now))) }
+        ensures fault { IsOkUnless result LayoutFault.OutOfMemory }
+    {
+        let alloc = bits.allocator();
+        let Ok((kind, end)) = Packet::find(bits, at, version) else {
+            return Ok(Vec::new(alloc));
+        };
+        let mut walker = Walker::new(Links::new(alloc, country), bits, at, end);
+        kind.walk(&mut walker)?;
+        Ok(walker.into_visitor().into_identities())
     }
 
     // The kind of the packet at a place and the place behind it, or the first fault. Takes no memory.

@@ -47,7 +47,7 @@ front_of version p s =
     }
 
 -- L_PACKET of a packet with more bits behind it
-said_again : (version : ℕ) (p : Packet) (behind : List Bool) → IsSpelt version p → length_said (bits_of p ++ behind) ≡ length (bits_of p)
+pub said_again : (version : ℕ) (p : Packet) (behind : List Bool) → IsSpelt version p → length_said (bits_of p ++ behind) ≡ length (bits_of p)
 said_again version p behind s =
     let b = bits_of p in
     let f = front_of version p s in

@@ -12,7 +12,7 @@ use Rattle.balise_rules.specs.Variables.{width_of}
 use Rattle.balise_rules.specs.Bits.{num, bits, ones}
 use Rattle.balise_rules.specs.Forms.{Form, done, shut, never, valued, Fields, Matches, Numbered, spelling, read_form}
 use Rattle.balise_rules.specs.Packet.{Packet, bits_of, value, IsSpelt}
-use Rattle.balise_rules.specs.Telegram.{header, Telegram, version_of, is_balise, used, packets_bits, TaggedFrom, IsLength, IsRead, read_packets, fields_or_none, read_header, read_telegram}
+use Rattle.balise_rules.specs.Telegram.{header, Telegram, version_of, is_balise, used, packets_bits, TaggedFrom, IsLength, IsRead, shown, read_packets, fields_or_none, read_header, read_telegram}
 use Rattle.balise_rules.proofs.Numbers.{length-bits}
 use Rattle.balise_rules.proofs.Spelt.{read_again}
 use Rattle.balise_rules.proofs.PacketAgain.{front_of, body_again}
@@ -47,7 +47,7 @@ packets_again (suc most) version n ((g, p) ∷ ps) behind h t a =
     ∙ ap (λ (x : Tag). Ok ((x, p) ∷ ps, behind)) (sym t.0)
 
 -- fields of variables alone take their widths
-fixed_length : (form : Form) (n : ℕ) (fs : Fields) (rest : List Bool) → Fixed form n → Matches form fs rest → length (spelling fs) ≡ n
+pub fixed_length : (form : Form) (n : ℕ) (fs : Fields) (rest : List Bool) → Fixed form n → Matches form fs rest → length (spelling fs) ≡ n
 unfolding spelling
 fixed_length done n [] rest f m = sym f
 fixed_length done n (g ∷ fs) rest f m = absurd m
@@ -79,6 +79,16 @@ header_again y b rest m u e =
     let own : take 50 b ≡ spelling y.head ++ [] = ap (take 50) e ∙ take_at (spelling y.head) rest 50 fifty ∙ sym (append-nil (spelling y.head)) in
     (ap (λ (x : List Bool). fields_or_none (read_form header [] x)) own ∙ ap fields_or_none (read_again header [] y.head [] m u), ap (drop 50) e ∙ drop_at (spelling y.head) rest 50 fifty)
 
+-- what is shown behind packet 255 is the padding
+pub padding_shown : (y : Telegram) → Matches header y.head [] → drop (used y.packets) (shown y) ≡ drop (used y.packets) y.padding
+padding_shown y m =
+    let behind = drop (used y.packets) y.padding in
+    let before = spelling y.head ++ (packets_bits y.packets ++ ones 8) in
+    let fifty = fixed_length header 50 y.head [] header_fixed m in
+    let two : shown y ≡ before ++ behind = ap (λ (x : List Bool). spelling y.head ++ x) (sym (append_assoc (packets_bits y.packets) (ones 8) behind)) ∙ sym (append_assoc (spelling y.head) (packets_bits y.packets ++ ones 8) behind) in
+    let count : length before ≡ used y.packets = omega (arith, length-append (spelling y.head) (packets_bits y.packets ++ ones 8), length-append (packets_bits y.packets) (ones 8), fifty, used_is y.packets) in
+    ap (drop (used y.packets)) two ∙ drop_at before behind (used y.packets) count
+
 pub telegram_again : (b : List Bool) (y : Telegram) → IsRead b y → read_telegram b ≡ Ok y
 unfolding read_telegram
 telegram_again b y r =
@@ -89,10 +99,7 @@ telegram_again b y r =
     let most : length y.packets < length b = omega (arith, ap length (sym r.shows), length-append (spelling y.head) rest, length-append (packets_bits y.packets) (ones 8 ++ behind), fifty, few (version_of y) y.packets r.packets) in
     let packets : read_packets (length b) (value MVersion 0 (read_header b)) 0 (drop 50 b) ≡ Ok (y.packets, behind) =
     ap (λ (x : Fields). read_packets (length b) (value MVersion 0 x) 0 (drop 50 b)) h.0 ∙ ap (read_packets (length b) (version_of y) 0) h.1 ∙ packets_again (length b) (version_of y) 0 y.packets behind most r.tags r.packets in
-    let before = spelling y.head ++ (packets_bits y.packets ++ ones 8) in
-    let two : b ≡ before ++ behind = sym r.shows ∙ ap (λ (x : List Bool). spelling y.head ++ x) (sym (append_assoc (packets_bits y.packets) (ones 8) behind)) ∙ sym (append_assoc (spelling y.head) (packets_bits y.packets ++ ones 8) behind) in
-    let count : length before ≡ used y.packets = omega (arith, length-append (spelling y.head) (packets_bits y.packets ++ ones 8), length-append (packets_bits y.packets) (ones 8), fifty, used_is y.packets) in
-    let left : drop (used y.packets) b ≡ behind = ap (drop (used y.packets)) two ∙ drop_at before behind (used y.packets) count in
+    let left : drop (used y.packets) b ≡ behind = ap (drop (used y.packets)) (sym r.shows) ∙ padding_shown y r.header in
     let padding : ones (used y.packets) ++ behind ≡ y.padding = ap (λ (x : List Bool). ones (used y.packets) ++ x) (sym left) ∙ sym r.padding in
     let balise : is_balise (read_header b) ≡ true = ap is_balise h.0 ∙ r.balise in
     rw (size_test (length b) r.size, balise, packets, h.0) (ap (λ (x : List Bool). Ok (record { head = y.head; packets = y.packets; padding = x })) padding)

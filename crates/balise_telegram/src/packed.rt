@@ -1,14 +1,14 @@
 //! A telegram held as its bits alone.
 
+mod changes;
+mod packets;
+
 ghost use Rattle.std.specs.Prelude.{◌≡◌, ◌≢◌, ◌≤◌, List, Bool, drop, IfErr, IfOk, IsOkUnless, length, Ok, Err};
 ghost use Rattle.balise_rules.specs.Packet.{field_of, Packet};
-ghost use Rattle.balise_rules.specs.Telegram.{read_packets, read_telegram, shown, version_of, IsLength};
+ghost use Rattle.balise_rules.specs.Telegram.{read_packets, read_telegram, shown, used, version_of, IsLength};
 ghost use Rattle.balise_rules.specs.declared.tag.Tag.{Tag};
 ghost use Rattle.balise_telegram.specs.Faults.{refusal_of};
-ghost use Rattle.balise_telegram.specs.Packed.{packet_place};
-ghost use Rattle.balise_telegram.specs.Setting.{field_at};
 
-use crate::PacketTag;
 use crate::fault::TelegramFault;
 use crate::header::Header;
 use crate::telegram::Telegram;
@@ -71,10 +71,21 @@ impl PackedTelegram {
         Telegram::read(alloc, self.packed.copy()?)
     }
 
+    /// The same telegram once more.
+    pub fn copy(&self) -> Result<PackedTelegram, TelegramFault>
+        ensures ok { IfOk result (λ t. t ≡ self.now) }
+        ensures fault { IsOkUnless result TelegramFault.OutOfMemory }
+    {
+        Ok(PackedTelegram {
+            packed: self.packed.copy()?,
+        })
+    }
+
     /// How many bits it has: 210 or 830.
     pub fn width(&self) -> usize
-        ensures width { result ≡ length (shown self.now) }
+        ensures width { result ≡ length self.now.padding }
         ensures due { IsLength result }
+        ensures fits { used self.now.packets ≤ length self.now.padding }
     {
         self.packed.len()
     }
@@ -91,44 +102,6 @@ impl PackedTelegram {
         ensures { result ≡ version_of self.now }
     {
         Header::read(&self.packed).version()
-    }
-
-    /// The value of occurrence `k`, from 0, of a variable of the packet with this tag, where both are there.
-    /// Takes no memory.
-    pub fn field(&self, tag: PacketTag, var: Var, k: u32) -> Option<u32>
-        ensures { result ≡ field_at tag var k self.now }
-    {
-        let Some(packet) = self.place_of(tag) else {
-            return None;
-        };
-        let version = self.version();
-        let Some(at) = Packet::place_in(&self.packed, packet, version, var, k) else {
-            return None;
-        };
-        Some(self.packed.number(at, var.width()))
-    }
-
-    // Where the packet with this tag stands among the bits.
-    fn place_of(&self, tag: PacketTag) -> Option<usize>
-        ensures { result ≡ packet_place 50 tag self.now.packets }
-    {
-        let version = self.version();
-        let mut at = 50;
-        let mut count = 0;
-        'packets: loop {
-            let number = self.packed.number(at, 8);
-            if number == 255 {
-                return None;
-            }
-            if tag == PacketTag::Base(count) {
-                return Some(at);
-            }
-            let Ok(end) = Packet::check(&self.packed, at, version) else {
-                return None;
-            };
-            at = end;
-            count += 1;
-        }
     }
 }
 

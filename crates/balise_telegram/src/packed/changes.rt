@@ -1,0 +1,119 @@
+//! What is changed in a telegram that is held as its bits: all that keeps its layout. Takes no memory.
+
+ghost use Rattle.std.specs.Prelude.{◌≡◌, ◌⊎◌, ◌<◌, ◌^◌, ℕ, false, Some};
+ghost use Rattle.balise_rules.specs.Variables.{steers, width_of};
+ghost use Rattle.balise_rules.specs.declared.variable.Var.TheVariants.{NPig, NidBg};
+ghost use Rattle.balise_rules.specs.declared.tag.Tag.{Tag};
+ghost use Rattle.balise_layout.specs.Setting.{flipped, renamed, turned};
+ghost use Rattle.balise_telegram.specs.Packed.{place_from};
+ghost use Rattle.balise_telegram.specs.Setting.{with_changed, with_field, with_head, SetsField, SetsHead};
+
+use crate::PacketTag;
+use crate::fault::TelegramFault;
+use crate::header::Header;
+use crate::packed::PackedTelegram;
+use balise_rules::Var;
+
+impl PackedTelegram {
+    /// Sets occurrence `k`, from 0, of a variable of the packet with this tag, and answers the old value.
+    ///
+    /// Refused in this order, and then all stays: `NoSuchPacket`, `NoSuchVariable`, `Steering`, `ValueTooWide`.
+    pub fn set_field(
+        &mut self,
+        tag: PacketTag,
+        var: Var,
+        k: u32,
+        value: u32,
+    ) -> Result<u32, TelegramFault>
+        ensures { SetsField tag var k value self.old result self.new }
+    {
+        let Some(packet) = self.place_of(tag) else {
+            return Err(TelegramFault::NoSuchPacket);
+        };
+        let Some(at) = self.place_in(packet, var, k) else {
+            return Err(TelegramFault::NoSuchVariable);
+        };
+        if var.steers() {
+            return Err(TelegramFault::Steering);
+        }
+        let width = var.width();
+        if value >> width != 0 {
+            return Err(TelegramFault::ValueTooWide);
+        }
+        let old = self.packed.number(at, width);
+        self.put_field(at, var, value);
+        Ok(old)
+    }
+
+    /// Sets M_DUP, M_MCOUNT or Q_LINK of the header and answers the old value.
+    ///
+    /// Refused in this order, and then all stays: `NoSuchVariable`, `Steering`, `ValueTooWide`.
+    pub fn set_head(&mut self, var: Var, value: u32) -> Result<u32, TelegramFault>
+        ensures { SetsHead var value self.old result self.new }
+    {
+        let mut header = Header::read(&self.packed);
+        let old = header.set(var, value)?;
+        header.put_over(&mut self.packed);
+        Ok(old)
+    }
+
+    /// Sets N_PIG, of 3 bits, or NID_BG, of 14, of the header.
+    pub fn put_head(&mut self, var: Var, value: u32)
+        requires var { (var ≡ NPig) ⊎ (var ≡ NidBg) }
+        requires fits { value < 2 ^ width_of var }
+        ensures { self.new ≡ with_head var value self.old }
+    {
+        let mut header = Header::read(&self.packed);
+        header.put(var, value);
+        header.put_over(&mut self.packed);
+    }
+
+    /// Exchanges the directions 0 and 1 in Q_DIR of the packet with this tag, where it stands.
+    pub fn flip_dir(&mut self, tag: PacketTag)
+        ensures { self.new ≡ with_changed tag turned self.old }
+    {
+        let Some(packet) = self.place_of(tag) else {
+            return;
+        };
+        let dir = self.packed.number(packet + 8, 2);
+        if dir < 2 {
+            self.put_field(packet + 8, Var::QDir, 1 - dir);
+        }
+    }
+
+    /// Flips Q_LINKORIENTATION of element `k` of the packet with this tag, where it stands.
+    pub fn flip_link(&mut self, tag: PacketTag, k: u32)
+        ensures { self.new ≡ with_changed tag (flipped k) self.old }
+    {
+        let Some(packet) = self.place_of(tag) else {
+            return;
+        };
+        if let Some(at) = self.place_in(packet, Var::QLinkorientation, k) {
+            let old = self.packed.number(at, 1);
+            self.put_field(at, Var::QLinkorientation, 1 - old);
+        }
+    }
+
+    /// Sets NID_BG, of 14 bits, of element `k` of the packet with this tag, where it stands.
+    pub fn name_link(&mut self, tag: PacketTag, k: u32, number: u32)
+        requires { number < 2 ^ 14 }
+        ensures { self.new ≡ with_changed tag (renamed k number) self.old }
+    {
+        let Some(packet) = self.place_of(tag) else {
+            return;
+        };
+        if let Some(at) = self.place_in(packet, Var::NidBg, k) {
+            self.put_field(at, Var::NidBg, number);
+        }
+    }
+
+    // Puts a value where a field of a packet stands.
+    fn put_field(&mut self, at: usize, var: Var, value: u32)
+        requires stands { (tag : Tag) × (k : ℕ) × (place_from 50 tag (var, k) self.old.packets ≡ Some at) }
+        requires free { steers var ≡ false }
+        requires fits { value < 2 ^ width_of var }
+        ensures { (tag : Tag) (k : ℕ) → place_from 50 tag (var, k) self.old.packets ≡ Some at → self.new ≡ with_field tag var k value self.old }
+    {
+        self.packed.put(at, var.width(), value);
+    }
+}

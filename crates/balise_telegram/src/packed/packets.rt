@@ -1,0 +1,131 @@
+//! What a telegram that is held as its bits tells of its packets. Each call goes over them from the first on.
+
+ghost use Rattle.std.specs.Prelude.{◌≡◌, ◌≤◌, ◌+◌, IfOk, IsOkUnless, drop, length, option_map, slice_get};
+ghost use Rattle.balise_rules.specs.declared.variable.Var.TheVariants.{NidPacket};
+ghost use Rattle.balise_rules.specs.Packet.{read_first, value};
+ghost use Rattle.balise_rules.specs.Tagged.{Distinct};
+ghost use Rattle.balise_rules.specs.Tags.{same_tag};
+ghost use Rattle.balise_rules.specs.Telegram.{room, shown, used, version_of};
+ghost use Rattle.balise_layout.specs.First.{field_place};
+ghost use Rattle.balise_telegram.specs.Packed.{links_at, packet_place};
+ghost use Rattle.balise_telegram.specs.Setting.{field_at};
+
+use crate::PacketTag;
+use crate::fault::TelegramFault;
+use crate::packed::PackedTelegram;
+use balise_layout::Packet;
+use balise_rules::{Id, Var};
+
+impl PackedTelegram {
+    /// How many packets it has. No tag stands twice among them.
+    pub fn count(&self) -> usize
+        ensures count { result ≡ length self.now.packets }
+        ensures tags { Distinct same_tag self.now.packets }
+    {
+        self.end().0
+    }
+
+    /// How many bits header, packets and packet 255 take: 58 and the packets' widths.
+    pub fn used(&self) -> usize
+        ensures { result ≡ used self.now.packets }
+    {
+        self.end().1 + 8
+    }
+
+    /// How many bits of padding it shows, which is the room for further packets.
+    pub fn room(&self) -> usize
+        ensures room { result ≡ room self.now }
+        ensures fits { used self.now.packets ≤ length self.now.padding }
+    {
+        self.width() - self.used()
+    }
+
+    /// The tag and NID_PACKET of the packet at a place, from 0.
+    pub fn packet_at(&self, i: usize) -> Option<(PacketTag, u32)>
+        ensures { result ≡ option_map (λ q. (q.0, value NidPacket 0 q.1.fields)) (slice_get self.now.packets i) }
+    {
+        let Ok(place) = u32::try_from(i) else {
+            return None;
+        };
+        let tag = PacketTag::Base(place);
+        match self.place_of(tag) {
+            Some(at) => Some((tag, self.packed.number(at, 8))),
+            None => None,
+        }
+    }
+
+    /// The value of occurrence `k`, from 0, of a variable of the packet with this tag, where both are there.
+    pub fn field(&self, tag: PacketTag, var: Var, k: u32) -> Option<u32>
+        ensures { result ≡ field_at tag var k self.now }
+    {
+        let Some(packet) = self.place_of(tag) else {
+            return None;
+        };
+        let Some(at) = self.place_in(packet, var, k) else {
+            return None;
+        };
+        Some(self.packed.number(at, var.width()))
+    }
+
+    /// The identities of the elements of the packet with this tag, one each in order, with number 16383 kept: none
+    /// where the packet isn't there.
+    pub fn links(&self, tag: PacketTag) -> Result<Vec<Id>, TelegramFault>
+        ensures ok { IfOk result (λ links. links.items ≡ links_at tag self.now) }
+        ensures fault { IsOkUnless result TelegramFault.OutOfMemory }
+    {
+        let Some(at) = self.place_of(tag) else {
+            return Ok(Vec::new(self.packed.allocator()));
+        };
+        let country = self.head(Var::NidC).unwrap_or(0);
+        let links = Packet::links_in(&self.packed, at, self.version(), country)?;
+        Ok(links)
+    }
+
+    // Where the packet with this tag stands among the bits.
+    pub(super) fn place_of(&self, tag: PacketTag) -> Option<usize>
+        ensures { result ≡ packet_place 50 tag self.now.packets }
+    {
+        let mut at = 50;
+        let mut count = 0;
+        'packets: loop {
+            let number = self.packed.number(at, 8);
+            if number == 255 {
+                return None;
+            }
+            if tag == PacketTag::Base(count) {
+                return Some(at);
+            }
+            // L_PACKET
+            let width = self.packed.number(at + 10, 13);
+            at += width as usize;
+            count += 1;
+        }
+    }
+
+    // Where an occurrence of a variable stands in the packet at a place.
+    pub(super) fn place_in(&self, packet: usize, var: Var, k: u32) -> Option<usize>
+        ensures { result ≡ field_place packet (var, k) (read_first (version_of self.now) (drop packet (shown self.now))) }
+    {
+        Packet::place_in(&self.packed, packet, self.version(), var, k)
+    }
+
+    // How many packets it has, and where packet 255 stands.
+    fn end(&self) -> (usize, usize)
+        ensures count { result.0 ≡ length self.now.packets }
+        ensures place { result.1 + 8 ≡ used self.now.packets }
+        ensures within { result.1 + 8 ≤ length (shown self.now) }
+    {
+        let mut at = 50;
+        let mut count = 0;
+        'packets: loop {
+            let number = self.packed.number(at, 8);
+            if number == 255 {
+                return (count, at);
+            }
+            // L_PACKET
+            let width = self.packed.number(at + 10, 13);
+            at += width as usize;
+            count += 1;
+        }
+    }
+}

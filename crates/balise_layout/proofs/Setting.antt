@@ -20,20 +20,20 @@ use Rattle.balise_layout.proofs.Places.{put_spelling}
 use Rattle.balise_layout.proofs.Walks.{is_fit}
 use Rattle.balise_layout.proofs.First.{spells_holds, holds_spells}
 
--- the fields stay of their form
-pub Matches-with_value : (form : Form) (fs : Fields) (raw : List Bool) (v : Var) (k n : ℕ) → IsSteady steers form → steers v ≡ false → n < 2 ^ width_of v → Matches form fs raw → Matches form (with_value v k n fs) raw
-Matches-with_value done [] raw v k n s free fit m = m
-Matches-with_value done (f ∷ fs) raw v k n s free fit m = absurd m
-Matches-with_value shut [] raw v k n s free fit m = m
-Matches-with_value shut (f ∷ fs) raw v k n s free fit m = absurd m
-Matches-with_value never fs raw v k n s free fit m = absurd m
-Matches-with_value (valued w next) [] raw v k n s free fit m = absurd m
-Matches-with_value (valued w next) (f ∷ fs) raw v k n s free fit m = at (same_key (v, k) f.0) refl (Matches-with_value (next f.1) fs raw v k n (s.1 f.1) free fit m.2)
+-- the fields stay of their form, where the variable isn't one that says what follows
+pub Matches-with_value : (S : Var → Bool) (form : Form) (fs : Fields) (raw : List Bool) (v : Var) (k n : ℕ) → IsSteady S form → S v ≡ false → n < 2 ^ width_of v → Matches form fs raw → Matches form (with_value v k n fs) raw
+Matches-with_value S done [] raw v k n s free fit m = m
+Matches-with_value S done (f ∷ fs) raw v k n s free fit m = absurd m
+Matches-with_value S shut [] raw v k n s free fit m = m
+Matches-with_value S shut (f ∷ fs) raw v k n s free fit m = absurd m
+Matches-with_value S never fs raw v k n s free fit m = absurd m
+Matches-with_value S (valued w next) [] raw v k n s free fit m = absurd m
+Matches-with_value S (valued w next) (f ∷ fs) raw v k n s free fit m = at (same_key (v, k) f.0) refl (Matches-with_value S (next f.1) fs raw v k n (s.1 f.1) free fit m.2)
   where
     at : (b : Bool) → same_key (v, k) f.0 ≡ b → Matches (next f.1) (with_value v k n fs) raw → (f.0.0 ≡ w) × IsTrue (fits (width_of w) (cond b n f.1)) × Matches (next (cond b n f.1)) (with_value v k n fs) raw
     at true is later =
         let v_is : v ≡ w = ap (λ (x : Key). x.0) (key_test.one (v, k) f.0 is) ∙ m.0 in
-        (m.0, is_fit (width_of w) n (subst (λ (x : Var). n < 2 ^ width_of x) v_is fit), subst (λ (x : Form). Matches x (with_value v k n fs) raw) (s.0 (ap steers (sym v_is) ∙ free) f.1 n) later)
+        (m.0, is_fit (width_of w) n (subst (λ (x : Var). n < 2 ^ width_of x) v_is fit), subst (λ (x : Form). Matches x (with_value v k n fs) raw) (s.0 (ap S (sym v_is) ∙ free) f.1 n) later)
     at false is later = (m.0, m.1, later)
 
 -- how often a variable stands hangs on the keys alone
@@ -83,7 +83,7 @@ Holds-with_field next b p v k n s free fit h =
     let steady : IsSteady steers (headed next) = headed_steady next s in
     record {
       spelt = refl;
-      form = Matches-with_value (headed next) p.fields p.rest v k n steady free fit h.form;
+      form = Matches-with_value steers (headed next) p.fields p.rest v k n steady free fit h.form;
       numbered = Numbered-with_value v k n p.fields h.numbered;
       said = value_stays v LPacket k n 0 p.fields free refl ∙ h.said ∙ ap length h.spelt ∙ sym (width-with_field v k n p);
     }

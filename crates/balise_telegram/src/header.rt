@@ -1,6 +1,7 @@
 //! The header of a telegram.
 
-ghost use Rattle.std.specs.Prelude.{◌≡◌, ◌⊎◌, ◌<◌, ◌≤◌, ◌^◌, ◌++◌, [], length, OnErr, OnOk, IsOkUnless};
+ghost use Rattle.std.specs.Prelude.{◌≡◌, ◌⊎◌, ◌<◌, ◌≤◌, ◌^◌, ◌++◌, [], length, take, drop, OnErr, OnOk, IsOkUnless};
+ghost use Rattle.balise_rules.specs.Bits.{bits};
 ghost use Rattle.balise_rules.specs.Forms.{spelling};
 ghost use Rattle.balise_rules.specs.Packet.{field_of, value, with_value};
 ghost use Rattle.balise_rules.specs.Telegram.{is_balise, read_header};
@@ -17,16 +18,16 @@ use std::marker::Model;
 /// M_VERSION 7, Q_MEDIA 1, N_PIG 3, N_TOTAL 3, M_DUP 2, M_MCOUNT 8, NID_C 10, NID_BG 14, Q_LINK 1.
 #[derive(Debug, Drop)]
 pub struct Header {
-    q_updown: u32,
-    m_version: u32,
-    q_media: u32,
-    n_pig: u32,
-    n_total: u32,
-    m_dup: u32,
-    m_mcount: u32,
-    nid_c: u32,
-    nid_bg: u32,
-    q_link: u32,
+    q_updown: u8,
+    m_version: u8,
+    q_media: u8,
+    n_pig: u8,
+    n_total: u8,
+    m_dup: u8,
+    m_mcount: u8,
+    nid_c: u16,
+    nid_bg: u16,
+    q_link: u8,
 }
 
 impl Model for Header {
@@ -47,16 +48,16 @@ impl Header {
         ensures { result ≡ read_header bits.now }
     {
         Header {
-            q_updown: bits.number(0, 1),
-            m_version: bits.number(1, 7),
-            q_media: bits.number(8, 1),
-            n_pig: bits.number(9, 3),
-            n_total: bits.number(12, 3),
-            m_dup: bits.number(15, 2),
-            m_mcount: bits.number(17, 8),
-            nid_c: bits.number(25, 10),
-            nid_bg: bits.number(35, 14),
-            q_link: bits.number(49, 1),
+            q_updown: bits.number(0, 1) as u8,
+            m_version: bits.number(1, 7) as u8,
+            q_media: bits.number(8, 1) as u8,
+            n_pig: bits.number(9, 3) as u8,
+            n_total: bits.number(12, 3) as u8,
+            m_dup: bits.number(15, 2) as u8,
+            m_mcount: bits.number(17, 8) as u8,
+            nid_c: bits.number(25, 10) as u16,
+            nid_bg: bits.number(35, 14) as u16,
+            q_link: bits.number(49, 1) as u8,
         }
     }
 
@@ -65,23 +66,46 @@ impl Header {
         ensures ok { OnOk result (bits.new ≡ bits.old ++ spelling self.now) }
         ensures fault { IsOkUnless result BitsFault.OutOfMemory }
     {
-        bits.push(1, self.q_updown)?;
-        bits.push(7, self.m_version)?;
-        bits.push(1, self.q_media)?;
-        bits.push(3, self.n_pig)?;
-        bits.push(3, self.n_total)?;
-        bits.push(2, self.m_dup)?;
-        bits.push(8, self.m_mcount)?;
-        bits.push(10, self.nid_c)?;
-        bits.push(14, self.nid_bg)?;
-        bits.push(1, self.q_link)
+        bits.push(25, self.front())?;
+        bits.push(25, self.back())
+    }
+
+    /// Puts its 50 bits over the first 50 of others. All other bits stay. Takes no memory.
+    pub(crate) fn put_over(&self, bits: &mut Bits)
+        requires { 50 ≤ length bits.old }
+        ensures { bits.new ≡ spelling self.now ++ drop 50 bits.old }
+    {
+        bits.put(0, 25, self.front());
+        bits.put(25, 25, self.back());
+    }
+
+    // Its first seven fields as one number of 25 bits.
+    fn front(&self) -> u32
+        ensures fits { result < 2 ^ 25 }
+        ensures bits { bits 25 result ≡ take 25 (spelling self.now) }
+    {
+        let front = u32::from(self.q_updown) * 128 + u32::from(self.m_version);
+        let front = front * 2 + u32::from(self.q_media);
+        let front = front * 8 + u32::from(self.n_pig);
+        let front = front * 8 + u32::from(self.n_total);
+        let front = front * 4 + u32::from(self.m_dup);
+        front * 256 + u32::from(self.m_mcount)
+    }
+
+    // Its last three fields as one number of 25 bits.
+    fn back(&self) -> u32
+        ensures fits { result < 2 ^ 25 }
+        ensures bits { bits 25 result ≡ drop 25 (spelling self.now) }
+    {
+        let back = u32::from(self.nid_c) * 16384 + u32::from(self.nid_bg);
+        back * 2 + u32::from(self.q_link)
     }
 
     /// M_VERSION, of 7 bits: the first three are the X of version X.Y, the last four its Y.
     pub fn version(&self) -> u32
         ensures { result ≡ value MVersion 0 self.now }
     {
-        self.m_version
+        u32::from(self.m_version)
     }
 
     /// Whether it is from track to train (Q_UPDOWN is 1), and a balise's (Q_MEDIA is 0).
@@ -96,16 +120,16 @@ impl Header {
         ensures { result ≡ field_of var 0 self.now }
     {
         match var {
-            Var::QUpdown => Some(self.q_updown),
-            Var::MVersion => Some(self.m_version),
-            Var::QMedia => Some(self.q_media),
-            Var::NPig => Some(self.n_pig),
-            Var::NTotal => Some(self.n_total),
-            Var::MDup => Some(self.m_dup),
-            Var::MMcount => Some(self.m_mcount),
-            Var::NidC => Some(self.nid_c),
-            Var::NidBg => Some(self.nid_bg),
-            Var::QLink => Some(self.q_link),
+            Var::QUpdown => Some(u32::from(self.q_updown)),
+            Var::MVersion => Some(u32::from(self.m_version)),
+            Var::QMedia => Some(u32::from(self.q_media)),
+            Var::NPig => Some(u32::from(self.n_pig)),
+            Var::NTotal => Some(u32::from(self.n_total)),
+            Var::MDup => Some(u32::from(self.m_dup)),
+            Var::MMcount => Some(u32::from(self.m_mcount)),
+            Var::NidC => Some(u32::from(self.nid_c)),
+            Var::NidBg => Some(u32::from(self.nid_bg)),
+            Var::QLink => Some(u32::from(self.q_link)),
             _ => None,
         }
     }
@@ -127,9 +151,9 @@ impl Header {
             return Err(TelegramFault::ValueTooWide);
         }
         match var {
-            Var::MDup => self.m_dup = value,
-            Var::MMcount => self.m_mcount = value,
-            _ => self.q_link = value,
+            Var::MDup => self.m_dup = value as u8,
+            Var::MMcount => self.m_mcount = value as u8,
+            _ => self.q_link = value as u8,
         }
         Ok(old)
     }
@@ -141,8 +165,8 @@ impl Header {
         ensures { self.new ≡ with_value var 0 value self.old }
     {
         match var {
-            Var::NPig => self.n_pig = value,
-            _ => self.nid_bg = value,
+            Var::NPig => self.n_pig = value as u8,
+            _ => self.nid_bg = value as u16,
         }
     }
 

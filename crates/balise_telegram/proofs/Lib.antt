@@ -11,3 +11,5 @@ pub mod Placing
 pub mod Shifting
 pub mod Changing
 pub mod PackedPlaces
+pub mod PackedChanges
+pub mod PackedFields

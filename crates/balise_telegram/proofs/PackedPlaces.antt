@@ -2,16 +2,16 @@
 -- From what is shown, one packet after another.
 use Rattle.std.proofs.Common.{◌≡◌, ◌∙◌, ℕ, suc, ◌+◌, ◌-◌, ◌*◌, ◌<◌, ◌≤◌, Bool, true, false, cond, eqb, inl, inr, List, [], ◌∷◌, ◌++◌, length, take, drop, Option, Some, None, option_and_then, Result, Ok, Err, refl, sym, ap, subst, append_assoc, length-append, arith}
 use Rattle.std.specs.Prelude.{All}
-use Rattle.std.proofs.lemmas.List.{drop_at, drop-drop, length-drop, append-nil}
+use Rattle.std.proofs.lemmas.List.{drop_at, drop-drop, length-drop, length-replicate, append-nil}
 use Rattle.std.proofs.lemmas.List.Elements.{All-head, All-tail}
 use Rattle.balise_rules.specs.declared.refusal.Refusal.{Refusal}
 use Rattle.balise_rules.specs.declared.tag.Tag.{Tag}
 use Rattle.balise_rules.specs.declared.tag.Tag.TheVariants.{Base}
 use Rattle.balise_rules.specs.Bits.{num, ones, part}
 use Rattle.balise_rules.specs.Forms.{spelling}
-use Rattle.balise_rules.specs.Packet.{Packet, bits_of, field_of, width, IsSpelt, read_first}
+use Rattle.balise_rules.specs.Packet.{Packet, bits_of, field_of, width, IsSpelt, length_said, read_first}
 use Rattle.balise_rules.specs.Tags.{same_tag}
-use Rattle.balise_rules.specs.Telegram.{Telegram, version_of, used, packets_bits, TaggedFrom, IsLength, IsRead, read_header, read_telegram}
+use Rattle.balise_rules.specs.Telegram.{Telegram, header, version_of, used, packets_bits, TaggedFrom, IsLength, IsRead, read_header, read_telegram}
 use Rattle.balise_rules.specs.declared.variable.Var.{Var}
 use Rattle.balise_rules.specs.Variables.{width_of}
 use Rattle.balise_rules.specs.Packets.{packet}
@@ -21,11 +21,11 @@ use Rattle.balise_layout.specs.First.{field_place}
 use Rattle.balise_layout.specs.Held.{before, further}
 use Rattle.balise_layout.proofs.Places.{standing, missing, field_fits}
 use Rattle.balise_rules.proofs.Cases.{unok, unsome}
-use Rattle.balise_rules.proofs.PacketAgain.{front_of, first_again}
-use Rattle.balise_rules.proofs.TelegramAgain.{header_again}
-use Rattle.balise_rules.proofs.TelegramShown.{telegram_read}
+use Rattle.balise_rules.proofs.PacketAgain.{front_of, first_again, said_again}
+use Rattle.balise_rules.proofs.TelegramAgain.{header_again, fixed_length}
+use Rattle.balise_rules.proofs.TelegramRead.{header_fixed}
+use Rattle.balise_rules.proofs.TelegramShown.{telegram_read, used_is}
 use Rattle.balise_telegram.specs.Packed.{telegram_of, packet_place, IsTelegram}
-use Rattle.balise_telegram.specs.Setting.{field_at}
 use Rattle.balise_telegram.proofs.Tagging.{Packets}
 
 -- these packets stand from a place on, the first of them tagged by n
@@ -49,6 +49,16 @@ long_enough b y r = by r.size
     by : IsLength (length b) → (58 ≤ length b) × (length b ≤ 830)
     by (inl e) = (omega (arith, e), omega (arith, e))
     by (inr e) = (omega (arith, e), omega (arith, e))
+
+-- the padding is as long as the telegram, and what is used lies within
+pub padding_long : (b : List Bool) (y : Telegram) → IsRead b y → (length b ≡ length y.padding) × (used y.packets ≤ length y.padding)
+padding_long b y r =
+    let rest = packets_bits y.packets ++ (ones 8 ++ drop (used y.packets) y.padding) in
+    let fifty = fixed_length header 50 y.head [] header_fixed r.header in
+    let whole : length b ≡ length (spelling y.head) + (length (packets_bits y.packets) + (8 + length (drop (used y.packets) y.padding))) =
+    ap length (sym r.shows) ∙ length-append (spelling y.head) rest ∙ ap (λ (k : ℕ). length (spelling y.head) + k) (length-append (packets_bits y.packets) (ones 8 ++ drop (used y.packets) y.padding) ∙ ap (λ (k : ℕ). length (packets_bits y.packets) + k) (length-append (ones 8) (drop (used y.packets) y.padding))) in
+    let padded : length y.padding ≡ used y.packets + (length b - used y.packets) = ap length r.padding ∙ length-append (ones (used y.packets)) (drop (used y.packets) b) ∙ (let a = length-replicate (used y.packets) true in let d = length-drop (used y.packets) b in omega (arith, a, d)) in
+    let front = used_is y.packets in (omega (arith, whole, padded, front, fifty), omega (arith, padded))
 
 pub head_is : (b : List Bool) (y : Telegram) → IsRead b y → read_header b ≡ y.head
 head_is b y r = (header_again y b (packets_bits y.packets ++ (ones 8 ++ drop (used y.packets) y.padding)) r.header r.numbered (sym r.shows)).0
@@ -141,29 +151,59 @@ found_here b y tag at n number g e still same =
 pub none_left : (b : List Bool) (y : Telegram) (tag : Tag) (at n number : ℕ) (g : Going b y tag at n) → number ≡ num (part at 8 b) → number ≡ 255 → None ≡ packet_place 50 tag y.packets
 none_left b y tag at n number g e is = sym (g.2 ∙ ap (packet_place at tag) (not_end b y at n number g.0 g.1 e is))
 
--- one packet on; it is the one that is read there
-pub goes_on : (b : List Bool) (y : Telegram) (tag : Tag) (at n number end : ℕ) (g : Going b y tag at n) → number ≡ num (part at 8 b) → (number ≡ 255 → ⊥) → same_tag tag (Base n) ≡ false → (found : (p : Packet) × (read_first (version_of y) (drop at b) ≡ Ok (p, drop end b)) × IsSpelt (version_of y) p × (at + width p ≡ end) × (end ≤ length b)) → Going b y tag end (n + 1)
-goes_on b y tag at n number end g e still other found =
+-- L_PACKET of the packet that stands ahead is its width
+pub record Step (b : List Bool) (at : ℕ) : Type 0 where
+  pub width : ℕ
+  pub is : num (part (at + 10) 13 b) ≡ width
+  pub least : 23 ≤ width
+  pub within : at + width + 8 ≤ length b
+
+first_width : (b : List Bool) (y : Telegram) (at n : ℕ) (left : Packets) (f : First b y at n left) → num (part (at + 10) 13 b) ≡ width f.packet.1
+first_width b y at n left f =
+    ap (λ (l : List Bool). num (take 13 l)) (sym (drop-drop 10 at b)) ∙ ap length_said f.bits ∙ said_again (version_of y) f.packet.1 (packets_bits f.more ++ (ones 8 ++ drop (used y.packets) y.padding)) f.spelt
+
+pub step : (b : List Bool) (y : Telegram) (at n number : ℕ) (left : Packets) → Ahead b y at n left → number ≡ num (part at 8 b) → (number ≡ 255 → ⊥) → Step b at
+step b y at n number left a e still =
+    let f = first_ahead b y at n number left a e still in
+    let far = step_on b y at n (at + width f.packet.1) f.packet f.more (subst (Ahead b y at n) f.is a) refl in
+    record {
+      width = width f.packet.1;
+      is = first_width b y at n left f;
+      least = (front_of (version_of y) f.packet.1 f.spelt).least;
+      within = far.within;
+    }
+
+-- the packets behind the first
+pub behind_first : (b : List Bool) (y : Telegram) (at n number size : ℕ) (left : Packets) (a : Ahead b y at n left) (e : number ≡ num (part at 8 b)) (still : number ≡ 255 → ⊥) → size ≡ num (part (at + 10) 13 b) → Ahead b y (at + size) (n + 1) (first_ahead b y at n number left a e still).more
+behind_first b y at n number size left a e still is =
+    let f = first_ahead b y at n number left a e still in
+    let same : size ≡ width f.packet.1 = is ∙ first_width b y at n left f in
+    step_on b y at n (at + size) f.packet f.more (subst (Ahead b y at n) f.is a) (ap (λ (k : ℕ). at + k) (sym same))
+
+-- one packet on
+pub goes_on : (b : List Bool) (y : Telegram) (tag : Tag) (at n number size : ℕ) (g : Going b y tag at n) → number ≡ num (part at 8 b) → (number ≡ 255 → ⊥) → same_tag tag (Base n) ≡ false → size ≡ num (part (at + 10) 13 b) → Going b y tag (at + size) (n + 1)
+goes_on b y tag at n number size g e still other is =
     let f = first_ahead b y at n number g.0 g.1 e still in
-    let same : f.packet.1 ≡ found.0 = ap (λ (r : Packet × List Bool). r.0) (unok (sym (first_reads b y at n g.0 f) ∙ found.1)) in
-    let far : at + width f.packet.1 ≡ end = ap (λ (p : Packet). at + width p) same ∙ found.3 in
+    let far : at + width f.packet.1 ≡ at + size = ap (λ (k : ℕ). at + k) (sym (is ∙ first_width b y at n g.0 f)) in
     let past : same_tag tag f.packet.0 ≡ false = ap (same_tag tag) f.tag ∙ other in (
       f.more,
-      step_on b y at n end f.packet f.more (subst (Ahead b y at n) f.is g.1) far,
+      behind_first b y at n number size g.0 g.1 e still is,
       g.2 ∙ ap (packet_place at tag) f.is ∙ ap (λ (c : Bool). cond c (Some at) (packet_place (at + width f.packet.1) tag f.more)) past ∙ ap (λ (k : ℕ). packet_place k tag f.more) far,
     )
 
-abbrev good : Packet × List Bool → Result (Packet × List Bool) Refusal
-good x = Ok x
+-- some packets are ahead
+abbrev pub SomeAhead : List Bool → Telegram → ℕ → ℕ → Type 0
+SomeAhead b y at n = (left : Packets) × Ahead b y at n left
 
--- a packet that stands there is read
-pub not_refused : (b : List Bool) (y : Telegram) (tag : Tag) (at n number : ℕ) (r : Refusal) (g : Going b y tag at n) → number ≡ num (part at 8 b) → (number ≡ 255 → ⊥) → read_first (version_of y) (drop at b) ≡ Err r → ⊥
-not_refused b y tag at n number r g e still refused =
-    let f = first_ahead b y at n number g.0 g.1 e still in
-    differ (f.packet.1, packets_bits f.more ++ (ones 8 ++ drop (used y.packets) y.padding)) r (sym (first_reads b y at n g.0 f) ∙ refused)
-  where
-    differ : (x : Packet × List Bool) (r : Refusal) → good x ≡ Err r → ⊥
-    differ x r k = cc
+pub ahead_on : (b : List Bool) (y : Telegram) (at n number size : ℕ) (g : SomeAhead b y at n) → number ≡ num (part at 8 b) → (number ≡ 255 → ⊥) → size ≡ num (part (at + 10) 13 b) → SomeAhead b y (at + size) (n + 1)
+ahead_on b y at n number size g e still is = ((first_ahead b y at n number g.0 g.1 e still).more, behind_first b y at n number size g.0 g.1 e still is)
+
+-- at packet 255 all packets are counted, and all but its 8 bits
+pub all_passed : (b : List Bool) (y : Telegram) (at n number : ℕ) (g : SomeAhead b y at n) → number ≡ num (part at 8 b) → number ≡ 255 → (n ≡ length y.packets) × (at + 8 ≡ used y.packets)
+all_passed b y at n number g e is =
+    let gone = not_end b y at n number g.0 g.1 e is in
+    let a : Ahead b y at n [] = subst (Ahead b y at n) gone g.1 in
+    (omega (arith, a.counted), omega (arith, a.takes))
 
 -- the packet with a tag, and that its bits stand at a place
 pub record Located (b : List Bool) (y : Telegram) (tag : Tag) (ps : Packets) (place : ℕ) : Type 0 where
@@ -227,19 +267,6 @@ field_stands b y tag ps place v k at l e within = by (before (v, k) l.packet.fie
 pub place_found : (b : List Bool) (y : Telegram) (tag : Tag) (ps : Packets) (place : ℕ) (v : Var) (k : ℕ) (l : Located b y tag ps place) → field_place place (v, k) (read_first (version_of y) (drop place b)) ≡ further place (before (v, k) l.packet.fields)
 place_found b y tag ps place v k l = ap (field_place place (v, k)) (ap (read_first (version_of y)) l.shows ∙ first_again (version_of y) l.packet l.behind l.spelt)
 
-pub field_missing : (v : Var) (k place : ℕ) (p : Packet) → None ≡ further place (before (v, k) p.fields) → field_of v k p.fields ≡ None
-field_missing v k place p e = missing v k p.fields (by (before (v, k) p.fields) e)
-  where
-    by : (o : Option ℕ) → None ≡ further place o → o ≡ None
-    by None h = refl
-    by (Some d) h = absurd cc
-
--- where the code finds a field of the packet with a tag, it stands
-pub field_found : (b : List Bool) (y : Telegram) (tag : Tag) (v : Var) (k version place at : ℕ) → IsRead b y → version ≡ version_of y → Some place ≡ packet_place 50 tag y.packets → Some at ≡ field_place place (v, k) (read_first version (drop place b)) → (at + width_of v ≤ length b) × (field_at tag v k y ≡ Some (num (part at (width_of v) b)))
-field_found b y tag v k version place at r e is found =
-    let l = located b y tag 50 0 place y.packets (all_ahead b y r (long_enough b y r).0) (sym is) in
-    let same : Some at ≡ further place (before (v, k) l.packet.fields) = found ∙ ap (λ (n : ℕ). field_place place (v, k) (read_first n (drop place b))) e ∙ place_found b y tag y.packets place v k l in
-    let least = (front_of (version_of y) l.packet l.spelt).least in
-    let within : place ≤ length b = omega (arith, ap length l.shows, length-append (bits_of l.packet) l.behind, least, length-drop place b) in
-    let s = field_stands b y tag y.packets place v k at l same within in
-    (s.within, ap (option_and_then (λ (x : Packet). field_of v k x.fields)) l.is ∙ s.is)
+pub further_none : (w : ℕ) (o : Option ℕ) → further w o ≡ None → o ≡ None
+further_none w None h = refl
+further_none w (Some d) h = absurd cc

@@ -34,7 +34,7 @@ pub no_packet : (tag : Tag) (v : Var) (k n : ℕ) (y : Telegram) → find same_t
 no_packet tag v k n y e = ap (λ (o : Option Packet). first_of (when (is_none o) NoSuchPacket ∷ when (is_none (option_and_then (λ (x : Packet). field_of v k x.fields) o)) NoSuchVariable ∷ when (steers v) Steering ∷ too_wide v n ∷ [])) e
 
 -- where the packet is found, the telegram refuses what the packet refuses
-refused_as : (tag : Tag) (v : Var) (k n : ℕ) (y : Telegram) (p : Packet) → find same_tag tag y.packets ≡ Some p → field_refusal tag v k n y ≡ set_refusal v k n p
+pub refused_as : (tag : Tag) (v : Var) (k n : ℕ) (y : Telegram) (p : Packet) → find same_tag tag y.packets ≡ Some p → field_refusal tag v k n y ≡ set_refusal v k n p
 unfolding set_refusal
 refused_as tag v k n y p e = ap (λ (o : Option Packet). first_of (when (is_none o) NoSuchPacket ∷ when (is_none (option_and_then (λ (x : Packet). field_of v k x.fields) o)) NoSuchVariable ∷ when (steers v) Steering ∷ too_wide v n ∷ [])) e
 
@@ -72,7 +72,7 @@ field_not_set head ps padding y tag v k n i x fault new r view s h e =
     let one : SetsField tag v k n y (Err (of_layout fault)) now = subst (λ (z : Telegram). SetsField tag v k n z (Err (of_layout fault)) now) view (field_not_set_here head ps padding tag v k n i x fault new s h) in
     subst (λ (q : Result ℕ TelegramFault). SetsField tag v k n y q now) (sym (error_is r (of_layout fault) e)) one
 
-as_wide : (tag : Tag) (v : Var) (k n : ℕ) (q : Tag) (x : Packet) → width (with_packet tag (with_packet_field v k n) q x) ≡ width x
+pub as_wide : (tag : Tag) (v : Var) (k n : ℕ) (q : Tag) (x : Packet) → width (with_packet tag (with_packet_field v k n) q x) ≡ width x
 as_wide tag v k n q x = split_on (same_tag tag q) (λ e. simp e (width-with_field v k n x)) (λ e. simp e)
 
 -- the telegram keeps what it keeps

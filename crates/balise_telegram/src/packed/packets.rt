@@ -1,13 +1,13 @@
 //! What a telegram that is held as its bits tells of its packets. Each call goes over them from the first on.
 
-ghost use Rattle.std.specs.Prelude.{◌≡◌, ◌≤◌, ◌+◌, IfOk, IsOkUnless, drop, length, option_map, slice_get};
+ghost use Rattle.std.specs.Prelude.{◌≡◌, ◌≤◌, ◌+◌, IfOk, IsOkUnless, Some, length, option_map, slice_get};
 ghost use Rattle.balise_rules.specs.declared.variable.Var.TheVariants.{NidPacket};
-ghost use Rattle.balise_rules.specs.Packet.{read_first, value};
+ghost use Rattle.balise_rules.specs.declared.tag.Tag.{Tag};
+ghost use Rattle.balise_rules.specs.Packet.{value};
 ghost use Rattle.balise_rules.specs.Tagged.{Distinct};
 ghost use Rattle.balise_rules.specs.Tags.{same_tag};
-ghost use Rattle.balise_rules.specs.Telegram.{room, shown, used, version_of};
-ghost use Rattle.balise_layout.specs.First.{field_place};
-ghost use Rattle.balise_telegram.specs.Packed.{links_at, packet_place};
+ghost use Rattle.balise_rules.specs.Telegram.{room, used};
+ghost use Rattle.balise_telegram.specs.Packed.{links_at, packet_place, place_from};
 ghost use Rattle.balise_telegram.specs.Setting.{field_at};
 
 use crate::PacketTag;
@@ -44,12 +44,13 @@ impl PackedTelegram {
     pub fn packet_at(&self, i: usize) -> Option<(PacketTag, u32)>
         ensures { result ≡ option_map (λ q. (q.0, value NidPacket 0 q.1.fields)) (slice_get self.now.packets i) }
     {
+        let bits = &self.packed;
         let Ok(place) = u32::try_from(i) else {
             return None;
         };
         let tag = PacketTag::Base(place);
         match self.place_of(tag) {
-            Some(at) => Some((tag, self.packed.number(at, 8))),
+            Some(at) => Some((tag, bits.number(at, 8))),
             None => None,
         }
     }
@@ -83,7 +84,8 @@ impl PackedTelegram {
 
     // Where the packet with this tag stands among the bits.
     pub(super) fn place_of(&self, tag: PacketTag) -> Option<usize>
-        ensures { result ≡ packet_place 50 tag self.now.packets }
+        ensures place { result ≡ packet_place 50 tag self.now.packets }
+        ensures tags { Distinct same_tag self.now.packets }
     {
         let mut at = 50;
         let mut count = 0;
@@ -102,9 +104,9 @@ impl PackedTelegram {
         }
     }
 
-    // Where an occurrence of a variable stands in the packet at a place.
+    // Where an occurrence of a variable of the packet at a place stands among the bits.
     pub(super) fn place_in(&self, packet: usize, var: Var, k: u32) -> Option<usize>
-        ensures { result ≡ field_place packet (var, k) (read_first (version_of self.now) (drop packet (shown self.now))) }
+        ensures { (tag : Tag) → packet_place 50 tag self.now.packets ≡ Some packet → result ≡ place_from 50 tag (var, k) self.now.packets }
     {
         Packet::place_in(&self.packed, packet, self.version(), var, k)
     }
@@ -113,7 +115,8 @@ impl PackedTelegram {
     fn end(&self) -> (usize, usize)
         ensures count { result.0 ≡ length self.now.packets }
         ensures place { result.1 + 8 ≡ used self.now.packets }
-        ensures within { result.1 + 8 ≤ length (shown self.now) }
+        ensures most { result.1 + 8 ≤ 830 }
+        ensures tags { Distinct same_tag self.now.packets }
     {
         let mut at = 50;
         let mut count = 0;

@@ -1,11 +1,10 @@
-use Rattle.std.proofs.Common.{◌≡◌, ◌∙◌, ◌≤◌, ◌+◌, ℕ, Bool, List, Some, None, Ok, Err, length, drop, refl, ap, sym, subst, arith}
-use Rattle.balise_rules.specs.Packet.{Packet, width, IsSpelt, read_first}
-use Rattle.balise_rules.specs.Telegram.{Telegram, read_telegram, version_of}
-use Rattle.balise_rules.proofs.PacketAgain.{front_of}
+use Rattle.std.proofs.Common.{◌≡◌, ◌∙◌, ◌≤◌, ◌+◌, ℕ, Bool, List, Some, None, length, refl, ap, sym, subst, arith}
+use Rattle.balise_rules.specs.Telegram.{Telegram, read_telegram}
+use Rattle.balise_rules.specs.Tagged.{Distinct}
+use Rattle.balise_rules.specs.Tags.{same_tag}
 use Rattle.balise_telegram.specs.Packed.{telegram_of, packet_place}
-use Rattle.balise_layout.specs.First.{StandsAt}
-use Rattle.balise_layout.specs.Faults.{refusal_of}
-use Rattle.balise_telegram.proofs.PackedPlaces.{held_read, long_enough, all_ahead, found_here, none_left, goes_on, not_refused}
+use Rattle.balise_telegram.proofs.PackedPlaces.{held_read, long_enough, all_ahead, found_here, none_left, goes_on, step, Step}
+use Rattle.balise_telegram.proofs.PackedFields.{tags_differ}
 use Rattle.balise_telegram.proofs.packed.PackedTelegram.place_of.Goals as goal
 
 pub packets-init : goal.packets-init
@@ -15,24 +14,27 @@ packets-init c =
     let r = held_read b c.self.invariant in
     (y.packets, all_ahead b y r (long_enough b y r).0, refl)
 
-pub returns-then-number-eq255 : goal.returns-then-number-eq255
-returns-then-number-eq255 c =
+pub returns-then-number-eq255-clause-place : goal.returns-then-number-eq255-clause-place
+returns-then-number-eq255-clause-place c =
     let b = c.self.inside.packed in
     none_left b (telegram_of (read_telegram b)) c.args.tag c.packets.at c.packets.count c.number-number.result c.packets.invariant c.number-number.ensures c.if-number-eq255.true
     ∙ ap (λ (y : Telegram). packet_place 50 c.args.tag y.packets) c.self.view_is
 
-pub returns-then-eq : goal.returns-then-eq
-returns-then-eq c =
+pub returns-then-number-eq255-clause-tags : goal.returns-then-number-eq255-clause-tags
+returns-then-number-eq255-clause-tags c =
+    let b = c.self.inside.packed in
+    subst (λ (y : Telegram). Distinct same_tag y.packets) c.self.view_is (tags_differ b (telegram_of (read_telegram b)) (held_read b c.self.invariant))
+
+pub returns-then-eq-clause-place : goal.returns-then-eq-clause-place
+returns-then-eq-clause-place c =
     let b = c.self.inside.packed in
     found_here b (telegram_of (read_telegram b)) c.args.tag c.packets.at c.packets.count c.number-number.result c.packets.invariant c.number-number.ensures c.if-number-eq255.false (sym c.eq.ensures ∙ c.if-eq.true)
     ∙ ap (λ (y : Telegram). packet_place 50 c.args.tag y.packets) c.self.view_is
 
-pub returns-in_default : goal.returns-in_default
-returns-in_default c =
+pub returns-then-eq-clause-tags : goal.returns-then-eq-clause-tags
+returns-then-eq-clause-tags c =
     let b = c.self.inside.packed in
-    let y = telegram_of (read_telegram b) in
-    let version : c.version-version.result ≡ version_of y = c.version-version.ensures ∙ sym (ap version_of c.self.view_is) in
-    absurd (not_refused b y c.args.tag c.packets.at c.packets.count c.number-number.result (refusal_of c.in_default.field-0) c.packets.invariant c.number-number.ensures c.if-number-eq255.false (ap (λ (v : ℕ). read_first v (drop c.packets.at b)) (sym version) ∙ c.in_default.ensures.stands))
+    subst (λ (y : Telegram). Distinct same_tag y.packets) c.self.view_is (tags_differ b (telegram_of (read_telegram b)) (held_read b c.self.invariant))
 
 pub overflow_add-count : goal.overflow_add-count
 overflow_add-count c =
@@ -40,19 +42,28 @@ overflow_add-count c =
     let a = c.packets.invariant.1 in
     let most = (long_enough b (telegram_of (read_telegram b)) (held_read b c.self.invariant)).1 in omega (arith, a.few, a.within, most)
 
-stood : (c : goal.In-Ok) → StandsAt (version_of (telegram_of (read_telegram c.self.inside.packed))) c.self.inside.packed c.packets.at (Ok c.in-Ok.end)
-stood c =
-    let y = telegram_of (read_telegram c.self.inside.packed) in
-    let version : c.version-version.result ≡ version_of y = c.version-version.ensures ∙ sym (ap version_of c.self.view_is) in
-    subst (λ (v : ℕ). StandsAt v c.self.inside.packed c.packets.at (Ok c.in-Ok.end)) version c.in-Ok.ensures.stands
+steps : (c : goal.Else-eq) → Step c.self.inside.packed c.packets.at
+steps c =
+    let b = c.self.inside.packed in
+    let g = c.packets.invariant in
+    step b (telegram_of (read_telegram b)) c.packets.at c.packets.count c.number-number.result g.0 g.1 c.number-number.ensures c.if-number-eq255.false
+
+most : (c : goal.Else-eq) → length c.self.inside.packed ≤ 830
+most c = let b = c.self.inside.packed in (long_enough b (telegram_of (read_telegram b)) (held_read b c.self.invariant)).1
+
+pub overflow_add-at : goal.overflow_add-at
+overflow_add-at c = let s = steps c in omega (arith, s.within, most c)
+
+pub number-width-requires-clause-within : goal.number-width-requires-clause-within
+number-width-requires-clause-within c = let s = steps c in omega (arith, s.within, s.least)
+
+pub overflow_add-at-in-packets : goal.overflow_add-at-in-packets
+overflow_add-at-in-packets c = let s = steps c in omega (arith, s.within, s.is, c.number-width.ensures, most c)
 
 pub packets-smaller : goal.packets-smaller
-packets-smaller c =
-    let f = c.in-Ok.ensures.stands in
-    let a = c.packets.invariant.1 in
-    let w = (front_of c.version-version.result f.0 f.2).least in omega (arith, f.3, f.4, a.within, w)
+packets-smaller c = let s = steps c in omega (arith, s.within, s.is, s.least, c.number-width.ensures)
 
 pub packets-preserved : goal.packets-preserved
 packets-preserved c =
     let b = c.self.inside.packed in
-    goes_on b (telegram_of (read_telegram b)) c.args.tag c.packets.at c.packets.count c.number-number.result c.in-Ok.end c.packets.invariant c.number-number.ensures c.if-number-eq255.false (sym c.eq.ensures ∙ c.if-eq.false) (stood c)
+    goes_on b (telegram_of (read_telegram b)) c.args.tag c.packets.at c.packets.count c.number-number.result c.number-width.result c.packets.invariant c.number-number.ensures c.if-number-eq255.false (sym c.eq.ensures ∙ c.if-eq.false) c.number-width.ensures

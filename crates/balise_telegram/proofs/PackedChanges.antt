@@ -1,0 +1,200 @@
+-- Another value put where a field of a packet stands, in a telegram that is held as its bits.
+-- From what is put over the spelling of one packet, with all that stands behind it as it is.
+use Rattle.std.proofs.Common.{◌≡◌, ◌∙◌, ℕ, ◌+◌, ◌^◌, ◌<◌, Bool, true, false, cond, List, [], ◌∷◌, ◌++◌, length, drop, Option, Some, None, Ok, refl, sym, ap, subst, append_assoc, length-append, arith}
+use Rattle.std.specs.Prelude.{All}
+use Rattle.std.proofs.lemmas.List.Elements.{All-head, All-tail}
+use Rattle.balise_rules.specs.declared.tag.Tag.{Tag}
+use Rattle.balise_rules.specs.declared.variable.Var.{Var}
+use Rattle.balise_rules.specs.Variables.{width_of, steers}
+use Rattle.balise_rules.specs.Bits.{bits, ones, put_at}
+use Rattle.balise_rules.specs.Forms.{Matches, Numbered, spelling}
+use Rattle.balise_rules.specs.Tagged.{find, each, Distinct}
+use Rattle.balise_rules.specs.Tags.{Key, same_key, same_tag}
+use Rattle.balise_rules.specs.Packet.{Packet, bits_of, width, with_value, IsSpelt}
+use Rattle.balise_rules.specs.Telegram.{Telegram, header, is_balise, packets_bits, read_telegram, shown, used, version_of, IsLength, IsRead, TaggedFrom}
+use Rattle.balise_rules.proofs.AllItems.{all-each}
+use Rattle.balise_rules.proofs.Cases.{unsome}
+use Rattle.balise_rules.proofs.Each.{each-absent}
+use Rattle.balise_rules.proofs.Found.{fields_distinct}
+use Rattle.balise_rules.proofs.TaggedFrom.{tagged_distinct, tagged_each}
+use Rattle.balise_rules.proofs.TelegramAgain.{fixed_length, padding_shown, telegram_again}
+use Rattle.balise_rules.proofs.TelegramRead.{header_fixed}
+use Rattle.balise_rules.proofs.TelegramShown.{used_is}
+use Rattle.balise_rules.proofs.Tests.{split_on, tag_test}
+use Rattle.balise_rules.proofs.Used.{used-each}
+use Rattle.balise_layout.specs.Held.{before, further, with_field as with_packet_field}
+use Rattle.balise_layout.proofs.Places.{further_is, put_further, put_spelling}
+use Rattle.balise_layout.proofs.Setting.{IsSpelt-with_field}
+use Rattle.balise_telegram.specs.Packed.{packet_place, place_from, telegram_of, IsTelegram}
+use Rattle.balise_telegram.specs.Setting.{with_changed, with_field}
+use Rattle.balise_telegram.proofs.Settings.{as_wide, telegram}
+use Rattle.balise_telegram.proofs.Tagging.{Packets, with_packet}
+
+-- where a field of the packet that was found stands
+pub further_place : (tag : Tag) (key : Key) (at place : ℕ) (ps : Packets) (p : Packet) → packet_place at tag ps ≡ Some place → find same_tag tag ps ≡ Some p → place_from at tag key ps ≡ further place (before key p.fields)
+further_place tag key at place [] p e f = absurd cc
+further_place tag key at place (x ∷ xs) p e f = by (same_tag tag x.0) e f (further_place tag key (at + width x.1) place xs p)
+  where
+    by : (c : Bool) → cond c (Some at) (packet_place (at + width x.1) tag xs) ≡ Some place → cond c (Some x.1) (find same_tag tag xs) ≡ Some p → (packet_place (at + width x.1) tag xs ≡ Some place → find same_tag tag xs ≡ Some p → place_from (at + width x.1) tag key xs ≡ further place (before key p.fields)) → cond c (further at (before key x.1.fields)) (place_from (at + width x.1) tag key xs) ≡ further place (before key p.fields)
+    by true e f later = ap (λ (q : Packet). further at (before key q.fields)) (unsome f) ∙ ap (λ (k : ℕ). further k (before key p.fields)) (unsome e)
+    by false e f later = later e f
+
+-- the packets with another value in one of them
+abbrev pub set_in : Tag → Var → ℕ → ℕ → Packets → Packets
+set_in tag v k n ps = each (with_packet tag (with_packet_field v k n)) ps
+
+-- a value put among the bits of packets, where a field of one of them stands
+pub record Puts (tag : Tag) (v : Var) (k n at place : ℕ) (ps : Packets) (raw : List Bool) : Type 0 where
+  pub from : ℕ
+  pub far : place ≡ at + from
+  pub put : put_at from (bits (width_of v) n) (packets_bits ps ++ raw) ≡ packets_bits (set_in tag v k n ps) ++ raw
+
+pub put_packets : (version : ℕ) (tag : Tag) (v : Var) (k n at place : ℕ) (ps : Packets) (raw : List Bool) → Distinct same_tag ps → All (λ p. IsSpelt version p.1) ps → place_from at tag (v, k) ps ≡ Some place → Puts tag v k n at place ps raw
+put_packets version tag v k n at place [] raw dist a e = absurd cc
+put_packets version tag v k n at place (x ∷ xs) raw dist a e = by (same_tag tag x.0) refl e (put_packets version tag v k n (at + width x.1) place xs raw dist.1 (All-tail (λ (q : Tag × Packet). IsSpelt version q.1) x xs a))
+  where
+    new : List Bool
+    new = bits (width_of v) n
+
+    spelt : IsSpelt version x.1
+    spelt = All-head (λ (q : Tag × Packet). IsSpelt version q.1) x xs a
+
+    by : (c : Bool) → same_tag tag x.0 ≡ c → cond c (further at (before (v, k) x.1.fields)) (place_from (at + width x.1) tag (v, k) xs) ≡ Some place → (place_from (at + width x.1) tag (v, k) xs ≡ Some place → Puts tag v k n (at + width x.1) place xs raw) → Puts tag v k n at place (x ∷ xs) raw
+    by true same h later =
+        let f = further_is at (before (v, k) x.1.fields) place h in
+        let y = with_packet_field v k n x.1 in
+        let behind = packets_bits xs ++ raw in
+        let gone : find same_tag tag xs ≡ None = ap (λ (t : Tag). find same_tag t xs) (tag_test.one tag x.0 same) ∙ dist.0 in
+        let others : set_in tag v k n xs ≡ xs = each-absent same_tag tag (with_packet_field v k n) xs gone in
+        let one : with_packet tag (with_packet_field v k n) x.0 x.1 ≡ y = ap (λ (c : Bool). cond c y x.1) same in
+        let whole : (bits_of x.1 ++ packets_bits xs) ++ raw ≡ spelling x.1.fields ++ (x.1.rest ++ behind) = append_assoc (bits_of x.1) (packets_bits xs) raw ∙ append_assoc (spelling x.1.fields) x.1.rest behind in
+        let again : spelling y.fields ++ (x.1.rest ++ behind) ≡ (bits_of y ++ packets_bits xs) ++ raw = sym (append_assoc (spelling y.fields) x.1.rest behind) ∙ sym (append_assoc (bits_of y) (packets_bits xs) raw) in
+        record {
+          from = f.from;
+          far = f.sum;
+          put = ap (put_at f.from new) whole ∙ put_spelling v k n x.1.fields (x.1.rest ++ behind) f.from (fields_distinct version x.1 spelt) f.is ∙ again
+          ∙ ap (λ (q : Packet). (bits_of q ++ packets_bits xs) ++ raw) (sym one)
+          ∙ ap (λ (l : Packets). (bits_of (with_packet tag (with_packet_field v k n) x.0 x.1) ++ packets_bits l) ++ raw) (sym others);
+        }
+    by false same h later =
+        let l = later h in
+        let behind = packets_bits xs ++ raw in
+        let one : with_packet tag (with_packet_field v k n) x.0 x.1 ≡ x.1 = ap (λ (c : Bool). cond c (with_packet_field v k n x.1) x.1) same in
+        record {
+          from = width x.1 + l.from;
+          far = omega (arith, l.far);
+          put = ap (put_at (width x.1 + l.from) new) (append_assoc (bits_of x.1) (packets_bits xs) raw) ∙ put_further (bits_of x.1) behind new l.from
+          ∙ ap (λ (b : List Bool). bits_of x.1 ++ b) l.put ∙ sym (append_assoc (bits_of x.1) (packets_bits (set_in tag v k n xs)) raw)
+          ∙ ap (λ (q : Packet). (bits_of q ++ packets_bits (set_in tag v k n xs)) ++ raw) (sym one);
+        }
+
+-- bits that a telegram shows, which is in order, are that telegram's
+pub record InOrder (y : Telegram) : Type 0 where
+  pub header : Matches header y.head []
+  pub numbered : Numbered y.head
+  pub balise : is_balise y.head ≡ true
+  pub tags : TaggedFrom 0 y.packets
+  pub packets : All (λ p. IsSpelt (version_of y) p.1) y.packets
+  pub padding : y.padding ≡ ones (used y.packets) ++ drop (used y.packets) y.padding
+
+pub in_order : (b : List Bool) (y : Telegram) → IsRead b y → InOrder y
+in_order b y r = record {
+  header = r.header;
+  numbered = r.numbered;
+  balise = r.balise;
+  tags = r.tags;
+  packets = r.packets;
+  padding = r.padding ∙ ap (λ (l : List Bool). ones (used y.packets) ++ drop (used y.packets) l) (sym r.shows) ∙ ap (λ (l : List Bool). ones (used y.packets) ++ l) (padding_shown y r.header);
+}
+
+pub order_read : (b : List Bool) (y : Telegram) → b ≡ shown y → IsLength (length b) → InOrder y → IsRead b y
+order_read b y e size o = record {
+  size = size;
+  header = o.header;
+  numbered = o.numbered;
+  balise = o.balise;
+  tags = o.tags;
+  packets = o.packets;
+  shows = sym e;
+  padding = o.padding ∙ ap (λ (l : List Bool). ones (used y.packets) ++ l) (sym (padding_shown y o.header) ∙ ap (drop (used y.packets)) (sym e));
+}
+
+-- what is held then, and what it is seen as
+pub held_again : (b : List Bool) (y : Telegram) → IsRead b y → IsTelegram b × (telegram_of (read_telegram b) ≡ y)
+held_again b y r = let e = telegram_again b y r in let is : telegram_of (read_telegram b) ≡ y = ap telegram_of e in (e ∙ ap Ok (sym is), is)
+
+-- as many bits as before
+same_size : (y z : Telegram) → length (spelling y.head) ≡ length (spelling z.head) → used y.packets ≡ used z.packets → y.padding ≡ z.padding → length (shown y) ≡ length (shown z)
+same_size y z h u p =
+    let a = drop (used y.packets) y.padding in
+    let b = drop (used z.packets) z.padding in
+    let same : length a ≡ length b = ap (λ (k : ℕ). length (drop k y.padding)) u ∙ ap (λ (l : List Bool). length (drop (used z.packets) l)) p in
+    let one = length-append (spelling y.head) (packets_bits y.packets ++ (ones 8 ++ a)) in
+    let two = length-append (packets_bits y.packets) (ones 8 ++ a) in
+    let three = length-append (ones 8) a in
+    let one' = length-append (spelling z.head) (packets_bits z.packets ++ (ones 8 ++ b)) in
+    let two' = length-append (packets_bits z.packets) (ones 8 ++ b) in
+    let three' = length-append (ones 8) b in
+    let f = used_is y.packets in
+    let g = used_is z.packets in omega (arith, h, u, same, one, two, three, one', two', three', f, g)
+
+pub set_read : (b : List Bool) (y : Telegram) (tag : Tag) (v : Var) (k n place : ℕ) → IsRead b y → place_from 50 tag (v, k) y.packets ≡ Some place → steers v ≡ false → n < 2 ^ width_of v → IsRead (put_at place (bits (width_of v) n) b) (with_field tag v k n y)
+set_read b y tag v k n place r e free fit =
+    let z = with_field tag v k n y in
+    let new = bits (width_of v) n in
+    let g = with_packet tag (with_packet_field v k n) in
+    let raw = ones 8 ++ drop (used y.packets) y.padding in
+    let wide : used z.packets ≡ used y.packets = used-each g (as_wide tag v k n) y.packets in
+    let fifty = fixed_length header 50 y.head [] header_fixed r.header in
+    let p = put_packets (version_of y) tag v k n 50 place y.packets raw (tagged_distinct 0 y.packets r.tags) r.packets e in
+    let far : place ≡ length (spelling y.head) + p.from = p.far ∙ ap (λ (j : ℕ). j + p.from) (sym fifty) in
+    let shows : put_at place new b ≡ shown z =
+    ap (put_at place new) (sym r.shows) ∙ ap (λ (j : ℕ). put_at j new (shown y)) far ∙ put_further (spelling y.head) (packets_bits y.packets ++ raw) new p.from ∙ ap (λ (l : List Bool). spelling y.head ++ l) p.put
+    ∙ ap (λ (j : ℕ). spelling y.head ++ (packets_bits z.packets ++ (ones 8 ++ drop j y.padding))) (sym wide) in
+    let long : length (put_at place new b) ≡ length b = ap length shows ∙ same_size z y refl wide refl ∙ ap length r.shows in
+    let o = in_order b y r in
+    order_read (put_at place new b) z shows (subst IsLength (sym long) r.size) (record {
+      header = o.header;
+      numbered = o.numbered;
+      balise = o.balise;
+      tags = tagged_each 0 g y.packets o.tags;
+      packets = all-each (IsSpelt (version_of y)) (IsSpelt (version_of y)) g (λ q x s. split_on (same_tag tag q) (λ d. simp d (IsSpelt-with_field (version_of y) x v k n free fit s)) (λ d. simp d s)) y.packets o.packets;
+      padding = subst (λ (u : ℕ). y.padding ≡ ones u ++ drop u y.padding) (sym wide) o.padding;
+    })
+
+-- ---- what the changes are, where the packet is found
+
+-- two changes that make the same of the packet that is found
+each_alike : (tag : Tag) (f g : Packet → Packet) (ps : Packets) → Distinct same_tag ps → ((p : Packet) → find same_tag tag ps ≡ Some p → f p ≡ g p) → each (with_packet tag f) ps ≡ each (with_packet tag g) ps
+each_alike tag f g [] dist h = refl
+each_alike tag f g (x ∷ xs) dist h = by (same_tag tag x.0) refl (λ later. each_alike tag f g xs dist.1 later)
+  where
+    by : (c : Bool) → same_tag tag x.0 ≡ c → (((p : Packet) → find same_tag tag xs ≡ Some p → f p ≡ g p) → each (with_packet tag f) xs ≡ each (with_packet tag g) xs) → (x.0, with_packet tag f x.0 x.1) ∷ each (with_packet tag f) xs ≡ (x.0, with_packet tag g x.0 x.1) ∷ each (with_packet tag g) xs
+    by true same rest =
+        let gone : find same_tag tag xs ≡ None = ap (λ (t : Tag). find same_tag t xs) (tag_test.one tag x.0 same) ∙ dist.0 in
+        let here : f x.1 ≡ g x.1 = h x.1 (ap (λ (c : Bool). cond c (Some x.1) (find same_tag tag xs)) same) in
+        let one : with_packet tag f x.0 x.1 ≡ with_packet tag g x.0 x.1 = ap (λ (c : Bool). cond c (f x.1) x.1) same ∙ here ∙ ap (λ (c : Bool). cond c (g x.1) x.1) (sym same) in
+        ap (λ (p : Packet). (x.0, p) ∷ each (with_packet tag f) xs) one ∙ ap (λ (l : Packets). (x.0, with_packet tag g x.0 x.1) ∷ l) (each-absent same_tag tag f xs gone ∙ sym (each-absent same_tag tag g xs gone))
+    by false same rest =
+        let one : with_packet tag f x.0 x.1 ≡ with_packet tag g x.0 x.1 = ap (λ (c : Bool). cond c (f x.1) x.1) same ∙ ap (λ (c : Bool). cond c (g x.1) x.1) (sym same) in
+        let more = rest (λ p e. h p (ap (λ (c : Bool). cond c (Some x.1) (find same_tag tag xs)) same ∙ e)) in
+        ap (λ (p : Packet). (x.0, p) ∷ each (with_packet tag f) xs) one ∙ ap (λ (l : Packets). (x.0, with_packet tag g x.0 x.1) ∷ l) more
+
+pub changed_alike : (tag : Tag) (f g : Packet → Packet) (y : Telegram) (p : Packet) → Distinct same_tag y.packets → find same_tag tag y.packets ≡ Some p → f p ≡ g p → with_changed tag f y ≡ with_changed tag g y
+changed_alike tag f g y p dist is same =
+    ap (λ (l : Packets). telegram y.head l y.padding) (each_alike tag f g y.packets dist (λ q e. let one : q ≡ p = unsome (sym e ∙ is) in ap f one ∙ same ∙ ap g (sym one)))
+
+each_itself : (tag : Tag) (ps : Packets) → each (with_packet tag (λ x. x)) ps ≡ ps
+each_itself tag [] = refl
+each_itself tag (x ∷ xs) =
+    let one : with_packet tag (λ x. x) x.0 x.1 ≡ x.1 = by (same_tag tag x.0) in
+    ap (λ (p : Packet). (x.0, p) ∷ each (with_packet tag (λ x. x)) xs) one ∙ ap (λ (l : Packets). x ∷ l) (each_itself tag xs)
+  where
+    by : (c : Bool) → cond c x.1 x.1 ≡ x.1
+    by true = refl
+    by false = refl
+
+-- a change that leaves the packet as it is
+pub kept_as_is : (tag : Tag) (f : Packet → Packet) (y : Telegram) (p : Packet) → Distinct same_tag y.packets → find same_tag tag y.packets ≡ Some p → f p ≡ p → y ≡ with_changed tag f y
+kept_as_is tag f y p dist is same =
+    sym (changed_alike tag f (λ x. x) y p dist is same ∙ ap (λ (l : Packets). telegram y.head l y.padding) (each_itself tag y.packets))

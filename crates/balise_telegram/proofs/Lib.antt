@@ -6,6 +6,7 @@ pub mod TelegramsRead
 pub mod Tagging
 pub mod Settings
 pub mod HeaderSet
+pub mod HeaderForms
 pub mod Passing
 pub mod Placing
 pub mod Shifting

@@ -213,6 +213,7 @@ fn read_packets(
         }
         let number = bits.number(at, 8);
         if number == 255 {
+            packets.shrink_to_fit();
             return Ok((packets, at + 8));
         }
         if number == 0 {

@@ -1,23 +1,26 @@
 -- Another value put where a field of a packet stands, in a telegram that is held as its bits.
 -- From what is put over the spelling of one packet, with all that stands behind it as it is.
-use Rattle.std.proofs.Common.{◌≡◌, ◌∙◌, ℕ, ◌+◌, ◌^◌, ◌<◌, Bool, true, false, cond, List, [], ◌∷◌, ◌++◌, length, drop, Option, Some, None, Ok, refl, sym, ap, subst, append_assoc, length-append, arith}
+use Rattle.std.proofs.Common.{◌≡◌, ◌∙◌, ℕ, ◌+◌, ◌^◌, ◌<◌, Bool, true, false, not, ltb, cond, List, [], ◌∷◌, ◌++◌, length, drop, Some, None, is_none, Ok, refl, sym, ap, subst, append_assoc, length-append, arith}
 use Rattle.std.specs.Prelude.{All}
+use Rattle.std.proofs.lemmas.Bool.{ltb-true}
 use Rattle.std.proofs.lemmas.List.Elements.{All-head, All-tail}
 use Rattle.balise_rules.specs.declared.tag.Tag.{Tag}
 use Rattle.balise_rules.specs.declared.variable.Var.{Var}
-use Rattle.balise_rules.specs.Variables.{width_of, steers}
+use Rattle.balise_rules.specs.declared.refusal.Refusal.TheVariants.{NoSuchVariable, Steering, ValueTooWide}
+use Rattle.balise_rules.specs.Variables.{width_of, steers, is_free_in_header}
 use Rattle.balise_rules.specs.Bits.{bits, ones, put_at}
-use Rattle.balise_rules.specs.Forms.{Matches, Numbered, spelling}
+use Rattle.balise_rules.specs.Forms.{Fields, Matches, Numbered, spelling}
 use Rattle.balise_rules.specs.Tagged.{find, each, Distinct}
-use Rattle.balise_rules.specs.Tags.{Key, same_key, same_tag}
-use Rattle.balise_rules.specs.Packet.{Packet, bits_of, width, with_value, IsSpelt}
-use Rattle.balise_rules.specs.Telegram.{Telegram, header, is_balise, packets_bits, read_telegram, shown, used, version_of, IsLength, IsRead, TaggedFrom}
+use Rattle.balise_rules.specs.Tags.{Key, same_tag}
+use Rattle.balise_rules.specs.Packet.{Packet, bits_of, field_of, width, with_value, IsSpelt}
+use Rattle.balise_rules.specs.Telegram.{Telegram, header, is_balise, packets_bits, read_header, read_telegram, shown, used, version_of, IsLength, IsRead, TaggedFrom}
+use Rattle.balise_rules.specs.Doing.{when, first_of}
 use Rattle.balise_rules.proofs.AllItems.{all-each}
 use Rattle.balise_rules.proofs.Cases.{unsome}
 use Rattle.balise_rules.proofs.Each.{each-absent}
 use Rattle.balise_rules.proofs.Found.{fields_distinct}
 use Rattle.balise_rules.proofs.TaggedFrom.{tagged_distinct, tagged_each}
-use Rattle.balise_rules.proofs.TelegramAgain.{fixed_length, padding_shown, telegram_again}
+use Rattle.balise_rules.proofs.TelegramAgain.{fixed_length, header_again, padding_shown, telegram_again}
 use Rattle.balise_rules.proofs.TelegramRead.{header_fixed}
 use Rattle.balise_rules.proofs.TelegramShown.{used_is}
 use Rattle.balise_rules.proofs.Tests.{split_on, tag_test}
@@ -26,7 +29,9 @@ use Rattle.balise_layout.specs.Held.{before, further, with_field as with_packet_
 use Rattle.balise_layout.proofs.Places.{further_is, put_further, put_spelling}
 use Rattle.balise_layout.proofs.Setting.{IsSpelt-with_field}
 use Rattle.balise_telegram.specs.Packed.{packet_place, place_from, telegram_of, IsTelegram}
-use Rattle.balise_telegram.specs.Setting.{with_changed, with_field}
+use Rattle.balise_telegram.specs.Setting.{fields_refusal, with_changed, with_field, with_head}
+use Rattle.balise_telegram.proofs.HeaderForms.{IsAside, header_kept, version_kept, balise_kept}
+use Rattle.balise_telegram.proofs.PackedPlaces.{head_is}
 use Rattle.balise_telegram.proofs.Settings.{as_wide, telegram}
 use Rattle.balise_telegram.proofs.Tagging.{Packets, with_packet}
 
@@ -73,8 +78,8 @@ put_packets version tag v k n at place (x ∷ xs) raw dist a e = by (same_tag ta
           from = f.from;
           far = f.sum;
           put = ap (put_at f.from new) whole ∙ put_spelling v k n x.1.fields (x.1.rest ++ behind) f.from (fields_distinct version x.1 spelt) f.is ∙ again
-          ∙ ap (λ (q : Packet). (bits_of q ++ packets_bits xs) ++ raw) (sym one)
-          ∙ ap (λ (l : Packets). (bits_of (with_packet tag (with_packet_field v k n) x.0 x.1) ++ packets_bits l) ++ raw) (sym others);
+              ∙ ap (λ (q : Packet). (bits_of q ++ packets_bits xs) ++ raw) (sym one)
+              ∙ ap (λ (l : Packets). (bits_of (with_packet tag (with_packet_field v k n) x.0 x.1) ++ packets_bits l) ++ raw) (sym others);
         }
     by false same h later =
         let l = later h in
@@ -84,8 +89,8 @@ put_packets version tag v k n at place (x ∷ xs) raw dist a e = by (same_tag ta
           from = width x.1 + l.from;
           far = omega (arith, l.far);
           put = ap (put_at (width x.1 + l.from) new) (append_assoc (bits_of x.1) (packets_bits xs) raw) ∙ put_further (bits_of x.1) behind new l.from
-          ∙ ap (λ (b : List Bool). bits_of x.1 ++ b) l.put ∙ sym (append_assoc (bits_of x.1) (packets_bits (set_in tag v k n xs)) raw)
-          ∙ ap (λ (q : Packet). (bits_of q ++ packets_bits (set_in tag v k n xs)) ++ raw) (sym one);
+              ∙ ap (λ (b : List Bool). bits_of x.1 ++ b) l.put ∙ sym (append_assoc (bits_of x.1) (packets_bits (set_in tag v k n xs)) raw)
+              ∙ ap (λ (q : Packet). (bits_of q ++ packets_bits (set_in tag v k n xs)) ++ raw) (sym one);
         }
 
 -- bits that a telegram shows, which is in order, are that telegram's
@@ -161,6 +166,45 @@ set_read b y tag v k n place r e free fit =
       packets = all-each (IsSpelt (version_of y)) (IsSpelt (version_of y)) g (λ q x s. split_on (same_tag tag q) (λ d. simp d (IsSpelt-with_field (version_of y) x v k n free fit s)) (λ d. simp d s)) y.packets o.packets;
       padding = subst (λ (u : ℕ). y.padding ≡ ones u ++ drop u y.padding) (sym wide) o.padding;
     })
+
+-- ---- the header
+
+head_read : (b : List Bool) (y : Telegram) (v : Var) (n : ℕ) → IsRead b y → IsAside v → n < 2 ^ width_of v → IsRead (spelling (with_value v 0 n y.head) ++ drop 50 b) (with_head v n y)
+head_read b y v n r aside fit =
+    let z = with_head v n y in
+    let kept = header_kept v 0 n y.head fit r.header r.numbered in
+    let rest = packets_bits y.packets ++ (ones 8 ++ drop (used y.packets) y.padding) in
+    let behind : drop 50 b ≡ rest = (header_again y b rest r.header r.numbered (sym r.shows)).1 in
+    let shows : spelling z.head ++ drop 50 b ≡ shown z = ap (λ (l : List Bool). spelling z.head ++ l) behind in
+    let fifty = fixed_length header 50 y.head [] header_fixed r.header in
+    let fifty' = fixed_length header 50 z.head [] header_fixed kept.0 in
+    let long : length (spelling z.head ++ drop 50 b) ≡ length b = ap length shows ∙ same_size z y (fifty' ∙ sym fifty) refl refl ∙ ap length r.shows in
+    let o = in_order b y r in
+    order_read (spelling z.head ++ drop 50 b) z shows (subst IsLength (sym long) r.size) (record {
+      header = kept.0;
+      numbered = kept.1;
+      balise = balise_kept v 0 n y.head aside ∙ o.balise;
+      tags = o.tags;
+      packets = subst (λ (w : ℕ). All (λ p. IsSpelt w p.1) y.packets) (sym (version_kept v 0 n y.head aside)) o.packets;
+      padding = o.padding;
+    })
+
+-- what is held then, and what it is seen as
+pub head_put : (b : List Bool) (y : Telegram) (v : Var) (n : ℕ) (head after : Fields) (new : List Bool) → IsRead b y → head ≡ read_header b → IsAside v → n < 2 ^ width_of v → after ≡ with_value v 0 n head → new ≡ spelling after ++ drop 50 b → IsTelegram new × (telegram_of (read_telegram new) ≡ with_head v n y)
+head_put b y v n head after new r h aside fit e f =
+    let same : new ≡ spelling (with_value v 0 n y.head) ++ drop 50 b = f ∙ ap (λ (x : Fields). spelling x ++ drop 50 b) (e ∙ ap (with_value v 0 n) (h ∙ head_is b y r)) in
+    let a = held_again _ _ (head_read b y v n r aside fit) in
+    (subst IsTelegram (sym same) a.0, ap (λ (l : List Bool). telegram_of (read_telegram l)) same ∙ a.1)
+
+-- what isn't refused is a variable that is set, and a value that fits
+pub free_fits : (v : Var) (n : ℕ) (fs : Fields) → fields_refusal v n fs ≡ None → (is_free_in_header v ≡ true) × (n < 2 ^ width_of v)
+free_fits v n fs e = by (is_none (field_of v 0 fs)) (is_free_in_header v) (ltb n (2 ^ width_of v)) refl refl e
+  where
+    by : (a b c : Bool) → is_free_in_header v ≡ b → ltb n (2 ^ width_of v) ≡ c → first_of (when a NoSuchVariable ∷ when (not b) Steering ∷ when (not c) ValueTooWide ∷ []) ≡ None → (is_free_in_header v ≡ true) × (n < 2 ^ width_of v)
+    by true b c p q h = absurd cc
+    by false false c p q h = absurd cc
+    by false true false p q h = absurd cc
+    by false true true p q h = (p, ltb-true n (2 ^ width_of v) q)
 
 -- ---- what the changes are, where the packet is found
 

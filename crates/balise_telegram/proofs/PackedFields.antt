@@ -1,6 +1,8 @@
 -- The fields of a packet of a telegram that is held as its bits: where they stand, and what is read there.
-use Rattle.std.proofs.Common.{◌≡◌, ◌∙◌, ℕ, ◌+◌, ◌≤◌, Bool, true, false, cond, List, [], ◌∷◌, length, drop, Option, Some, None, option_and_then, refl, sym, ap, length-append, arith}
+use Rattle.std.proofs.Common.{◌≡◌, ◌∙◌, ℕ, ◌+◌, ◌*◌, ◌≤◌, Bool, true, false, cond, List, [], ◌∷◌, length, drop, Some, None, option_and_then, refl, sym, ap, length-append, arith}
+use Rattle.std.specs.Prelude.{All}
 use Rattle.std.proofs.lemmas.List.{length-drop}
+use Rattle.std.proofs.lemmas.List.Elements.{All-head, All-tail}
 use Rattle.balise_rules.specs.declared.tag.Tag.{Tag}
 use Rattle.balise_rules.specs.declared.variable.Var.{Var}
 use Rattle.balise_rules.specs.declared.variable.Var.TheVariants.{NidPacket, QDir}
@@ -9,7 +11,7 @@ use Rattle.balise_rules.specs.Bits.{num, part}
 use Rattle.balise_rules.specs.Tagged.{find, Distinct}
 use Rattle.balise_rules.specs.Tags.{Key, same_tag}
 use Rattle.balise_rules.specs.Packet.{Packet, bits_of, field_of, read_first, value, width, IsSpelt}
-use Rattle.balise_rules.specs.Telegram.{Telegram, version_of, IsRead}
+use Rattle.balise_rules.specs.Telegram.{Telegram, used, version_of, IsRead}
 use Rattle.balise_rules.proofs.Each.{each-absent}
 use Rattle.balise_rules.proofs.PacketAgain.{front_of}
 use Rattle.balise_rules.proofs.TaggedFrom.{tagged_distinct}
@@ -20,7 +22,7 @@ use Rattle.balise_layout.proofs.Places.{further_is, missing}
 use Rattle.balise_layout.proofs.Values.{dir_stands, number_stands, value_is}
 use Rattle.balise_telegram.specs.Packed.{packet_place, place_from}
 use Rattle.balise_telegram.specs.Setting.{field_at, with_changed}
-use Rattle.balise_telegram.proofs.PackedPlaces.{all_ahead, located, long_enough, field_stands, further_none, place_found, Located}
+use Rattle.balise_telegram.proofs.PackedPlaces.{all_ahead, located, long_enough, padding_long, field_stands, further_none, place_found, Located}
 use Rattle.balise_telegram.proofs.PackedChanges.{further_place}
 use Rattle.balise_telegram.proofs.Settings.{telegram}
 use Rattle.balise_telegram.proofs.Tagging.{Packets}
@@ -108,3 +110,15 @@ absent tag f y e = ap (λ (l : Packets). telegram y.head l y.padding) (sym (each
 
 pub tags_differ : (b : List Bool) (y : Telegram) → IsRead b y → Distinct same_tag y.packets
 tags_differ b y r = tagged_distinct 0 y.packets r.tags
+
+-- a telegram has at most 33 packets
+spare : (version : ℕ) (ps : Packets) → All (λ p. IsSpelt version p.1) ps → 23 * length ps + 58 ≤ used ps
+spare version [] a = omega arith
+spare version (x ∷ xs) a =
+    let least = (front_of version x.1 (All-head (λ (q : Tag × Packet). IsSpelt version q.1) x xs a)).least in
+    let more = spare version xs (All-tail (λ (q : Tag × Packet). IsSpelt version q.1) x xs a) in omega (arith, least, more)
+
+pub few_packets : (b : List Bool) (y : Telegram) → IsRead b y → length y.packets ≤ 33
+few_packets b y r =
+    let l = padding_long b y r in
+    omega (arith, spare (version_of y) y.packets r.packets, l.0, l.1, (long_enough b y r).1)

@@ -1,10 +1,9 @@
 -- Going over the packets of a telegram that is held as its bits: what stands from a place on.
 -- From what is shown, one packet after another.
-use Rattle.std.proofs.Common.{◌≡◌, ◌∙◌, ℕ, suc, ◌+◌, ◌-◌, ◌*◌, ◌<◌, ◌≤◌, Bool, true, false, cond, eqb, inl, inr, List, [], ◌∷◌, ◌++◌, length, take, drop, Option, Some, None, option_and_then, Result, Ok, Err, refl, sym, ap, subst, append_assoc, length-append, arith}
+use Rattle.std.proofs.Common.{◌≡◌, ◌∙◌, ℕ, suc, ◌+◌, ◌-◌, ◌*◌, ◌≤◌, Bool, true, false, cond, eqb, inl, inr, List, [], ◌∷◌, ◌++◌, length, take, drop, Option, Some, None, Ok, refl, sym, ap, subst, append_assoc, length-append, arith}
 use Rattle.std.specs.Prelude.{All}
-use Rattle.std.proofs.lemmas.List.{drop_at, drop-drop, length-drop, length-replicate, append-nil}
+use Rattle.std.proofs.lemmas.List.{drop_at, drop-drop, length-drop, length-replicate}
 use Rattle.std.proofs.lemmas.List.Elements.{All-head, All-tail}
-use Rattle.balise_rules.specs.declared.refusal.Refusal.{Refusal}
 use Rattle.balise_rules.specs.declared.tag.Tag.{Tag}
 use Rattle.balise_rules.specs.declared.tag.Tag.TheVariants.{Base}
 use Rattle.balise_rules.specs.Bits.{num, ones, part}
@@ -19,8 +18,8 @@ use Rattle.balise_rules.specs.Tagged.{find}
 use Rattle.balise_rules.proofs.Numbers.{num-bits_fit}
 use Rattle.balise_layout.specs.First.{field_place}
 use Rattle.balise_layout.specs.Held.{before, further}
-use Rattle.balise_layout.proofs.Places.{standing, missing, field_fits}
-use Rattle.balise_rules.proofs.Cases.{unok, unsome}
+use Rattle.balise_layout.proofs.Places.{standing, field_fits}
+use Rattle.balise_rules.proofs.Cases.{unsome}
 use Rattle.balise_rules.proofs.PacketAgain.{front_of, first_again, said_again}
 use Rattle.balise_rules.proofs.TelegramAgain.{header_again, fixed_length}
 use Rattle.balise_rules.proofs.TelegramRead.{header_fixed}

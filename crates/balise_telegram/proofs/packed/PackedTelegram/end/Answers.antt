@@ -1,4 +1,4 @@
-use Rattle.std.proofs.Common.{◌≡◌, ◌∙◌, ◌≤◌, ◌+◌, ℕ, length, ap, subst, arith}
+use Rattle.std.proofs.Common.{◌∙◌, length, ap, subst, arith}
 use Rattle.balise_rules.specs.Telegram.{Telegram, read_telegram, used}
 use Rattle.balise_rules.specs.Tagged.{Distinct}
 use Rattle.balise_rules.specs.Tags.{same_tag}
@@ -37,15 +37,6 @@ returns-then-number-eq255-clause-tags c =
     let b = c.self.inside.packed in
     subst (λ (y : Telegram). Distinct same_tag y.packets) c.self.view_is (tags_differ b (telegram_of (read_telegram b)) (held_read b c.self.invariant))
 
-steps : (c : goal.Else-number-eq255) → Step c.self.inside.packed c.packets.at
-steps c =
-    let b = c.self.inside.packed in
-    let g = c.packets.invariant in
-    step b (telegram_of (read_telegram b)) c.packets.at c.packets.count c.number-number.result g.0 g.1 c.number-number.ensures c.if-number-eq255.false
-
-most : (c : goal.Else-number-eq255) → length c.self.inside.packed ≤ 830
-most c = let b = c.self.inside.packed in (long_enough b (telegram_of (read_telegram b)) (held_read b c.self.invariant)).1
-
 pub overflow_add-count : goal.overflow_add-count
 overflow_add-count c =
     let b = c.self.inside.packed in
@@ -53,13 +44,25 @@ overflow_add-count c =
     let most = (long_enough b (telegram_of (read_telegram b)) (held_read b c.self.invariant)).1 in omega (arith, a.few, a.within, most)
 
 pub overflow_add-at : goal.overflow_add-at
-overflow_add-at c = let s = steps c in omega (arith, s.within, most c)
+overflow_add-at c =
+    let b = c.self.inside.packed in
+    let y = telegram_of (read_telegram b) in
+    let s = step b y c.packets.at c.packets.count c.number-number.result c.packets.invariant.0 c.packets.invariant.1 c.number-number.ensures c.if-number-eq255.false in
+    let most = (long_enough b y (held_read b c.self.invariant)).1 in omega (arith, s.within, most)
 
 pub number-width-requires-clause-within : goal.number-width-requires-clause-within
-number-width-requires-clause-within c = let s = steps c in omega (arith, s.within, s.least)
+number-width-requires-clause-within c =
+    let s = step c.self.inside.packed (telegram_of (read_telegram c.self.inside.packed)) c.packets.at c.packets.count c.number-number.result c.packets.invariant.0 c.packets.invariant.1 c.number-number.ensures c.if-number-eq255.false in
+    omega (arith, s.within, s.least)
+
+steps : (c : goal.After-number-width) → Step c.self.inside.packed c.packets.at
+steps c = step c.self.inside.packed (telegram_of (read_telegram c.self.inside.packed)) c.packets.at c.packets.count c.number-number.result c.packets.invariant.0 c.packets.invariant.1 c.number-number.ensures c.if-number-eq255.false
 
 pub overflow_add-at-in-packets : goal.overflow_add-at-in-packets
-overflow_add-at-in-packets c = let s = steps c in omega (arith, s.within, s.is, c.number-width.ensures, most c)
+overflow_add-at-in-packets c =
+    let b = c.self.inside.packed in
+    let s = steps c in
+    let most = (long_enough b (telegram_of (read_telegram b)) (held_read b c.self.invariant)).1 in omega (arith, s.within, s.is, c.number-width.ensures, most)
 
 pub packets-smaller : goal.packets-smaller
 packets-smaller c = let s = steps c in omega (arith, s.within, s.is, s.least, c.number-width.ensures)

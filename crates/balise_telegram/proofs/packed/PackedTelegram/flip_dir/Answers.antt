@@ -1,5 +1,5 @@
 -- Q_DIR stands behind 8 bits of every packet.
-use Rattle.std.proofs.Common.{◌≡◌, ◌∙◌, ◌-◌, ◌+◌, ◌<◌, ◌≤◌, ◌^◌, ℕ, Some, length, refl, ap, sym, subst, arith}
+use Rattle.std.proofs.Common.{◌≡◌, ◌∙◌, ◌-◌, ◌+◌, ℕ, refl, ap, sym, subst, arith}
 use Rattle.balise_rules.specs.declared.variable.Var.TheVariants.{QDir}
 use Rattle.balise_rules.specs.Edits.{exchanged}
 use Rattle.balise_rules.specs.Variables.{width_of, steers}
@@ -10,39 +10,44 @@ use Rattle.balise_layout.specs.Setting.{turned}
 use Rattle.balise_layout.proofs.First.{spells_holds}
 use Rattle.balise_layout.proofs.Values.{exchanged_low, exchanged_high, with_field-same, dir_found}
 use Rattle.balise_telegram.proofs.PackedPlaces.{held_read, long_enough, not_located}
-use Rattle.balise_telegram.proofs.PackedFields.{absent, dir_place, field_there, its_value, packet_within, FieldThere}
+use Rattle.balise_telegram.proofs.PackedFields.{absent, dir_place, field_there, its_value, packet_within}
 use Rattle.balise_telegram.proofs.PackedChanges.{changed_alike, kept_as_is}
 use Rattle.balise_telegram.proofs.packed.PackedTelegram.flip_dir.Goals as goal
 
 pub returns-in_default : goal.returns-in_default
 returns-in_default c = absent c.args.tag turned c.args.self.now (not_located c.args.tag 50 c.args.self.now.packets (sym c.in_default.ensures.place))
 
-held : (c : goal.In-Some) → IsRead c.self.inside.packed c.args.self.now
-held c = let b = c.self.inside.packed in subst (λ (x : Telegram). IsRead b x) c.self.view_is (held_read b c.self.invariant)
-
-inside : (c : goal.In-Some) → (c.in-Some.packet + 23 ≤ length c.self.inside.packed) × (length c.self.inside.packed ≤ 830)
-inside c =
-    let b = c.self.inside.packed in
-    (packet_within b c.args.self.now c.args.tag c.in-Some.packet (held c) (sym c.in-Some.ensures.place), (long_enough b c.args.self.now (held c)).1)
-
-stands : (c : goal.In-Some) → FieldThere c.self.inside.packed c.args.self.now c.args.tag QDir 0 (c.in-Some.packet + 8)
-stands c =
+pub overflow_add-packet : goal.overflow_add-packet
+overflow_add-packet c =
     let b = c.self.inside.packed in
     let y = c.args.self.now in
     let e = sym c.in-Some.ensures.place in
-    field_there b y c.args.tag QDir 0 c.in-Some.packet (c.in-Some.packet + 8) (held c) e (dir_place b y c.args.tag c.in-Some.packet (held c) e)
-
-pub overflow_add-packet : goal.overflow_add-packet
-overflow_add-packet c = let i = inside c in omega (arith, i.0, i.1)
+    let r : IsRead b y = subst (λ (x : Telegram). IsRead b x) c.self.view_is (held_read b c.self.invariant) in
+    omega (arith, packet_within b y c.args.tag c.in-Some.packet r e, (long_enough b y r).1)
 
 pub number-dir-requires-clause-within : goal.number-dir-requires-clause-within
-number-dir-requires-clause-within c = let i = inside c in omega (arith, i.0)
+number-dir-requires-clause-within c =
+    let b = c.self.inside.packed in
+    let y = c.args.self.now in
+    let e = sym c.in-Some.ensures.place in
+    let r : IsRead b y = subst (λ (x : Telegram). IsRead b x) c.self.view_is (held_read b c.self.invariant) in
+    omega (arith, packet_within b y c.args.tag c.in-Some.packet r e)
 
 pub overflow_add-packet-then-dir-lt2 : goal.overflow_add-packet-then-dir-lt2
-overflow_add-packet-then-dir-lt2 c = let i = inside c in omega (arith, i.0, i.1)
+overflow_add-packet-then-dir-lt2 c =
+    let b = c.self.inside.packed in
+    let y = c.args.self.now in
+    let e = sym c.in-Some.ensures.place in
+    let r : IsRead b y = subst (λ (x : Telegram). IsRead b x) c.self.view_is (held_read b c.self.invariant) in
+    omega (arith, packet_within b y c.args.tag c.in-Some.packet r e, (long_enough b y r).1)
 
 pub put_field-requires-clause-stands : goal.put_field-requires-clause-stands
-put_field-requires-clause-stands c = (c.args.tag, 0, dir_place c.self.inside.packed c.args.self.now c.args.tag c.in-Some.packet (held c) (sym c.in-Some.ensures.place))
+put_field-requires-clause-stands c =
+    let b = c.self.inside.packed in
+    let y = c.args.self.now in
+    let e = sym c.in-Some.ensures.place in
+    let r : IsRead b y = subst (λ (x : Telegram). IsRead b x) c.self.view_is (held_read b c.self.invariant) in
+    (c.args.tag, 0, dir_place b y c.args.tag c.in-Some.packet r e)
 
 pub put_field-requires-clause-free : goal.put_field-requires-clause-free
 unfolding steers
@@ -57,11 +62,12 @@ unfolding width_of
 returns-then-dir-lt2 c =
     let b = c.self.inside.packed in
     let y = c.args.self.now in
-    let f = stands c in
     let e = sym c.in-Some.ensures.place in
+    let r : IsRead b y = subst (λ (x : Telegram). IsRead b x) c.self.view_is (held_read b c.self.invariant) in
+    let f = field_there b y c.args.tag QDir 0 c.in-Some.packet (c.in-Some.packet + 8) r e (dir_place b y c.args.tag c.in-Some.packet r e) in
     let dir : c.number-dir.result ≡ value QDir 0 f.packet.fields = c.number-dir.ensures ∙ sym (its_value b y c.args.tag QDir 0 (c.in-Some.packet + 8) f) in
     let new : 1 - c.number-dir.result ≡ exchanged 0 1 (value QDir 0 f.packet.fields) = sym (exchanged_low c.number-dir.result c.if-dir-lt2.true) ∙ ap (exchanged 0 1) dir in
-    c.put_field.ensures c.args.tag 0 (dir_place b y c.args.tag c.in-Some.packet (held c) e)
+    c.put_field.ensures c.args.tag 0 (dir_place b y c.args.tag c.in-Some.packet r e)
     ∙ changed_alike c.args.tag (with_field QDir 0 (1 - c.number-dir.result)) turned y f.packet c.in-Some.ensures.tags f.is (ap (λ (n : ℕ). with_field QDir 0 n f.packet) new)
 
 pub returns-else-dir-lt2 : goal.returns-else-dir-lt2
@@ -69,7 +75,9 @@ unfolding width_of
 returns-else-dir-lt2 c =
     let b = c.self.inside.packed in
     let y = c.args.self.now in
-    let f = stands c in
+    let e = sym c.in-Some.ensures.place in
+    let r : IsRead b y = subst (λ (x : Telegram). IsRead b x) c.self.view_is (held_read b c.self.invariant) in
+    let f = field_there b y c.args.tag QDir 0 c.in-Some.packet (c.in-Some.packet + 8) r e (dir_place b y c.args.tag c.in-Some.packet r e) in
     let p = f.packet in
     let holds = spells_holds (version_of y) (bits_of p) p f.spelt in
     let dir : c.number-dir.result ≡ value QDir 0 p.fields = c.number-dir.ensures ∙ sym (its_value b y c.args.tag QDir 0 (c.in-Some.packet + 8) f) in

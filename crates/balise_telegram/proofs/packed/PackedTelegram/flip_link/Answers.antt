@@ -1,5 +1,5 @@
 -- The orientation is one bit.
-use Rattle.std.proofs.Common.{◌≡◌, ◌∙◌, ◌-◌, ◌+◌, ◌<◌, ◌≤◌, ◌^◌, ℕ, Some, drop, refl, ap, sym, subst, arith}
+use Rattle.std.proofs.Common.{◌≡◌, ◌∙◌, ◌-◌, ℕ, drop, refl, ap, sym, subst, arith}
 use Rattle.balise_rules.specs.declared.variable.Var.TheVariants.{QLinkorientation}
 use Rattle.balise_rules.specs.Variables.{width_of, steers}
 use Rattle.balise_rules.specs.Packet.{value}
@@ -8,23 +8,22 @@ use Rattle.balise_layout.specs.Held.{with_field}
 use Rattle.balise_layout.specs.Setting.{flipped}
 use Rattle.balise_layout.proofs.Values.{small_bit, with_field-missing}
 use Rattle.balise_telegram.proofs.PackedPlaces.{held_read, not_located}
-use Rattle.balise_telegram.proofs.PackedFields.{absent, field_there, found_there, its_value, none_stands, FieldThere}
+use Rattle.balise_telegram.proofs.PackedFields.{absent, field_there, found_there, its_value, none_stands}
 use Rattle.balise_telegram.proofs.PackedChanges.{changed_alike, kept_as_is}
 use Rattle.balise_telegram.proofs.packed.PackedTelegram.flip_link.Goals as goal
 
 pub returns-in_default : goal.returns-in_default
 returns-in_default c = absent c.args.tag (flipped c.args.k) c.args.self.now (not_located c.args.tag 50 c.args.self.now.packets (sym c.in_default.ensures.place))
 
-stands : (c : goal.In-Some-place_in) → FieldThere c.self.inside.packed c.args.self.now c.args.tag QLinkorientation c.args.k c.in-Some-place_in.at
-stands c =
-    let b = c.self.inside.packed in
-    let r : IsRead b c.args.self.now = subst (λ (x : Telegram). IsRead b x) c.self.view_is (held_read b c.self.invariant) in
-    let e = sym c.in-Some.ensures.place in
-    field_there b c.args.self.now c.args.tag QLinkorientation c.args.k c.in-Some.packet c.in-Some-place_in.at r e (sym (c.in-Some-place_in.ensures c.args.tag e))
-
 pub number-old-requires-clause-within : goal.number-old-requires-clause-within
 unfolding width_of
-number-old-requires-clause-within c = (stands c).within
+number-old-requires-clause-within c =
+    let b = c.self.inside.packed in
+    let y = c.args.self.now in
+    let e = sym c.in-Some.ensures.place in
+    let r : IsRead b y = subst (λ (x : Telegram). IsRead b x) c.self.view_is (held_read b c.self.invariant) in
+    let f = field_there b y c.args.tag QLinkorientation c.args.k c.in-Some.packet c.in-Some-place_in.at r e (sym (c.in-Some-place_in.ensures c.args.tag e)) in
+    f.within
 
 pub overflow_sub-old : goal.overflow_sub-old
 overflow_sub-old c = omega (arith, c.number-old.ensures, small_bit (drop c.in-Some-place_in.at c.self.inside.packed))
@@ -45,7 +44,9 @@ unfolding width_of
 returns-in-Some-place_in c =
     let b = c.self.inside.packed in
     let y = c.args.self.now in
-    let f = stands c in
+    let e = sym c.in-Some.ensures.place in
+    let r : IsRead b y = subst (λ (x : Telegram). IsRead b x) c.self.view_is (held_read b c.self.invariant) in
+    let f = field_there b y c.args.tag QLinkorientation c.args.k c.in-Some.packet c.in-Some-place_in.at r e (sym (c.in-Some-place_in.ensures c.args.tag e)) in
     let old : c.number-old.result ≡ value QLinkorientation c.args.k f.packet.fields = c.number-old.ensures ∙ sym (its_value b y c.args.tag QLinkorientation c.args.k c.in-Some-place_in.at f) in
     c.put_field.ensures c.args.tag c.args.k (sym (c.in-Some-place_in.ensures c.args.tag (sym c.in-Some.ensures.place)))
     ∙ changed_alike c.args.tag (with_field QLinkorientation c.args.k (1 - c.number-old.result)) (flipped c.args.k) y f.packet c.in-Some.ensures.tags f.is (ap (λ (n : ℕ). with_field QLinkorientation c.args.k (1 - n) f.packet) old)

@@ -5,7 +5,7 @@ use Rattle.balise_rules.specs.Variables.{width_of, steers}
 use Rattle.balise_rules.specs.Telegram.{Telegram, IsRead}
 use Rattle.balise_layout.proofs.Values.{accepted, nothing_left, refused_missing, refused_steering, refused_wide, shifted_out}
 use Rattle.balise_telegram.proofs.PackedPlaces.{held_read, not_located}
-use Rattle.balise_telegram.proofs.PackedFields.{field_there, found_there, none_stands, value_there, FieldThere}
+use Rattle.balise_telegram.proofs.PackedFields.{field_there, found_there, none_stands, value_there}
 use Rattle.balise_telegram.proofs.Settings.{no_packet, refused_as}
 use Rattle.balise_telegram.proofs.packed.PackedTelegram.set_field.Goals as goal
 
@@ -19,3 +19,50 @@ returns-in_default-place_in c =
     let p = found_there c.args.tag 50 c.in-Some.packet y.packets e in
     let none = none_stands c.args.tag c.args.var c.args.k c.in-Some.packet y.packets p.0 e p.1 (sym (c.in_default-place_in.ensures c.args.tag e)) in
     (refused_as c.args.tag c.args.var c.args.k c.args.value y p.0 p.1 ∙ refused_missing c.args.var c.args.k c.args.value p.0 none, refl)
+
+pub returns-then-steers : goal.returns-then-steers
+returns-then-steers c =
+    let b = c.self.inside.packed in
+    let y = c.args.self.now in
+    let e = sym c.in-Some.ensures.place in
+    let r : IsRead b y = subst (λ (x : Telegram). IsRead b x) c.self.view_is (held_read b c.self.invariant) in
+    let f = field_there b y c.args.tag c.args.var c.args.k c.in-Some.packet c.in-Some-place_in.at r e (sym (c.in-Some-place_in.ensures c.args.tag e)) in
+    (refused_as c.args.tag c.args.var c.args.k c.args.value y f.packet f.is ∙ refused_steering c.args.var c.args.k c.args.value f.from f.packet f.stands (sym c.steers.ensures ∙ c.if-steers.true), refl)
+
+pub returns-then-value-width-ne0 : goal.returns-then-value-width-ne0
+returns-then-value-width-ne0 c =
+    let b = c.self.inside.packed in
+    let y = c.args.self.now in
+    let e = sym c.in-Some.ensures.place in
+    let r : IsRead b y = subst (λ (x : Telegram). IsRead b x) c.self.view_is (held_read b c.self.invariant) in
+    let f = field_there b y c.args.tag c.args.var c.args.k c.in-Some.packet c.in-Some-place_in.at r e (sym (c.in-Some-place_in.ensures c.args.tag e)) in
+    let wide : 2 ^ width_of c.args.var ≤ c.args.value = omega (arith, shifted_out c.args.value c.width-width.result c.if-value-width-ne0.true, ap (λ (k : ℕ). 2 ^ k) c.width-width.ensures.width) in
+    (refused_as c.args.tag c.args.var c.args.k c.args.value y f.packet f.is ∙ refused_wide c.args.var c.args.k c.args.value f.from f.packet f.stands (sym c.steers.ensures ∙ c.if-steers.false) wide, refl)
+
+pub number-old-requires-clause-within : goal.number-old-requires-clause-within
+number-old-requires-clause-within c =
+    let b = c.self.inside.packed in
+    let y = c.args.self.now in
+    let e = sym c.in-Some.ensures.place in
+    let r : IsRead b y = subst (λ (x : Telegram). IsRead b x) c.self.view_is (held_read b c.self.invariant) in
+    let f = field_there b y c.args.tag c.args.var c.args.k c.in-Some.packet c.in-Some-place_in.at r e (sym (c.in-Some-place_in.ensures c.args.tag e)) in
+    omega (arith, f.within, c.width-width.ensures.width)
+
+pub put_field-requires-clause-stands : goal.put_field-requires-clause-stands
+put_field-requires-clause-stands c = (c.args.tag, c.args.k, sym (c.in-Some-place_in.ensures c.args.tag (sym c.in-Some.ensures.place)))
+
+pub returns : goal.returns
+returns c =
+    let b = c.self.inside.packed in
+    let y = c.args.self.now in
+    let e = sym c.in-Some.ensures.place in
+    let place = sym (c.in-Some-place_in.ensures c.args.tag e) in
+    let r : IsRead b y = subst (λ (x : Telegram). IsRead b x) c.self.view_is (held_read b c.self.invariant) in
+    let f = field_there b y c.args.tag c.args.var c.args.k c.in-Some.packet c.in-Some-place_in.at r e place in
+    let free : steers c.args.var ≡ false = sym c.steers.ensures ∙ c.if-steers.false in
+    let fit : c.args.value < 2 ^ width_of c.args.var = omega (arith, nothing_left c.args.value c.width-width.result c.if-value-width-ne0.false, ap (λ (k : ℕ). 2 ^ k) c.width-width.ensures.width) in
+    let old : num (part c.in-Some-place_in.at (width_of c.args.var) b) ≡ c.number-old.result = sym (c.number-old.ensures ∙ ap (λ (w : ℕ). num (part c.in-Some-place_in.at w b)) c.width-width.ensures.width) in (
+      refused_as c.args.tag c.args.var c.args.k c.args.value y f.packet f.is ∙ accepted c.args.var c.args.k c.args.value f.from f.packet f.stands free fit,
+      value_there b y c.args.tag c.args.var c.args.k c.in-Some-place_in.at f ∙ ap Some old,
+      c.put_field.ensures c.args.tag c.args.k place,
+    )

@@ -1,6 +1,5 @@
-use Rattle.std.proofs.Common.{◌≡◌, ◌∙◌, ◌≤◌, length, ap, sym, arith}
-use Rattle.balise_rules.specs.Telegram.{Telegram, read_header, read_telegram, shown}
-use Rattle.balise_rules.specs.Forms.{Fields}
+use Rattle.std.proofs.Common.{◌∙◌, ap, arith}
+use Rattle.balise_rules.specs.Telegram.{read_telegram}
 use Rattle.balise_telegram.specs.Packed.{telegram_of}
 use Rattle.balise_telegram.proofs.PackedPlaces.{held_read, long_enough, head_is}
 use Rattle.balise_rules.specs.declared.variable.Var.TheVariants.{MVersion}

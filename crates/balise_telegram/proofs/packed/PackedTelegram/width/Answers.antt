@@ -1,4 +1,4 @@
-use Rattle.std.proofs.Common.{◌≡◌, ◌∙◌, ◌≤◌, length, subst, ap, sym}
+use Rattle.std.proofs.Common.{◌∙◌, ◌≤◌, length, subst, ap, sym}
 use Rattle.balise_rules.specs.Telegram.{Telegram, read_telegram, used, IsLength}
 use Rattle.balise_telegram.specs.Packed.{telegram_of}
 use Rattle.balise_telegram.proofs.PackedPlaces.{held_read, padding_long}

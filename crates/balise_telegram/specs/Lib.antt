@@ -4,6 +4,7 @@ pub mod Faults
 pub mod Setting
 pub mod Moving
 pub mod Packed
+pub mod Balise
 pub use Rattle.balise_rules.specs.Variables
 pub use Rattle.balise_rules.specs.Refusals
 pub use Rattle.balise_rules.specs.Bits

@@ -5,19 +5,21 @@ mod packets;
 
 ghost use Rattle.std.specs.Prelude.{◌≡◌, ◌≢◌, ◌≤◌, ◌<◌, ◌+◌, ◌^◌, drop, IfErr, IfOk, IfSome, IsOkUnless, length, Ok, Err, option_map, slice_get};
 ghost use Rattle.std.specs.List.{position};
-ghost use Rattle.balise_rules.specs.Packet.{field_of};
+ghost use Rattle.balise_rules.specs.declared.variable.Var.TheVariants.{NidPacket};
+ghost use Rattle.balise_rules.specs.Packet.{field_of, value};
 ghost use Rattle.balise_rules.specs.Tagged.{find, Distinct};
 ghost use Rattle.balise_rules.specs.Tags.{same_tag};
 ghost use Rattle.balise_rules.specs.Telegram.{IsLength, read_packets, read_telegram, room, shown, used, version_of};
 ghost use Rattle.balise_telegram.specs.Faults.{refusal_of};
-ghost use Rattle.balise_telegram.specs.Setting.{SetsField, SetsHead};
+ghost use Rattle.balise_telegram.specs.Packed.{links_at};
+ghost use Rattle.balise_telegram.specs.Setting.{field_at, SetsField, SetsHead};
 
 use crate::PacketTag;
 use crate::fault::TelegramFault;
 use crate::header::Header;
 use balise_bits::Bits;
 use balise_layout::Packet;
-use balise_rules::Var;
+use balise_rules::{Id, Var};
 use std::alloc::Global;
 use std::marker::Model;
 
@@ -122,6 +124,16 @@ impl Telegram {
         }
     }
 
+    /// The tag and NID_PACKET of the packet at a place, from 0.
+    pub fn packet_at(&self, i: usize) -> Option<(PacketTag, u32)>
+        ensures { result ≡ option_map (λ q. (q.0, value NidPacket 0 q.1.fields)) (slice_get self.now.packets i) }
+    {
+        match self.packets.get(i) {
+            Some((tag, packet)) => Some((*tag, packet.number())),
+            None => None,
+        }
+    }
+
     /// The packet with this tag, where it stands.
     pub fn packet(&self, tag: PacketTag) -> Option<&Packet>
         ensures { option_map (λ p. p.now) result ≡ find same_tag tag self.now.packets }
@@ -130,6 +142,29 @@ impl Telegram {
             Some(i) => Some(&self.packets[i].1),
             None => None,
         }
+    }
+
+    /// The value of occurrence `k`, from 0, of a variable of the packet with this tag, where both are there.
+    pub fn field(&self, tag: PacketTag, var: Var, k: u32) -> Option<u32>
+        ensures { result ≡ field_at tag var k self.now }
+    {
+        match self.packet(tag) {
+            Some(packet) => packet.field(var, k),
+            None => None,
+        }
+    }
+
+    /// The identities of the elements of the packet with this tag, one each in order, with number 16383 kept: none
+    /// where the packet isn't there.
+    pub fn links(&self, tag: PacketTag) -> Result<Vec<Id>, TelegramFault>
+        ensures ok { IfOk result (λ links. links.items ≡ links_at tag self.now) }
+        ensures fault { IsOkUnless result TelegramFault.OutOfMemory }
+    {
+        let Some(packet) = self.packet(tag) else {
+            return Ok(Vec::new(*self.packets.allocator()));
+        };
+        let country = self.head(Var::NidC).unwrap_or(0);
+        Ok(packet.links(country)?)
     }
 
     /// The value of a variable of the header, where a header has it.

@@ -1,8 +1,8 @@
 -- The bits of bytes: joined, cut at a byte, counted, and as a number.
-use Rattle.std.proofs.Common.{◌≡◌, ℕ, zero, suc, ◌+◌, ◌*◌, ◌<◌, ◌≤◌, Bool, List, [], ◌∷◌, ◌++◌, length, take, drop, get_or, replicate, refl, sym, ap, ◌∙◌, arith, length-append}
+use Rattle.std.proofs.Common.{◌≡◌, ℕ, zero, suc, ◌+◌, ◌*◌, ◌<◌, ◌≤◌, Bool, true, false, List, [], ◌∷◌, ◌++◌, length, take, drop, get_or, replicate, refl, sym, ap, ◌∙◌, arith, length-append}
 use Rattle.std.proofs.lemmas.List.{append-nil, take_at, drop_at, take-append-drop, length-take, length-drop, take_more, take_all}
 use Rattle.std.proofs.lemmas.Grind.{flat_map-append}
-use Rattle.balise_rules.specs.Bits.{num, bits, part, zeros}
+use Rattle.balise_rules.specs.Bits.{num, bits, ones, part, zeros}
 use Rattle.balise_rules.proofs.Numbers.{length-bits, num-bits_fit, num-append}
 use Rattle.balise_bits.specs.Bytes.{byte_bits, flat}
 
@@ -40,17 +40,21 @@ pub flat-part : (first n : ℕ) (bs : List ℕ) → first + n ≤ length bs → 
 flat-part first n bs h =
     sym (take-flat n (drop first bs) (omega (arith, length-drop first bs))) ∙ ap (take (8 * n)) (sym (drop-flat first bs (omega arith)))
 
-zeros-byte : bits 8 0 ≡ zeros 8
-unfolding bits
-zeros-byte = refl
+-- one byte again and again, whose eight bits are the same
+flat-replicate : (v : ℕ) (b : Bool) (k : ℕ) → bits 8 v ≡ replicate 8 b → flat (replicate k v) ≡ replicate (8 * k) b
+flat-replicate v b zero e = flat-nil
+flat-replicate v b (suc k) e =
+    flat-cons v (replicate k v) ∙ ap (λ (x : List Bool). x ++ flat (replicate k v)) e
+    ∙ ap (λ (x : List Bool). replicate 8 b ++ x) (flat-replicate v b k e)
+    ∙ ap (λ (n : ℕ). replicate n b) (let s : suc (suc (suc (suc (suc (suc (suc (suc (8 * k)))))))) ≡ 8 * suc k = omega arith in s)
 
--- bytes of zero
 pub flat-zeros : (k : ℕ) → flat (replicate k 0) ≡ zeros (8 * k)
-flat-zeros zero = flat-nil
-flat-zeros (suc k) =
-    flat-cons 0 (replicate k 0) ∙ ap (λ (x : List Bool). x ++ flat (replicate k 0)) zeros-byte
-    ∙ ap (λ (x : List Bool). zeros 8 ++ x) (flat-zeros k)
-    ∙ ap zeros (let s : suc (suc (suc (suc (suc (suc (suc (suc (8 * k)))))))) ≡ 8 * suc k = omega arith in s)
+unfolding bits
+flat-zeros k = flat-replicate 0 false k refl
+
+pub flat-ones : (k : ℕ) → flat (replicate k 255) ≡ ones (8 * k)
+unfolding bits
+flat-ones k = flat-replicate 255 true k refl
 
 pub num-flat_nil : num (flat []) ≡ 0
 unfolding num

@@ -1,6 +1,8 @@
 -- Packed bytes: what they hold, and what stays true of them when bits are put, added or cut.
 use Rattle.std.proofs.Common.{◌≡◌, ℕ, zero, suc, ◌+◌, ◌-◌, ◌*◌, ◌/◌, ◌%◌, ◌<◌, ◌≤◌, Bool, false, List, [], ◌++◌, length, take, drop, replicate, refl, sym, ap, ◌∙◌, append_assoc, arith, length-append}
 use Rattle.std.proofs.lemmas.List.{append-nil, take_at, take_all, drop_at, drop_all, nil_from_length, take-append-drop, length-take, length-drop, length-replicate, drop-drop, replicate-append-replicate}
+use Rattle.std.specs.List.{refill}
+use borrow.Rule.Slice.PartMut.{put_mid}
 use Rattle.balise_rules.specs.Bits.{part, put_at, zeros}
 use Rattle.balise_rules.specs.Digits.{fill}
 use Rattle.balise_bits.specs.Bytes.{flat, IsPacked}
@@ -70,7 +72,7 @@ flat-middle bytes mid at first n x some low high e =
     ∙ sym (ap (put_at at x) before ∙ put_at-append_right at o x front (window ++ back) place ∙ ap (λ (l : List Bool). front ++ l) (put_at-append_left o x window back (omega (arith, size))))
 
 -- whole bytes replaced
-pub flat-bytes_put : (bytes mid : List ℕ) (to first count : ℕ) (x : List Bool) → first ≡ to / 8 → (0 < count → to % 8 ≡ 0) → to + 8 * count ≤ length (flat bytes) → length x ≡ 8 * count → flat mid ≡ x → flat (take first bytes ++ (mid ++ drop count (drop first bytes))) ≡ put_at to x (flat bytes)
+flat-bytes_put : (bytes mid : List ℕ) (to first count : ℕ) (x : List Bool) → first ≡ to / 8 → (0 < count → to % 8 ≡ 0) → to + 8 * count ≤ length (flat bytes) → length x ≡ 8 * count → flat mid ≡ x → flat (take first bytes ++ (mid ++ drop count (drop first bytes))) ≡ put_at to x (flat bytes)
 flat-bytes_put bytes mid to first zero x place aligned room size e =
     let none : x ≡ [] = nil_from_length x (omega (arith, size)) in
     let far : to + 0 ≡ to = omega arith in
@@ -89,6 +91,20 @@ flat-bytes_put bytes mid to first (suc count) x place aligned room size e =
     let near : to - 8 * first ≡ 0 = omega (arith, start) in
     flat-middle bytes mid to first n x held (omega (arith, start)) (omega (arith, start, size))
     (e ∙ sym (ap (λ (k : ℕ). put_at k x window) near ∙ over))
+
+-- the same, as a value holds them once a part of its bytes was lent and is written
+pub flat-laid : (bytes held mid : List ℕ) (to count : ℕ) (x : List Bool) → held ≡ bytes → (0 < count → to % 8 ≡ 0) → to + 8 * count ≤ 8 * length bytes → length x ≡ 8 * count → flat mid ≡ x → flat (refill (length bytes) bytes (put_mid (to / 8) (to / 8 + count - to / 8) held mid)) ≡ put_at to x (flat bytes)
+flat-laid bytes held mid to count x same aligned room long e =
+    let first = to / 8 in
+    let new = put_mid first (first + count - first) held mid in
+    let n : first + count - first ≡ count = omega arith in
+    let within : to + 8 * count ≤ length (flat bytes) = omega (arith, room, length-flat bytes) in
+    let laid : flat new ≡ put_at to x (flat bytes) =
+    ap (λ (l : List ℕ). flat (put_mid first (first + count - first) l mid)) same ∙ ap (λ (k : ℕ). flat (put_mid first k bytes mid)) n
+    ∙ flat-bytes_put bytes mid to first count x (let r : first ≡ to / 8 = omega arith in r) aligned within long e in
+    let size : length new ≡ length bytes =
+    omega (arith, sym (length-flat new) ∙ ap length laid ∙ length-put_at to x (flat bytes) (omega (arith, long, within)) ∙ length-flat bytes) in
+    ap flat (take_at new (drop (length new) bytes) (length bytes) size) ∙ laid
 
 -- bits from a place on lie in the bytes from there on
 pub part-in_bytes : (bytes : List ℕ) (len at n : ℕ) → len ≤ 8 * length bytes → at + n ≤ len → part (at % 8) n (flat (drop (at / 8) bytes)) ≡ part at n (take len (flat bytes))

@@ -45,6 +45,19 @@ fn check_refused<R: Abort>(rt: &R, alloc: Global, hex: &str, fault: BitsFault) {
 }
 
 #[test]
+fn digits_are_written_into_a_buffer(rt: HostRuntime) -> Result<(), Fail> {
+    let mut digits = Vec::new(rt.alloc());
+    let text = long(rt.alloc())?;
+    Bits::from_hex(rt.alloc(), text.as_str(), 830)?.hex_into(&mut digits)?;
+    assert_eq!(rt; digits.as_slice(), text.as_bytes());
+    Bits::from_hex(rt.alloc(), SHORT, 210)?.hex_into(&mut digits)?;
+    assert_eq!(rt; digits.as_slice(), SHORT.as_bytes());
+    Bits::new(rt.alloc()).hex_into(&mut digits)?;
+    assert!(rt; digits.is_empty());
+    Ok(())
+}
+
+#[test]
 fn wrong_texts_are_refused(rt: HostRuntime) {
     let spare = "a1007f80a0327fffffffffffffffffffffffffffffffffffffffc1";
     let cut = "a1007f80a0327fffffffffffffffffffffffffffffffffffffff";
@@ -211,7 +224,10 @@ fn ones_are_put(rt: HostRuntime) -> Result<(), Fail> {
     bits.push_zeros(80)?;
     assert_eq!(rt; bits.len(), 80);
     bits.put_ones(3, 70);
-    check_hex(&rt, &bits, "1fffffffffffffffff80")
+    check_hex(&rt, &bits, "1fffffffffffffffff80")?;
+    bits.put_ones(74, 2);
+    bits.put_ones(76, 0);
+    check_hex(&rt, &bits, "1fffffffffffffffffb0")
 }
 
 #[test]

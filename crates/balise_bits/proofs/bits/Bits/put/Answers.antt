@@ -7,6 +7,7 @@ use Rattle.balise_rules.proofs.Numbers.{length-bits}
 use Rattle.balise_bits.specs.Bytes.{flat}
 use Rattle.balise_bits.proofs.Flat.{length-flat}
 use Rattle.balise_bits.proofs.Putting.{length-put_at}
+use Rattle.balise_bits.proofs.Ones.{put_at-none}
 use Rattle.balise_bits.proofs.Packing.{length-view, flat-middle, packed_put, view-put}
 use Rattle.balise_bits.proofs.bits.Bits.put.Goals as goal
 
@@ -56,3 +57,6 @@ returns c =
     let x = bits c.args.width c.args.value in
     view-put c.self.inside.len c.args.at x c.self.inside.bytes.items (with_items c.self.inside.bytes (put_mid (c.min-first.result) (c.min-first.result + c.min-size.result - c.min-first.result) c.deref_mut.result.now c.put_over.new.window)).items c.self.invariant (omega (arith, length-bits c.args.width c.args.value)) (items c)
     ∙ ap (put_at c.args.at x) c.self.view_is
+
+pub returns-then-width-eq0 : goal.returns-then-width-eq0
+returns-then-width-eq0 c = sym (put_at-none c.args.at c.args.value c.args.self.now) ∙ ap (λ (w : ℕ). put_at c.args.at (bits w c.args.value) c.args.self.now) (sym c.if-width-eq0.true)

@@ -1,12 +1,11 @@
 use Rattle.std.proofs.Common.{sym, ap, ◌∙◌, length, take, drop, arith, ◌≡◌, ◌+◌, ◌-◌, ◌*◌, ◌/◌, ◌%◌, ◌≤◌, ℕ, List}
-use Rattle.std.proofs.lemmas.List.{length-take, length-drop, take_rest, take_at}
+use Rattle.std.proofs.lemmas.List.{length-take, length-drop, take_rest}
 use Rattle.smallvec.specs.SmallVec.{with_items}
 use borrow.Rule.Slice.PartMut.{put_mid}
 use Rattle.balise_rules.specs.Bits.{part, put_at}
 use Rattle.balise_bits.specs.Bytes.{flat}
-use Rattle.balise_bits.proofs.Flat.{length-flat}
-use Rattle.balise_bits.proofs.Putting.{length-put_at, length-part}
-use Rattle.balise_bits.proofs.Packing.{length-view, flat-bytes_put, part-in_bytes, packed_put, view-put}
+use Rattle.balise_bits.proofs.Putting.{length-part}
+use Rattle.balise_bits.proofs.Packing.{length-view, flat-laid, part-in_bytes, packed_put, view-put}
 use Rattle.balise_bits.proofs.bits.Bits.put_bytes.Goals as goal
 
 len_held : (c : goal.After-self-1) → c.self.inside.len ≡ length c.args.self.now
@@ -36,23 +35,9 @@ part_held c =
 
 items : (c : goal.After-self-1) → flat (with_items c.self.inside.bytes (put_mid (c.args.to / 8) (c.args.to / 8 + c.args.count - c.args.to / 8) c.deref_mut.result.now c.fill_shifted.new.out)).items ≡ put_at c.args.to (part c.args.at (8 * c.args.count) c.args.other.now) (flat c.self.inside.bytes.items)
 items c =
-    let to = c.args.to in
-    let first = to / 8 in
-    let count = c.args.count in
-    let mid = c.fill_shifted.new.out in
-    let bytes = c.self.inside.bytes.items in
-    let new = put_mid first (first + count - first) c.deref_mut.result.now mid in
-    let x = part c.args.at (8 * count) c.args.other.now in
     let held = len_held c in
-    let long : length x ≡ 8 * count = length-part c.args.at (8 * count) c.args.other.now c.requires.within in
-    let room : to + 8 * count ≤ length (flat bytes) = omega (arith, held, c.self.invariant.whole, length-flat bytes) in
-    let n : first + count - first ≡ count = omega arith in
-    let same : flat new ≡ put_at to x (flat bytes) =
-    ap (λ (l : List ℕ). flat (put_mid first (first + count - first) l mid)) c.deref_mut.ensures.value ∙ ap (λ (k : ℕ). flat (put_mid first k bytes mid)) n
-    ∙ flat-bytes_put bytes mid to first count x (let e : to / 8 ≡ to / 8 = omega arith in e) c.requires.aligned room long (part_held c) in
-    let size : length new ≡ length bytes =
-    omega (arith, sym (length-flat new) ∙ ap length same ∙ length-put_at to x (flat bytes) (omega (arith, long, room)) ∙ length-flat bytes) in
-    ap flat (take_at new (drop (length new) bytes) (length bytes) size) ∙ same
+    flat-laid c.self.inside.bytes.items c.deref_mut.result.now c.fill_shifted.new.out c.args.to c.args.count (part c.args.at (8 * c.args.count) c.args.other.now) c.deref_mut.ensures.value c.requires.aligned
+    (omega (arith, held, c.self.invariant.whole)) (length-part c.args.at (8 * c.args.count) c.args.other.now c.requires.within) (part_held c)
 
 pub invariant_of-self : goal.invariant_of-self
 invariant_of-self c =

@@ -11,7 +11,7 @@ use Rattle.balise_telegram.specs.Moving.{Inserts}
 
 abbrev pub telegram_held : Held → Telegram
 telegram_held (Packed y) = y
-telegram_held (Open y) = y
+telegram_held (Open y) = y.value
 
 -- It does as said, or want of memory is answered and all stays.
 abbrev pub OrWants : {A : Type 0} → (Result A TelegramFault → Telegram → Type 0) → Telegram → Result A TelegramFault → Telegram → Type 0

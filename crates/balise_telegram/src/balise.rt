@@ -33,7 +33,7 @@ pub struct Balise {
 #[derive(Debug, Drop)]
 enum Held {
     Packed(PackedTelegram),
-    Open(Telegram),
+    Open(Box<Telegram>),
 }
 
 impl Model for Balise {
@@ -187,8 +187,24 @@ impl Balise {
     {
         let held = match &self.held {
             Held::Packed(telegram) => Held::Packed(telegram.copy()?),
-            Held::Open(telegram) => Held::Open(telegram.copy()?),
+            Held::Open(telegram) => Held::Open(boxed(telegram.copy()?)?),
         };
         Ok(Balise { held })
     }
+}
+
+// A telegram opened.
+fn opened(packed: &PackedTelegram) -> Result<Box<Telegram>, TelegramFault>
+    ensures ok { IfOk result (λ b. b.value ≡ packed.now) }
+    ensures fault { IsOkUnless result TelegramFault.OutOfMemory }
+{
+    boxed(packed.open()?)
+}
+
+// The form in which packets are put in, taken out and moved. It has a place of its own, so that the other stays small.
+fn boxed(telegram: Telegram) -> Result<Box<Telegram>, TelegramFault>
+    ensures ok { IfOk result (λ b. b.value ≡ telegram) }
+    ensures fault { IsOkUnless result TelegramFault.OutOfMemory }
+{
+    Ok(Box::new(telegram.allocator(), telegram)?)
 }

@@ -217,6 +217,11 @@ impl Telegram {
         self.header.set(var, value)
     }
 
+    // Where its memory comes from.
+    pub(crate) fn allocator(&self) -> Global {
+        *self.packets.allocator()
+    }
+
     // The place of the packet with this tag.
     fn place_of(&self, tag: PacketTag) -> Option<usize>
         ensures place { result ≡ position (λ q. same_tag tag q.0) self.now.packets }

@@ -7,7 +7,7 @@ ghost use Rattle.balise_telegram.specs.Balise.{InsertsOrWants, OrWants};
 ghost use Rattle.balise_telegram.specs.Moving.{Shifts, TakesOut};
 
 use crate::PacketTag;
-use crate::balise::{Balise, Held};
+use crate::balise::{Balise, Held, opened};
 use crate::fault::TelegramFault;
 use balise_layout::Packet;
 
@@ -21,7 +21,7 @@ impl Balise {
         match &mut self.held {
             Held::Open(telegram) => telegram.take(tag),
             Held::Packed(packed) => {
-                let mut telegram = packed.open()?;
+                let mut telegram = opened(packed)?;
                 let taken = telegram.take(tag)?;
                 self.held = Held::Open(telegram);
                 Ok(taken)
@@ -45,7 +45,7 @@ impl Balise {
         match &mut self.held {
             Held::Open(telegram) => telegram.insert_after(anchor, tag, packet),
             Held::Packed(packed) => {
-                let mut telegram = match packed.open() {
+                let mut telegram = match opened(packed) {
                     Ok(telegram) => telegram,
                     Err(fault) => return Err((fault, packet)),
                 };
@@ -72,7 +72,7 @@ impl Balise {
         match &mut self.held {
             Held::Open(telegram) => telegram.put_before(next, tag, packet),
             Held::Packed(packed) => {
-                let mut telegram = match packed.open() {
+                let mut telegram = match opened(packed) {
                     Ok(telegram) => telegram,
                     Err(fault) => return Err((fault, packet)),
                 };
@@ -98,7 +98,7 @@ impl Balise {
         match &mut self.held {
             Held::Open(telegram) => telegram.shift_after(tag, anchor),
             Held::Packed(packed) => {
-                let mut telegram = packed.open()?;
+                let mut telegram = opened(packed)?;
                 let next = telegram.shift_after(tag, anchor)?;
                 self.held = Held::Open(telegram);
                 Ok(next)

@@ -55,21 +55,30 @@ stay_apart (Renumber g0 n) plan a all g h ys zs b c d =
 stay_apart (SetVar g0 t0 p v k n) plan a all g h ys zs b c d = all g h ys zs b c d
 stay_apart e plan a all g h ys zs b c d = all g h ys zs b c d
 
--- an edit within the groups
-sound_within : (e : Item) → (own : Id) → (plan : Plan) → IsReady e plan → IsSound (each (group_after e own) plan)
-sound_within e own plan r =
-    let u = distinct-each tag_test (group_after e own) plan r.sound.tags in
-    let all = differ_apart plan r.sound.identities in
+-- what an edit asks of what is put into telegrams
+abbrev pub AllFitted : Item → Plan → Type 0
+AllFitted e plan = (g : Tag) → (t : ℕ) → (y : Telegram) → telegram_at g t plan ≡ Some y → Fitted e g t (version_of y) (length y.padding) y.packets
+
+-- each group after an edit
+pub groups_kept : (e : Item) → (own : Id) → (plan : Plan) → IsSound plan → Accepted e.1 plan → AllFitted e plan → (g : Tag) → (ys : Group) → find same_tag g plan ≡ Some ys → GroupKept (new_identity e.1 g (identity_of ys)) (group_after e own g ys)
+groups_kept e own plan sound accepted fits g ys q =
+    let s = group_sound plan sound g ys q in
+    group_kept e accepted.0 own g ys s (λ t y h. let here : telegram_at g t plan ≡ Some y = simp q h in fits g t y here) (number_free e.1 accepted.0 g (identity_of ys) s.number)
+
+-- an edit within the groups, by what it asks of the plan and of what is put into its telegrams
+pub sound_parts : (e : Item) → (own : Id) → (plan : Plan) → IsSound plan → Accepted e.1 plan → AllFitted e plan → IsSound (each (group_after e own) plan)
+sound_parts e own plan sound accepted fits =
+    let u = distinct-each tag_test (group_after e own) plan sound.tags in
+    let all = differ_apart plan sound.identities in
+    let kept = groups_kept e own plan sound accepted fits in
     record {
       tags = u;
-      identities = apart_differ (each (group_after e own) plan) u (apart_each e.1 (group_after e own) plan all (λ g ys q. (kept_at g ys q).identity) (stay_apart e.1 plan r.accepted all));
-      groups = all-each_found tag_test IsSoundGroup (group_after e own) plan r.sound.tags (λ g ys q. (kept_at g ys q).sound);
+      identities = apart_differ (each (group_after e own) plan) u (apart_each e.1 (group_after e own) plan all (λ g ys q. (kept g ys q).identity) (stay_apart e.1 plan accepted all));
+      groups = all-each_found tag_test IsSoundGroup (group_after e own) plan sound.tags (λ g ys q. (kept g ys q).sound);
     }
-  where
-    kept_at : (g : Tag) → (ys : Group) → find same_tag g plan ≡ Some ys → GroupKept (new_identity e.1 g (identity_of ys)) (group_after e own g ys)
-    kept_at g ys q =
-        let s = group_sound plan r.sound g ys q in
-        group_kept e r.accepted.0 own g ys s (λ t y h. let here : telegram_at g t plan ≡ Some y = simp q h in fitted e plan r g t y here) (number_free e.1 r.accepted.0 g (identity_of ys) s.number)
+
+sound_within : (e : Item) → (own : Id) → (plan : Plan) → IsReady e plan → IsSound (each (group_after e own) plan)
+sound_within e own plan r = sound_parts e own plan r.sound r.accepted (fitted e plan r)
 
 sound_added : (s : ℕ) → (a : Option Tag) → (bs : List (List Bool)) → (plan : Plan) → IsReady (s, AddGroup a bs) plan → IsSound (put same_tag a (Fresh s, group_of bs) plan)
 sound_added s a bs plan r =

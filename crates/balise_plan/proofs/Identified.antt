@@ -1,0 +1,140 @@
+-- The identity that the element at a place names, and what edits of fields make of it.
+use Rattle.std.proofs.Common.{◌≡◌, ◌≢◌, ℕ, Bool, true, false, cond, eqb, ◌&&◌, List, [], ◌∷◌, Option, Some, None, refl, sym, ap, subst, ◌∙◌}
+use Rattle.std.specs.Prelude.{option_and_then}
+use Rattle.std.specs.Option.{option_map}
+use Rattle.std.proofs.lemmas.Bool.{true≢false, false≢true}
+use Rattle.balise_rules.specs.declared.tag.Tag.{Tag}
+use Rattle.balise_rules.specs.declared.identity.Id.{Id}
+use Rattle.balise_rules.specs.declared.variable.Var.TheVariants.{NidBg, NidC}
+use Rattle.balise_rules.specs.Tagged.{find, each, Distinct}
+use Rattle.balise_rules.specs.Tags.{Key, is_of, same_tag, same_key, same_var, same_id}
+use Rattle.balise_rules.specs.Forms.{Fields}
+use Rattle.balise_rules.specs.Packet.{Packet, field_of, value}
+use Rattle.balise_rules.specs.Telegram.{Telegram}
+use Rattle.balise_rules.specs.Plan.{Group, Plan, IsSound, country_of, telegram_at, identity_of, group_named, IdentitiesDiffer}
+use Rattle.balise_rules.specs.Names.{is_real, is_it, calls, country_at}
+use Rattle.balise_rules.specs.Accepting.{NoGroup}
+use Rattle.balise_rules.specs.Edits.{Edit, Renumber, effect, field_after, packet_after, telegram_after, head_after}
+use Rattle.balise_rules.proofs.Tests.{split_on, split_keys, tag_test, nat_test, key_test, var_test, id_test, flip_no, flip_yes}
+use Rattle.balise_rules.proofs.Lists.{find-each}
+use Rattle.balise_rules.proofs.Cases.{unsome}
+use Rattle.balise_rules.proofs.Found.{group_sound}
+use Rattle.balise_edit_laws.proofs.Naming.{no_group_from, no_group_to}
+use Rattle.balise_edit_laws.proofs.Identities.{AllApart, differ_apart}
+use Rattle.balise_rules.proofs.Each.{found_later}
+use Rattle.balise_plan.specs.declared.links.LinkPlace.{LinkPlace}
+use Rattle.balise_plan.specs.Links.{named_at, named_in_telegram, named_in_packet}
+
+abbrev pub id_in_packet : ℕ → ℕ → Packet → Option Id
+id_in_packet c k x = option_map (λ v. record { country = country_at c k x.fields; number = v }) (field_of NidBg k x.fields)
+
+abbrev pub id_in_telegram : LinkPlace → Telegram → Option Id
+id_in_telegram w y = option_and_then (id_in_packet (country_of y) w.element) (find same_tag w.packet y.packets)
+
+-- the identity of the element at a place
+abbrev pub id_at : LinkPlace → Plan → Option Id
+id_at w plan = option_and_then (id_in_telegram w) (telegram_at w.group w.telegram plan)
+
+abbrev pub is_the : Id → Option Id → Bool
+is_the q None = false
+is_the q (Some j) = same_id j q
+
+calls-is : (c k : ℕ) (fs : Fields) (q : Id) (o : Option ℕ) → is_it (country_at c k fs) q o ≡ is_the q (option_map (λ v. record { country = country_at c k fs; number = v }) o)
+calls-is c k fs q None = refl
+calls-is c k fs q (Some v) = refl
+
+in-packet : (c k : ℕ) (q : Id) (o : Option Packet) → named_in_packet c q k o ≡ is_the q (option_and_then (id_in_packet c k) o)
+in-packet c k q None = refl
+in-packet c k q (Some x) = calls-is c k x.fields q (field_of NidBg k x.fields)
+
+in-telegram : (w : LinkPlace) (q : Id) (o : Option Telegram) → named_in_telegram q w o ≡ is_the q (option_and_then (id_in_telegram w) o)
+in-telegram w q None = refl
+in-telegram w q (Some y) = in-packet (country_of y) w.element q (find same_tag w.packet y.packets)
+
+pub named-is : (q : Id) (w : LinkPlace) (plan : Plan) → named_at q w plan ≡ (is_real q && is_the q (id_at w plan))
+named-is q w plan = ap (λ b. is_real q && b) (in-telegram w q (telegram_at w.group w.telegram plan))
+
+-- ---- countries stay
+
+pub country-each : (h : Key → ℕ → ℕ) → ((key : Key) (v : ℕ) → is_of NidC key ≡ true → h key v ≡ v) → (c k : ℕ) (fs : Fields) → country_at c k (each h fs) ≡ country_at c k fs
+country-each h s c k [] = refl
+country-each h s c k (y ∷ ys) =
+    split_on (is_of NidC y.0)
+    (λ e. let a = s y.0 y.1 e in simp (e, a) (country-each h s y.1 k ys))
+    (λ e. split_on (same_key (NidBg, k) y.0) (λ d. simp (e, d)) (λ d. simp (e, d) (country-each h s c k ys)))
+
+value-each : (h : Key → ℕ → ℕ) → ((v : ℕ) → h (NidC, 0) v ≡ v) → (fs : Fields) → value NidC 0 (each h fs) ≡ value NidC 0 fs
+value-each h s fs = by (find same_key (NidC, 0) fs) refl
+  where
+    by : (o : Option ℕ) → find same_key (NidC, 0) fs ≡ o → value NidC 0 (each h fs) ≡ value NidC 0 fs
+    by None e = let a : find same_key (NidC, 0) (each h fs) ≡ None = find-each key_test h (NidC, 0) fs ∙ ap (option_map (h (NidC, 0))) e in simp (a, e)
+    by (Some v) e = let a : find same_key (NidC, 0) (each h fs) ≡ Some (h (NidC, 0) v) = find-each key_test h (NidC, 0) fs ∙ ap (option_map (h (NidC, 0))) e in let b = s v in simp (a, e, b)
+
+-- ---- an edit of fields
+
+-- what a change of each field makes of the element k of a packet, where it leaves countries
+link-after : (h : Key → ℕ → ℕ) (r : Id → Id) (c k : ℕ) (x : Packet) → ((key : Key) (v : ℕ) → is_of NidC key ≡ true → h key v ≡ v)
+    → ((v : ℕ) → record { country = country_at c k x.fields; number = h (NidBg, k) v } ≡ r (record { country = country_at c k x.fields; number = v }))
+    → id_in_packet c k (record { fields = each h x.fields; rest = x.rest }) ≡ option_map r (id_in_packet c k x)
+link-after h r c k x s e = by (field_of NidBg k x.fields) refl
+  where
+    same : country_at c k (each h x.fields) ≡ country_at c k x.fields
+    same = country-each h s c k x.fields
+    by : (o : Option ℕ) → field_of NidBg k x.fields ≡ o → id_in_packet c k (record { fields = each h x.fields; rest = x.rest }) ≡ option_map r (id_in_packet c k x)
+    by None n = let a : field_of NidBg k (each h x.fields) ≡ None = find-each key_test h (NidBg, k) x.fields ∙ ap (option_map (h (NidBg, k))) n in simp (a, n)
+    by (Some v) n = let a : field_of NidBg k (each h x.fields) ≡ Some (h (NidBg, k) v) = find-each key_test h (NidBg, k) x.fields ∙ ap (option_map (h (NidBg, k))) n in let b = e v in simp (a, n, same) (ap Some b)
+
+-- what an edit of fields makes of the element at a place
+pub id-after : (w : LinkPlace) (r : Id → Id) (hh : Telegram → Key → ℕ → ℕ) (hf : Telegram → Tag → Packet → Key → ℕ → ℕ) (plan new : Plan) →
+    telegram_at w.group w.telegram new ≡ option_map (λ y. record { head = each (hh y) y.head; packets = each (λ p x. record { fields = each (hf y p x) x.fields; rest = x.rest }) y.packets; padding = y.padding }) (telegram_at w.group w.telegram plan) →
+    ((y : Telegram) (v : ℕ) → hh y (NidC, 0) v ≡ v) →
+    ((y : Telegram) (p : Tag) (x : Packet) (key : Key) (v : ℕ) → is_of NidC key ≡ true → hf y p x key v ≡ v) →
+    ((y : Telegram) (p : Tag) (x : Packet) (k v : ℕ) → record { country = country_at (country_of y) k x.fields; number = hf y p x (NidBg, k) v } ≡ r (record { country = country_at (country_of y) k x.fields; number = v })) →
+    id_at w new ≡ option_map r (id_at w plan)
+id-after w r hh hf plan new e sh sf link = by (telegram_at w.group w.telegram plan) refl
+  where
+    after : Telegram → Telegram
+    after y = record { head = each (hh y) y.head; packets = each (λ p x. record { fields = each (hf y p x) x.fields; rest = x.rest }) y.packets; padding = y.padding }
+    inner : (y : Telegram) (o : Option Packet) → find same_tag w.packet y.packets ≡ o → id_in_telegram w (after y) ≡ option_map r (id_in_telegram w y)
+    inner y None n = let a : find same_tag w.packet (after y).packets ≡ None = find-each tag_test _ w.packet y.packets ∙ ap (option_map _) n in simp (a, n)
+    inner y (Some x) n =
+        let a = find-each tag_test (λ p x. record { fields = each (hf y p x) x.fields; rest = x.rest }) w.packet y.packets ∙ ap (option_map _) n in
+        let c : country_of (after y) ≡ country_of y = value-each (hh y) (sh y) y.head in
+        ap (option_and_then (id_in_packet (country_of (after y)) w.element)) a
+        ∙ ap (λ d. id_in_packet d w.element (record { fields = each (hf y w.packet x) x.fields; rest = x.rest })) c
+        ∙ link-after (hf y w.packet x) r (country_of y) w.element x (sf y w.packet x) (link y w.packet x w.element)
+        ∙ ap (λ o. option_map r (option_and_then (id_in_packet (country_of y) w.element) o)) (sym n)
+    by : (o : Option Telegram) → telegram_at w.group w.telegram plan ≡ o → id_at w new ≡ option_map r (id_at w plan)
+    by None n = let a = e ∙ ap (option_map after) n in ap (option_and_then (id_in_telegram w)) a ∙ ap (λ o. option_map r (option_and_then (id_in_telegram w) o)) (sym n)
+    by (Some y) n = let a = e ∙ ap (option_map after) n in ap (option_and_then (id_in_telegram w)) a ∙ inner y (find same_tag w.packet y.packets) refl ∙ ap (λ o. option_map r (option_and_then (id_in_telegram w) o)) (sym n)
+
+-- ---- the group of an identity
+
+first-named : (i : Id) (xs : Plan) → IdentitiesDiffer xs → (g : Tag) (ys : Group) → find same_tag g xs ≡ Some ys → same_id (identity_of ys) i ≡ true → option_map (λ (y : Tag × Group). y.0) (group_named i xs) ≡ Some g
+first-named i [] d g ys e m = absurd cc
+first-named i (y ∷ rest) d g ys e m =
+    split_keys tag_test g y.0
+    (λ t q. let w : Some y.1 ≡ Some ys = simp t at e in
+    let n : same_id (identity_of y.1) i ≡ true = ap (λ z. same_id (identity_of z) i) (unsome w) ∙ m in
+    simp n (sym (ap Some q)))
+    (λ t. let w : find same_tag g rest ≡ Some ys = simp t at e in
+    split_on (same_id (identity_of y.1) i)
+    (λ n. absurd (let o = no_group_from (identity_of y.1) rest d.0 g ys w in
+      let k : same_id (identity_of ys) (identity_of y.1) ≡ true = ap (same_id (identity_of ys)) (id_test.one (identity_of y.1) i n) ∙ m in
+      true≢false (sym k ∙ o)))
+    (λ n. simp n (first-named i rest d.1 g ys w m)))
+
+pub tag-named : (i : Id) (plan : Plan) → IsSound plan → (g : Tag) (ys : Group) → find same_tag g plan ≡ Some ys → same_id (identity_of ys) i ≡ true → option_map (λ (y : Tag × Group). y.0) (group_named i plan) ≡ Some g
+tag-named i plan s g ys e m = first-named i plan s.identities g ys e m
+
+-- the group that is found by its identity
+pub named-found : (i : Id) (plan : Plan) → Distinct same_tag plan → (y : Tag × Group) → group_named i plan ≡ Some y → (find same_tag y.0 plan ≡ Some y.1) × (same_id (identity_of y.1) i ≡ true)
+named-found i [] u y e = absurd cc
+named-found i (z ∷ zs) u y e =
+    split_on (same_id (identity_of z.1) i)
+    (λ m. let w : Some z ≡ Some y = simp m at e in
+      subst (λ x. (find same_tag x.0 (z ∷ zs) ≡ Some x.1) × (same_id (identity_of x.1) i ≡ true)) (unsome w)
+      (let r = tag_test.itself z.0 in (simp r, m)))
+    (λ m. let w : group_named i zs ≡ Some y = simp m at e in
+      let h = named-found i zs u.1 y w in
+      (found_later tag_test z zs u.0 y.0 y.1 h.0, h.1))

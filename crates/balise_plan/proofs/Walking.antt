@@ -1,0 +1,257 @@
+-- Changes of elements at places, one after another, as one change of each field.
+use Rattle.std.proofs.Common.{◌≡◌, ◌-◌, ℕ, Bool, true, false, cond, eqb, ◌&&◌, ◌||◌, List, [], ◌∷◌, Option, Some, None, refl, sym, ap, subst, ◌∙◌}
+use Rattle.std.specs.Option.{option_map}
+use Rattle.std.specs.List.{list_any}
+use Rattle.std.proofs.lemmas.Bool.{true≢false}
+use Rattle.balise_rules.specs.declared.tag.Tag.{Tag}
+use Rattle.balise_rules.specs.declared.variable.Var.{Var}
+use Rattle.balise_rules.specs.declared.variable.Var.TheVariants.{NidBg, QLinkorientation}
+use Rattle.balise_rules.specs.Tagged.{find, each, Distinct}
+use Rattle.balise_rules.specs.Tags.{Key, is_of, same_tag, same_var, same_key}
+use Rattle.balise_plan.specs.Links.{is_place}
+use Rattle.balise_plan.proofs.Comparing.{place_one, place_is}
+use Rattle.balise_rules.specs.Forms.{Fields}
+use Rattle.balise_rules.specs.Packet.{Packet, value, field_of}
+use Rattle.balise_rules.specs.Telegram.{Telegram}
+use Rattle.balise_rules.specs.Plan.{Group, Plan}
+use Rattle.balise_rules.proofs.Tests.{IsTest, split_on, flip_yes, flip_no, tag_test, nat_test, key_test}
+use Rattle.balise_rules.proofs.Distincts.{distinct-each}
+use Rattle.balise_rules.proofs.Lists.{find-each}
+use Rattle.balise_rules.proofs.Cases.{unsome}
+use Rattle.balise_layout.specs.Setting.{flipped, renamed}
+use Rattle.balise_telegram.specs.Setting.{with_changed}
+use Rattle.balise_plan.specs.declared.links.LinkPlace.{LinkPlace}
+use Rattle.balise_plan.specs.declared.change.Change.{Change}
+use Rattle.balise_plan.specs.declared.change.Change.TheVariants.{Name, Flip}
+use Rattle.balise_plan.specs.Walks.{among, Once, changed, in_group, change_at, change_all}
+
+pub distinct-change : (c : Change) (w : LinkPlace) (plan : Plan) → Distinct same_tag plan → Distinct same_tag (change_at c w plan)
+distinct-change c w plan u = distinct-each tag_test _ plan u
+
+-- ---- lists
+
+pub each-id : {K A : Type 0} (xs : List (K × A)) → each (λ k a. a) xs ≡ xs
+each-id [] = refl
+each-id (y ∷ ys) = ap (λ l. y ∷ l) (each-id ys)
+
+pub each-each : {K A : Type 0} (f g : K → A → A) (xs : List (K × A)) → each f (each g xs) ≡ each (λ k a. f k (g k a)) xs
+each-each f g [] = refl
+each-each f g (y ∷ ys) = ap (λ l. (y.0, f y.0 (g y.0 y.1)) ∷ l) (each-each f g ys)
+
+pub each-same : {K A : Type 0} (f g : K → A → A) (xs : List (K × A)) → ((k : K) (a : A) → f k a ≡ g k a) → each f xs ≡ each g xs
+each-same f g [] h = refl
+each-same f g (y ∷ ys) h = ap (λ a. (y.0, a) ∷ each f ys) (h y.0 y.1) ∙ ap (λ l. (y.0, g y.0 y.1) ∷ l) (each-same f g ys h)
+
+-- where each key stands once, it is enough for what is found
+pub each-found : {K A : Type 0} {same : K → K → Bool} → IsTest same → (f g : K → A → A) (xs : List (K × A)) → Distinct same xs → ((k : K) (a : A) → find same k xs ≡ Some a → f k a ≡ g k a) → each f xs ≡ each g xs
+each-found t f g [] u h = refl
+each-found {K} {A} {same = same} t f g (y ∷ ys) u h =
+    let i = t.itself y.0 in
+    ap (λ a. (y.0, a) ∷ each f ys) (h y.0 y.1 (simp i))
+    ∙ ap (λ l. (y.0, g y.0 y.1) ∷ l) (each-found t f g ys u.1 (λ k a e. h k a (later k a e)))
+  where
+    later : (k : K) (a : A) → find same k ys ≡ Some a → find same k (y ∷ ys) ≡ Some a
+    later k a e =
+        split_on (same k y.0)
+        (λ d. absurd (let n : find same k ys ≡ None = ap (λ r. find same r ys) (t.one k y.0 d) ∙ u.0 in let z : Some a ≡ None = sym e ∙ n in cc))
+        (λ d. simp d e)
+
+pub cond-each : {K A : Type 0} (b : Bool) (f : K → A → A) (xs : List (K × A)) → cond b (each f xs) xs ≡ each (λ k a. cond b (f k a) a) xs
+cond-each true f xs = refl
+cond-each false f xs = sym (each-id xs)
+
+-- ---- levels
+
+abbrev pub Hit : Type 0
+Hit = Tag → ℕ → Tag → Key → ℕ → ℕ
+
+abbrev pub packet_fields : (Key → ℕ → ℕ) → Packet → Packet
+packet_fields h x = record { fields = each h x.fields; rest = x.rest }
+
+abbrev pub telegram_fields : (Tag → Key → ℕ → ℕ) → Telegram → Telegram
+telegram_fields h y = record { head = y.head; packets = each (λ p x. packet_fields (h p) x) y.packets; padding = y.padding }
+
+abbrev pub group_fields : (ℕ → Tag → Key → ℕ → ℕ) → Group → Group
+group_fields h ys = each (λ t y. telegram_fields (h t) y) ys
+
+-- each field of each packet changed
+abbrev pub all_fields : Hit → Plan → Plan
+all_fields h plan = each (λ g ys. group_fields (h g) ys) plan
+
+packet-same : (h k : Key → ℕ → ℕ) → ((key : Key) (v : ℕ) → h key v ≡ k key v) → (x : Packet) → packet_fields h x ≡ packet_fields k x
+packet-same h k e x = ap (λ (fs : Fields). record { fields = fs; rest = x.rest }) (each-same h k x.fields e)
+
+abbrev pub parts : Fields → List Bool → List (Tag × Packet) → Telegram
+parts head padding ps = record { head = head; packets = ps; padding = padding }
+
+pub all-same : (h k : Hit) → ((g : Tag) (t : ℕ) (p : Tag) (key : Key) (v : ℕ) → h g t p key v ≡ k g t p key v) → (plan : Plan) → all_fields h plan ≡ all_fields k plan
+all-same h k e plan =
+    each-same _ _ plan (λ g ys. each-same _ _ ys (λ t y. ap (parts y.head y.padding) (each-same _ _ y.packets (λ p x. packet-same (h g t p) (k g t p) (e g t p) x))))
+
+pub all-all : (h k : Hit) (plan : Plan) → all_fields h (all_fields k plan) ≡ all_fields (λ g t p key v. h g t p key (k g t p key v)) plan
+all-all h k plan =
+    each-each _ _ plan ∙ each-same _ _ plan (λ g ys. each-each _ _ ys ∙ each-same _ _ ys (λ t y. ap (parts y.head y.padding) (each-each _ _ y.packets ∙ each-same _ _ y.packets (λ p x.
+    ap (λ (fs : Fields). record { fields = fs; rest = x.rest }) (each-each (h g t p) (k g t p) x.fields)))))
+
+pub all-id : (plan : Plan) → all_fields (λ g t p key v. v) plan ≡ plan
+all-id plan =
+    each-same _ (λ g ys. ys) plan (λ g ys. each-same _ (λ t y. y) ys (λ t y. ap (parts y.head y.padding) (each-same _ (λ p x. x) y.packets (λ p x. ap (λ (fs : Fields). record { fields = fs; rest = x.rest }) (each-id x.fields)) ∙ each-id y.packets)) ∙ each-id ys) ∙ each-id plan
+
+-- ---- one place
+
+-- what is done to a field of an element
+abbrev pub element_after : Change → ℕ → Key → ℕ → ℕ
+element_after (Name n) k key v = cond (same_key (NidBg, k) key) n v
+element_after Flip k key v = cond (same_key (QLinkorientation, k) key) (1 - v) v
+
+-- whether a place is in this packet
+abbrev pub in_packet : LinkPlace → Tag → ℕ → Tag → Bool
+in_packet w g t p = same_tag w.group g && (eqb w.telegram t && same_tag w.packet p)
+
+abbrev pub once : Change → LinkPlace → Hit
+once c w g t p key v = cond (in_packet w g t p) (element_after c w.element key v) v
+
+abbrev pub all_once : Change → List LinkPlace → Hit
+all_once c [] g t p key v = v
+all_once c (w ∷ ws) g t p key v = all_once c ws g t p key (once c w g t p key v)
+
+-- each key stands once, at each level
+pub record KeyedPacket (x : Packet) : Type 0 where
+  pub fields : Distinct same_key x.fields
+
+pub record KeyedTelegram (y : Telegram) : Type 0 where
+  pub tags : Distinct same_tag y.packets
+  pub packets : (p : Tag) (x : Packet) → find same_tag p y.packets ≡ Some x → KeyedPacket x
+
+pub record KeyedGroup (ys : Group) : Type 0 where
+  pub tags : Distinct eqb ys
+  pub telegrams : (t : ℕ) (y : Telegram) → find eqb t ys ≡ Some y → KeyedTelegram y
+
+pub record Keyed (plan : Plan) : Type 0 where
+  pub tags : Distinct same_tag plan
+  pub groups : (g : Tag) (ys : Group) → find same_tag g plan ≡ Some ys → KeyedGroup ys
+
+changed-fields : (c : Change) (k : ℕ) (x : Packet) → KeyedPacket x → changed c k x ≡ packet_fields (element_after c k) x
+changed-fields (Name n) k x u = refl
+changed-fields Flip k x u =
+    ap (λ (fs : Fields). record { fields = fs; rest = x.rest }) (each-found key_test _ _ x.fields u.fields (λ key v e.
+    split_on (same_key (QLinkorientation, k) key)
+    (λ d. let q : value QLinkorientation k x.fields ≡ v = (let o : field_of QLinkorientation k x.fields ≡ Some v = ap (λ j. find same_key j x.fields) (key_test.one (QLinkorientation, k) key d) ∙ e in simp o) in
+      simp d (ap (λ a. 1 - a) q))
+    (λ d. simp d)))
+
+cond-packet : (b : Bool) (h : Key → ℕ → ℕ) (x : Packet) → cond b (packet_fields h x) x ≡ packet_fields (λ key v. cond b (h key v) v) x
+cond-packet true h x = refl
+cond-packet false h x = ap (λ (fs : Fields). record { fields = fs; rest = x.rest }) (sym (each-id x.fields))
+
+cond-telegram : (b : Bool) (h : Tag → Packet → Packet) (y : Telegram) → cond b (parts y.head y.padding (each h y.packets)) y ≡ parts y.head y.padding (each (λ p x. cond b (h p x) x) y.packets)
+cond-telegram true h y = refl
+cond-telegram false h y = ap (parts y.head y.padding) (sym (each-id y.packets))
+
+three : {A : Type 0} (a b c : Bool) (x y : A) → cond a (cond b (cond c x y) y) y ≡ cond (a && (b && c)) x y
+three true true c x y = refl
+three true false c x y = refl
+three false b c x y = refl
+
+pub change-fields : (c : Change) (w : LinkPlace) (plan : Plan) → Keyed plan → change_at c w plan ≡ all_fields (once c w) plan
+change-fields c w plan u =
+    each-found tag_test _ _ plan u.tags (λ g ys e. let ug = u.groups g ys e in
+    cond-each (same_tag w.group g) _ ys ∙ each-found nat_test _ _ ys ug.tags (λ t y f. let uy = ug.telegrams t y f in
+    ap (λ (z : Telegram). cond (same_tag w.group g) z y) (cond-telegram (eqb w.telegram t) _ y) ∙ cond-telegram (same_tag w.group g) _ y ∙ ap (parts y.head y.padding) (each-found tag_test _ _ y.packets uy.tags (λ p x i.
+    three (same_tag w.group g) (eqb w.telegram t) (same_tag w.packet p) (changed c w.element x) x
+    ∙ ap (λ (z : Packet). cond (in_packet w g t p) z x) (changed-fields c w.element x (uy.packets p x i))
+    ∙ cond-packet (in_packet w g t p) (element_after c w.element) x))))
+
+-- ---- keys stay
+
+pub found-each : {K A P : Type 0} {same : K → K → Bool} → IsTest same → (f : K → A → A) (k : K) (y : A) (xs : List (K × A)) → find same k (each f xs) ≡ Some y → ((x : A) → find same k xs ≡ Some x → y ≡ f k x → P) → P
+found-each {K} {A} {P} {same = same} t f k y xs e g = by (find same k xs) refl
+  where
+    by : (o : Option A) → find same k xs ≡ o → P
+    by None n = absurd (let z : Some y ≡ None = sym e ∙ find-each t f k xs ∙ ap (option_map (f k)) n in cc)
+    by (Some x) n = g x n (let z : Some y ≡ Some (f k x) = sym e ∙ find-each t f k xs ∙ ap (option_map (f k)) n in unsome z)
+
+pub keyed-all : (h : Hit) (plan : Plan) → Keyed plan → Keyed (all_fields h plan)
+keyed-all h plan u = record {
+    tags = distinct-each tag_test _ plan u.tags;
+    groups = λ g zs e. found-each tag_test _ g zs plan e (λ ys f q. subst KeyedGroup (sym q) (let ug = u.groups g ys f in record {
+      tags = distinct-each nat_test _ ys ug.tags;
+      telegrams = λ t z i. found-each nat_test _ t z ys i (λ y j r. subst KeyedTelegram (sym r) (let uy = ug.telegrams t y j in record {
+        tags = distinct-each tag_test _ y.packets uy.tags;
+        packets = λ p w k. found-each tag_test _ p w y.packets k (λ x l s. subst KeyedPacket (sym s) (record { fields = distinct-each key_test _ x.fields (uy.packets p x l).fields })) })) })) }
+
+pub change-all : (c : Change) (ws : List LinkPlace) (plan : Plan) → Keyed plan → change_all c ws plan ≡ all_fields (all_once c ws) plan
+change-all c [] plan u = sym (all-id plan)
+change-all c (w ∷ ws) plan u =
+    let e = change-fields c w plan u in
+    ap (change_all c ws) e ∙ change-all c ws (all_fields (once c w) plan) (keyed-all (once c w) plan u) ∙ all-all (all_once c ws) (once c w) plan
+
+-- ---- places among others
+
+abbrev pub place : Tag → ℕ → Tag → ℕ → LinkPlace
+place g t p k = record { group = g; telegram = t; packet = p; element = k }
+
+-- what is done to a field of the element at a place among these
+abbrev pub among_after : Change → List LinkPlace → Hit
+among_after (Name n) ws g t p key v = cond (is_of NidBg key && among (place g t p key.1) ws) n v
+among_after Flip ws g t p key v = cond (is_of QLinkorientation key && among (place g t p key.1) ws) (1 - v) v
+
+swapped : {K : Type 0} {same : K → K → Bool} → IsTest same → (a b : K) → same a b ≡ same b a
+swapped {same = same} t a b = split_on (same a b) (λ e. e ∙ sym (flip_yes t a b e)) (λ e. e ∙ sym (flip_no t a b e))
+
+shuffle : (a b c d e : Bool) → ((a && (b && c)) && (d && e)) ≡ (d && (a && (b && (c && e))))
+shuffle true true true true e = refl
+shuffle true true true false e = refl
+shuffle true true false true e = refl
+shuffle true true false false e = refl
+shuffle true false c true e = refl
+shuffle true false c false e = refl
+shuffle false b c true e = refl
+shuffle false b c false e = refl
+
+here_is : (g : Tag) (t : ℕ) (p : Tag) (var : Var) (key : Key) (w : LinkPlace) → (in_packet w g t p && same_key (var, w.element) key) ≡ (is_of var key && is_place (place g t p key.1) w)
+here_is g t p var key w =
+    shuffle (same_tag w.group g) (eqb w.telegram t) (same_tag w.packet p) (same_var var key.0) (eqb w.element key.1)
+    ∙ ap (λ a. same_var var key.0 && (a && (eqb w.telegram t && (same_tag w.packet p && eqb w.element key.1)))) (swapped tag_test w.group g)
+    ∙ ap (λ a. same_var var key.0 && (same_tag g w.group && (a && (same_tag w.packet p && eqb w.element key.1)))) (swapped nat_test w.telegram t)
+    ∙ ap (λ a. same_var var key.0 && (same_tag g w.group && (eqb t w.telegram && (a && eqb w.element key.1)))) (swapped tag_test w.packet p)
+    ∙ ap (λ a. same_var var key.0 && (same_tag g w.group && (eqb t w.telegram && (same_tag p w.packet && a)))) (swapped nat_test w.element key.1)
+    ∙ ap (λ a. same_var var key.0 && a) (sym (place_is (place g t p key.1) w))
+
+two : (a b : Bool) (n v : ℕ) → cond a (cond b n v) v ≡ cond (a && b) n v
+two true b n v = refl
+two false b n v = refl
+
+once_name : (n : ℕ) (w : LinkPlace) (g : Tag) (t : ℕ) (p : Tag) (key : Key) (v : ℕ) → once (Name n) w g t p key v ≡ cond (is_of NidBg key && is_place (place g t p key.1) w) n v
+once_name n w g t p key v = two (in_packet w g t p) (same_key (NidBg, w.element) key) n v ∙ ap (λ b. cond b n v) (here_is g t p NidBg key w)
+
+once_flip : (w : LinkPlace) (g : Tag) (t : ℕ) (p : Tag) (key : Key) (v : ℕ) → once Flip w g t p key v ≡ cond (is_of QLinkorientation key && is_place (place g t p key.1) w) (1 - v) v
+once_flip w g t p key v = two (in_packet w g t p) (same_key (QLinkorientation, w.element) key) (1 - v) v ∙ ap (λ b. cond b (1 - v) v) (here_is g t p QLinkorientation key w)
+
+either_name : (a b c : Bool) (n v : ℕ) → cond (a && c) n (cond (a && b) n v) ≡ cond (a && (b || c)) n v
+either_name true true true n v = refl
+either_name true true false n v = refl
+either_name true false c n v = refl
+either_name false b c n v = refl
+
+either_flip : (a b c : Bool) (v : ℕ) → (b ≡ true → c ≡ false) → cond (a && c) (1 - cond (a && b) (1 - v) v) (cond (a && b) (1 - v) v) ≡ cond (a && (b || c)) (1 - v) v
+either_flip true true true v h = absurd (true≢false (h refl))
+either_flip true true false v h = refl
+either_flip true false c v h = refl
+either_flip false b c v h = refl
+
+none : (a : Bool) (n v : ℕ) → v ≡ cond (a && false) n v
+none true n v = refl
+none false n v = refl
+
+pub all-name : (n : ℕ) (ws : List LinkPlace) (g : Tag) (t : ℕ) (p : Tag) (key : Key) (v : ℕ) → all_once (Name n) ws g t p key v ≡ among_after (Name n) ws g t p key v
+all-name n [] g t p key v = none (is_of NidBg key) n v
+all-name n (w ∷ ws) g t p key v =
+    ap (all_once (Name n) ws g t p key) (once_name n w g t p key v) ∙ all-name n ws g t p key _ ∙ either_name (is_of NidBg key) (is_place (place g t p key.1) w) (among (place g t p key.1) ws) n v
+
+-- a place that isn't twice in the list
+pub all-flip : (ws : List LinkPlace) → Once ws → (g : Tag) (t : ℕ) (p : Tag) (key : Key) (v : ℕ) → all_once Flip ws g t p key v ≡ among_after Flip ws g t p key v
+all-flip [] u g t p key v = none (is_of QLinkorientation key) (1 - v) v
+all-flip (w ∷ ws) u g t p key v =
+    ap (all_once Flip ws g t p key) (once_flip w g t p key v) ∙ all-flip ws u.1 g t p key _
+    ∙ either_flip (is_of QLinkorientation key) (is_place (place g t p key.1) w) (among (place g t p key.1) ws) v (λ e. ap (λ x. among x ws) (place_one (place g t p key.1) w e) ∙ u.0)

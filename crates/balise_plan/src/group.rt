@@ -1,0 +1,71 @@
+//! A group: its telegrams under their tags.
+
+mod changes;
+mod turning;
+
+ghost use Rattle.std.specs.Prelude.{◌≡◌, eqb, length, option_map, slice_get, position};
+ghost use Rattle.balise_rules.specs.Plan.{Group as GroupValue, identity_of};
+
+use balise_rules::{Id, Var};
+use balise_telegram::Balise;
+use std::marker::Model;
+
+/// A group.
+#[derive(Debug, Drop)]
+pub struct Group {
+    telegrams: Vec<(u32, Balise)>,
+}
+
+impl Model for Group {
+    ghost use Rattle.std.specs.Prelude.{eqb};
+    ghost use Rattle.balise_rules.specs.Plan as rules;
+    ghost use Rattle.balise_rules.specs.Tagged.{Distinct};
+
+    ghost Value = { rules.Group };
+
+    ghost view = { λ g. g.telegrams.items };
+
+    ghost invariant = { λ g. Distinct eqb g.telegrams.items };
+}
+
+impl Group {
+    /// Its identity: that of its first telegram.
+    pub fn identity(&self) -> Id
+        ensures { result ≡ identity_of self.now }
+    {
+        match self.telegrams.get(0) {
+            Some((_, telegram)) => Id {
+                country: telegram.head(Var::NidC).unwrap_or(0),
+                number: telegram.head(Var::NidBg).unwrap_or(0),
+            },
+            None => Id {
+                country: 0,
+                number: 0,
+            },
+        }
+    }
+
+    /// How many telegrams it has.
+    pub fn count(&self) -> usize
+        ensures { result ≡ length self.now }
+    {
+        self.telegrams.len()
+    }
+
+    /// The telegram at a place, with its tag.
+    pub fn at(&self, pig: usize) -> Option<(u32, &Balise)>
+        ensures { option_map (λ p. (p.0, p.1.now)) result ≡ slice_get self.now pig }
+    {
+        match self.telegrams.get(pig) {
+            Some((tag, telegram)) => Some((*tag, telegram)),
+            None => None,
+        }
+    }
+}
+
+// The place of the telegram with this tag.
+fn find(telegrams: &Vec<(u32, Balise)>, t: u32) -> Option<usize>
+    ensures { result ≡ position (λ q. eqb t q.0) telegrams.now.items }
+{
+    telegrams.iter().position(|q| t == q.0)
+}

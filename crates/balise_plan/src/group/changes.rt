@@ -1,0 +1,112 @@
+//! A change of one telegram of a group.
+
+ghost use Rattle.balise_plan.specs.Within.{Within, Passed, no_telegram};
+ghost use Rattle.balise_plan.specs.Walks.{changed, in_group, with_number, FitsName};
+ghost use Rattle.std.specs.Prelude.{eqb, ◌≡◌, ◌<◌, ◌^◌};
+ghost use Rattle.balise_telegram.specs.Setting.{SetsField, SetsHead};
+ghost use Rattle.balise_telegram.specs.Balise.{OrWants};
+ghost use Rattle.balise_telegram.specs.Moving.{TakesOut, Shifts};
+
+use crate::change::Change;
+use crate::group::{Group, find};
+use balise_layout::Packet;
+use balise_rules::{Refusal, Tag, Var};
+use balise_telegram::Balise;
+
+impl Group {
+    /// Sets a field of a packet of one telegram.
+    pub fn set_field(&mut self, t: u32, p: Tag, var: Var, k: u32, value: u32) -> Result<u32, Refusal>
+        ensures { Within eqb t no_telegram (Passed (SetsField p var k value)) self.old result self.new }
+    {
+        let Some(i) = find(&self.telegrams, t) else {
+            return Err(Refusal::NoSuchTelegram);
+        };
+        let telegram = &mut self.telegrams[i].1;
+        let old = match telegram.set_field(p, var, k, value) {
+            Ok(old) => old,
+            Err(fault) => return Err(fault.refusal()),
+        };
+        Ok(old)
+    }
+
+    /// Sets a field of the header of one telegram.
+    pub fn set_head(&mut self, t: u32, var: Var, value: u32) -> Result<u32, Refusal>
+        ensures { Within eqb t no_telegram (Passed (SetsHead var value)) self.old result self.new }
+    {
+        let Some(i) = find(&self.telegrams, t) else {
+            return Err(Refusal::NoSuchTelegram);
+        };
+        let telegram = &mut self.telegrams[i].1;
+        let old = match telegram.set_head(var, value) {
+            Ok(old) => old,
+            Err(fault) => return Err(fault.refusal()),
+        };
+        Ok(old)
+    }
+
+    /// Takes a packet out of one telegram.
+    pub fn take_packet(&mut self, t: u32, p: Tag) -> Result<(Packet, Option<Tag>), Refusal>
+        ensures { Within eqb t no_telegram (Passed (TakesOrWants p)) self.old result self.new }
+    {
+        let Some(i) = find(&self.telegrams, t) else {
+            return Err(Refusal::NoSuchTelegram);
+        };
+        let telegram = &mut self.telegrams[i].1;
+        let taken = match telegram.take(p) {
+            Ok(taken) => taken,
+            Err(fault) => return Err(fault.refusal()),
+        };
+        Ok(taken)
+    }
+
+    /// Moves a packet within one telegram.
+    pub fn shift_packet(&mut self, t: u32, p: Tag, anchor: Option<Tag>) -> Result<Option<Tag>, Refusal>
+        ensures { Within eqb t no_telegram (Passed (ShiftsOrWants p anchor)) self.old result self.new }
+    {
+        let Some(i) = find(&self.telegrams, t) else {
+            return Err(Refusal::NoSuchTelegram);
+        };
+        let telegram = &mut self.telegrams[i].1;
+        let next = match telegram.shift_after(p, anchor) {
+            Ok(next) => next,
+            Err(fault) => return Err(fault.refusal()),
+        };
+        Ok(next)
+    }
+
+    /// Changes one element. Takes no memory.
+    pub(crate) fn change_link(&mut self, t: u32, p: Tag, k: u32, change: Change)
+        requires { FitsName change }
+        ensures { self.new ≡ in_group t p (changed change k) self.old }
+    {
+        let Some(i) = find(&self.telegrams, t) else {
+            return;
+        };
+        let telegram = &mut self.telegrams[i].1;
+        if let Change::Name(number) = change {
+            telegram.name_link(p, k, number);
+            return;
+        }
+        telegram.flip_link(p, k);
+    }
+
+    /// Another number in each header. Takes no memory.
+    pub(crate) fn put_number(&mut self, number: u32)
+        requires { number < 2 ^ 14 }
+        ensures { self.new ≡ with_number number self.old }
+    {
+        number_each(&mut self.telegrams, number);
+    }
+}
+
+// Another number in each header.
+#[tactic(auto, unfolding(balise_rules::specs::Variables::width_of))]
+fn number_each(telegrams: &mut Vec<(u32, Balise)>, number: u32)
+    requires { number < 2 ^ 14 }
+    ensures { telegrams.new.items ≡ with_number number telegrams.old.items }
+{
+    for i in 0..telegrams.len() {
+        let telegram = &mut telegrams[i].1;
+        telegram.put_head(Var::NidBg, number);
+    }
+}

@@ -1,0 +1,18 @@
+//! Plans: groups under their tags, in order, with an index of identities and one of names.
+#![tactic(auto)]
+
+mod change;
+mod group;
+mod links;
+mod links_of;
+mod names;
+mod plan;
+mod walk;
+
+pub use balise_bits::Bits;
+pub use balise_layout::{Id, Packet, Var};
+pub use balise_rules::{Refusal, Refusal as PlanFault, Tag, Tag as GroupTag};
+pub use balise_telegram::{Balise, Telegram};
+pub use group::Group;
+pub use links::LinkPlace;
+pub use plan::Plan;

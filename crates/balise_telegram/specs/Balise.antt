@@ -14,9 +14,9 @@ telegram_held (Packed y) = y
 telegram_held (Open y) = y.value
 
 -- It does as said, or want of memory is answered and all stays.
-abbrev pub OrWants : {A : Type 0} → (Result A TelegramFault → Telegram → Type 0) → Telegram → Result A TelegramFault → Telegram → Type 0
-OrWants does old (Ok r) new = does (Ok r) new
-OrWants does old (Err e) new = ((e ≡ OutOfMemory) × (new ≡ old)) ⊎ does (Err e) new
+abbrev pub OrWants : {A : Type 0} → (Telegram → Result A TelegramFault → Telegram → Type 0) → Telegram → Result A TelegramFault → Telegram → Type 0
+OrWants does old (Ok r) new = does old (Ok r) new
+OrWants does old (Err e) new = ((e ≡ OutOfMemory) × (new ≡ old)) ⊎ does old (Err e) new
 
 -- The same of a packet that is put in, which is handed back then.
 abbrev pub InsertsOrWants : Bool → Packet → List (Tag × Packet) → Telegram → Result Unit (TelegramFault × Packet) → Telegram → Type 0

@@ -16,7 +16,7 @@ impl Balise {
     ///
     /// Refused, and then all stays: `NoSuchPacket`. `OutOfMemory` may stand in place of any answer.
     pub fn take(&mut self, tag: PacketTag) -> Result<(Packet, Option<PacketTag>), TelegramFault>
-        ensures { OrWants (TakesOut tag self.old) self.old result self.new }
+        ensures { OrWants (TakesOut tag) self.old result self.new }
     {
         match &mut self.held {
             Held::Open(telegram) => telegram.take(tag),
@@ -93,7 +93,7 @@ impl Balise {
         tag: PacketTag,
         anchor: Option<PacketTag>,
     ) -> Result<Option<PacketTag>, TelegramFault>
-        ensures { OrWants (Shifts tag anchor self.old) self.old result self.new }
+        ensures { OrWants (Shifts tag anchor) self.old result self.new }
     {
         match &mut self.held {
             Held::Open(telegram) => telegram.shift_after(tag, anchor),

@@ -46,7 +46,7 @@ impl Group {
 
     /// Takes a packet out of one telegram.
     pub fn take_packet(&mut self, t: u32, p: Tag) -> Result<(Packet, Option<Tag>), Refusal>
-        ensures { Within eqb t no_telegram (Passed (TakesOrWants p)) self.old result self.new }
+        ensures { Within eqb t no_telegram (Passed (OrWants (TakesOut p))) self.old result self.new }
     {
         let Some(i) = find(&self.telegrams, t) else {
             return Err(Refusal::NoSuchTelegram);
@@ -61,7 +61,7 @@ impl Group {
 
     /// Moves a packet within one telegram.
     pub fn shift_packet(&mut self, t: u32, p: Tag, anchor: Option<Tag>) -> Result<Option<Tag>, Refusal>
-        ensures { Within eqb t no_telegram (Passed (ShiftsOrWants p anchor)) self.old result self.new }
+        ensures { Within eqb t no_telegram (Passed (OrWants (Shifts p anchor))) self.old result self.new }
     {
         let Some(i) = find(&self.telegrams, t) else {
             return Err(Refusal::NoSuchTelegram);

@@ -1,13 +1,13 @@
 -- Q_DIR stands once in a packet, as its second field: no table has it again.
-use Rattle.std.proofs.Common.{◌≡◌, ℕ, zero, suc, ◌+◌, ◌<◌, Bool, true, false, cond, ◌||◌, ◌&&◌, eqb, List, [], ◌∷◌, Some, refl, sym, ap, ◌∙◌, arith}
+use Rattle.std.proofs.Common.{◌≡◌, ℕ, zero, suc, Bool, true, false, cond, ◌||◌, eqb, List, [], ◌∷◌, Some, refl, sym, ap, ◌∙◌, arith}
 use Rattle.balise_rules.specs.declared.variable.Var.{Var}
 use Rattle.balise_rules.specs.declared.variable.Var.TheVariants.{QDir}
 use Rattle.balise_rules.specs.Tagged.{find}
 use Rattle.balise_rules.specs.Tags.{Key, is_of, same_var, same_key}
-use Rattle.balise_rules.specs.Forms.{Form, done, shut, never, valued, repeat, Fields, Matches, count_of, Numbered}
+use Rattle.balise_rules.specs.Forms.{Form, done, shut, never, valued, repeat, Fields, Matches, count_of}
 use Rattle.balise_rules.specs.Packets.{packet, counted, link, linking, gradient, gradients, difference, section, speeds, level, levels, restriction, revocation, infill, is_known, known_body, body}
 use Rattle.balise_rules.specs.Packet.{Packet, IsSpelt}
-use Rattle.balise_rules.proofs.Tests.{split_on, var_test}
+use Rattle.balise_rules.proofs.Tests.{var_test}
 use Rattle.balise_rules.proofs.Keys.{found_counted}
 
 -- no field of a form has the variable
@@ -41,9 +41,15 @@ lacks_counted part rest p s = (refl, λ n. lacks_repeat n part rest p s)
 
 lacks_link : (rest : Form) → Lacks rest → Lacks (link rest)
 unfolding link
-lacks_link rest s = (refl, λ d. (refl, λ new. lacks_if (eqb new 1) _ _
-    (refl, λ c. (refl, λ a. (refl, λ o. (refl, λ r. (refl, λ l. s)))))
-    (refl, λ a. (refl, λ o. (refl, λ r. (refl, λ l. s))))))
+lacks_link rest s = (
+  refl,
+  λ d. (
+    refl,
+    λ new. lacks_if (eqb new 1) _ _
+        (refl, λ c. (refl, λ a. (refl, λ o. (refl, λ r. (refl, λ l. s)))))
+        (refl, λ a. (refl, λ o. (refl, λ r. (refl, λ l. s)))),
+  ),
+)
 
 lacks_gradient : (rest : Form) → Lacks rest → Lacks (gradient rest)
 unfolding gradient

@@ -1,26 +1,22 @@
 -- The identity that the element at a place names, and what edits of fields make of it.
-use Rattle.std.proofs.Common.{◌≡◌, ◌≢◌, ℕ, Bool, true, false, cond, eqb, ◌&&◌, List, [], ◌∷◌, Option, Some, None, refl, sym, ap, subst, ◌∙◌}
+use Rattle.std.proofs.Common.{◌≡◌, ℕ, Bool, true, false, ◌&&◌, [], ◌∷◌, Option, Some, None, refl, sym, ap, subst, ◌∙◌}
 use Rattle.std.specs.Prelude.{option_and_then}
 use Rattle.std.specs.Option.{option_map}
-use Rattle.std.proofs.lemmas.Bool.{true≢false, false≢true}
+use Rattle.std.proofs.lemmas.Bool.{true≢false}
 use Rattle.balise_rules.specs.declared.tag.Tag.{Tag}
 use Rattle.balise_rules.specs.declared.identity.Id.{Id}
 use Rattle.balise_rules.specs.declared.variable.Var.TheVariants.{NidBg, NidC}
 use Rattle.balise_rules.specs.Tagged.{find, each, Distinct}
-use Rattle.balise_rules.specs.Tags.{Key, is_of, same_tag, same_key, same_var, same_id}
+use Rattle.balise_rules.specs.Tags.{Key, is_of, same_tag, same_key, same_id}
 use Rattle.balise_rules.specs.Forms.{Fields}
 use Rattle.balise_rules.specs.Packet.{Packet, field_of, value}
 use Rattle.balise_rules.specs.Telegram.{Telegram}
 use Rattle.balise_rules.specs.Plan.{Group, Plan, IsSound, country_of, telegram_at, identity_of, group_named, IdentitiesDiffer}
-use Rattle.balise_rules.specs.Names.{is_real, is_it, calls, country_at}
-use Rattle.balise_rules.specs.Accepting.{NoGroup}
-use Rattle.balise_rules.specs.Edits.{Edit, Renumber, effect, field_after, packet_after, telegram_after, head_after}
-use Rattle.balise_rules.proofs.Tests.{split_on, split_keys, tag_test, nat_test, key_test, var_test, id_test, flip_no, flip_yes}
+use Rattle.balise_rules.specs.Names.{is_real, is_it, country_at}
+use Rattle.balise_rules.proofs.Tests.{split_on, split_keys, tag_test, key_test, id_test}
 use Rattle.balise_rules.proofs.Lists.{find-each}
 use Rattle.balise_rules.proofs.Cases.{unsome}
-use Rattle.balise_rules.proofs.Found.{group_sound}
-use Rattle.balise_edit_laws.proofs.Naming.{no_group_from, no_group_to}
-use Rattle.balise_edit_laws.proofs.Identities.{AllApart, differ_apart}
+use Rattle.balise_edit_laws.proofs.Naming.{no_group_from}
 use Rattle.balise_rules.proofs.Each.{found_later}
 use Rattle.balise_plan.specs.declared.links.LinkPlace.{LinkPlace}
 use Rattle.balise_plan.specs.Links.{named_at, named_in_telegram, named_in_packet}
@@ -80,6 +76,7 @@ link-after h r c k x s e = by (field_of NidBg k x.fields) refl
   where
     same : country_at c k (each h x.fields) ≡ country_at c k x.fields
     same = country-each h s c k x.fields
+
     by : (o : Option ℕ) → field_of NidBg k x.fields ≡ o → id_in_packet c k (record { fields = each h x.fields; rest = x.rest }) ≡ option_map r (id_in_packet c k x)
     by None n = let a : field_of NidBg k (each h x.fields) ≡ None = find-each key_test h (NidBg, k) x.fields ∙ ap (option_map (h (NidBg, k))) n in simp (a, n)
     by (Some v) n = let a : field_of NidBg k (each h x.fields) ≡ Some (h (NidBg, k) v) = find-each key_test h (NidBg, k) x.fields ∙ ap (option_map (h (NidBg, k))) n in let b = e v in simp (a, n, same) (ap Some b)
@@ -95,6 +92,7 @@ id-after w r hh hf plan new e sh sf link = by (telegram_at w.group w.telegram pl
   where
     after : Telegram → Telegram
     after y = record { head = each (hh y) y.head; packets = each (λ p x. record { fields = each (hf y p x) x.fields; rest = x.rest }) y.packets; padding = y.padding }
+
     inner : (y : Telegram) (o : Option Packet) → find same_tag w.packet y.packets ≡ o → id_in_telegram w (after y) ≡ option_map r (id_in_telegram w y)
     inner y None n = let a : find same_tag w.packet (after y).packets ≡ None = find-each tag_test _ w.packet y.packets ∙ ap (option_map _) n in simp (a, n)
     inner y (Some x) n =
@@ -104,6 +102,7 @@ id-after w r hh hf plan new e sh sf link = by (telegram_at w.group w.telegram pl
         ∙ ap (λ d. id_in_packet d w.element (record { fields = each (hf y w.packet x) x.fields; rest = x.rest })) c
         ∙ link-after (hf y w.packet x) r (country_of y) w.element x (sf y w.packet x) (link y w.packet x w.element)
         ∙ ap (λ o. option_map r (option_and_then (id_in_packet (country_of y) w.element) o)) (sym n)
+
     by : (o : Option Telegram) → telegram_at w.group w.telegram plan ≡ o → id_at w new ≡ option_map r (id_at w plan)
     by None n = let a = e ∙ ap (option_map after) n in ap (option_and_then (id_in_telegram w)) a ∙ ap (λ o. option_map r (option_and_then (id_in_telegram w) o)) (sym n)
     by (Some y) n = let a = e ∙ ap (option_map after) n in ap (option_and_then (id_in_telegram w)) a ∙ inner y (find same_tag w.packet y.packets) refl ∙ ap (λ o. option_map r (option_and_then (id_in_telegram w) o)) (sym n)
@@ -120,8 +119,8 @@ first-named i (y ∷ rest) d g ys e m =
     (λ t. let w : find same_tag g rest ≡ Some ys = simp t at e in
     split_on (same_id (identity_of y.1) i)
     (λ n. absurd (let o = no_group_from (identity_of y.1) rest d.0 g ys w in
-      let k : same_id (identity_of ys) (identity_of y.1) ≡ true = ap (same_id (identity_of ys)) (id_test.one (identity_of y.1) i n) ∙ m in
-      true≢false (sym k ∙ o)))
+    let k : same_id (identity_of ys) (identity_of y.1) ≡ true = ap (same_id (identity_of ys)) (id_test.one (identity_of y.1) i n) ∙ m in
+    true≢false (sym k ∙ o)))
     (λ n. simp n (first-named i rest d.1 g ys w m)))
 
 pub tag-named : (i : Id) (plan : Plan) → IsSound plan → (g : Tag) (ys : Group) → find same_tag g plan ≡ Some ys → same_id (identity_of ys) i ≡ true → option_map (λ (y : Tag × Group). y.0) (group_named i plan) ≡ Some g
@@ -133,8 +132,8 @@ named-found i [] u y e = absurd cc
 named-found i (z ∷ zs) u y e =
     split_on (same_id (identity_of z.1) i)
     (λ m. let w : Some z ≡ Some y = simp m at e in
-      subst (λ x. (find same_tag x.0 (z ∷ zs) ≡ Some x.1) × (same_id (identity_of x.1) i ≡ true)) (unsome w)
-      (let r = tag_test.itself z.0 in (simp r, m)))
+    subst (λ x. (find same_tag x.0 (z ∷ zs) ≡ Some x.1) × (same_id (identity_of x.1) i ≡ true)) (unsome w)
+    (let r = tag_test.itself z.0 in (simp r, m)))
     (λ m. let w : group_named i zs ≡ Some y = simp m at e in
-      let h = named-found i zs u.1 y w in
-      (found_later tag_test z zs u.0 y.0 y.1 h.0, h.1))
+    let h = named-found i zs u.1 y w in
+    (found_later tag_test z zs u.0 y.0 y.1 h.0, h.1))

@@ -1,9 +1,7 @@
 -- One field of one packet set, as the code does it through the levels, is the rules' setting.
-use Rattle.std.proofs.Common.{◌≡◌, ℕ, Bool, true, false, cond, eqb, not, ◌&&◌, List, [], ◌∷◌, Option, Some, None, Result, Ok, Err, refl, sym, ap, subst, ◌∙◌}
+use Rattle.std.proofs.Common.{◌≡◌, ℕ, Bool, true, false, cond, eqb, ◌&&◌, List, [], ◌∷◌, Option, Some, None, Result, Ok, Err, refl, sym, ap, ◌∙◌}
 use Rattle.std.specs.Prelude.{option_and_then, is_none}
-use Rattle.std.specs.Option.{option_map}
 use Rattle.std.specs.Map.{set_value}
-use Rattle.std.proofs.lemmas.Bool.{and_parts}
 use Rattle.balise_rules.specs.declared.tag.Tag.{Tag}
 use Rattle.balise_rules.specs.declared.identity.Id.{Id}
 use Rattle.balise_rules.specs.declared.refusal.Refusal.{Refusal}
@@ -15,18 +13,18 @@ use Rattle.balise_rules.specs.Tags.{Key, same_tag, same_key}
 use Rattle.balise_rules.specs.Forms.{Fields}
 use Rattle.balise_rules.specs.Packet.{Packet, field_of}
 use Rattle.balise_rules.specs.Telegram.{Telegram}
-use Rattle.balise_rules.specs.Plan.{Group, Plan, IsSound, telegram_at, packet_at, country_of}
+use Rattle.balise_rules.specs.Plan.{Group, Plan, IsSound, telegram_at, country_of}
 use Rattle.balise_rules.specs.Doing.{refusal, first_of, when, too_wide}
-use Rattle.balise_rules.specs.Edits.{SetVar, effect, field_after, telegram_after}
+use Rattle.balise_rules.specs.Edits.{SetVar, effect, field_after}
 use Rattle.balise_rules.proofs.Tests.{IsTest, split_on, tag_test, nat_test}
 use Rattle.balise_rules.proofs.Cases.{unsome}
 use Rattle.balise_rules.proofs.Found.{group_sound}
 use Rattle.balise_layout.specs.Held.{with_field as with_packet_field}
 use Rattle.balise_telegram.specs.declared.fault.TelegramFault.{TelegramFault}
 use Rattle.balise_telegram.specs.Faults.{refusal_of}
-use Rattle.balise_telegram.specs.Setting.{SetsField, field_refusal, field_at, with_changed}
+use Rattle.balise_telegram.specs.Setting.{SetsField, field_refusal, with_changed}
 use Rattle.balise_plan.specs.Within.{Within, Absent, Changed, Passed, passed, with_item, no_telegram}
-use Rattle.balise_plan.proofs.Walking.{each-id, each-same, each-found, all_fields, parts, group_fields}
+use Rattle.balise_plan.proofs.Walking.{each-id, each-same, each-found, parts}
 use Rattle.balise_plan.proofs.Spots.{absent-each, value-each}
 
 -- what a call on one telegram of a group says of the telegram that stands
@@ -72,6 +70,7 @@ module _ (s : ℕ) (own : Id) (g : Tag) (t : ℕ) (p : Tag) (v : Var) (k n : ℕ
     where
       keep : x ≡ record { fields = each (λ (key : Key) (old : ℕ). old) x.fields; rest = x.rest }
       keep = ap (λ (fs : Fields). record { fields = fs; rest = x.rest }) (sym (each-id x.fields))
+
       by : (a b d : Bool) → cond a (cond b (cond d (with_packet_field v k n x) x) x) x ≡ record { fields = each (λ key old. cond (a && (b && (d && same_key (v, k) key))) n old) x.fields; rest = x.rest }
       by true true true = refl
       by true true false = keep
@@ -86,6 +85,7 @@ module _ (s : ℕ) (own : Id) (g : Tag) (t : ℕ) (p : Tag) (v : Var) (k n : ℕ
       cond-group : (b : Bool) (f : ℕ → Telegram → Telegram) (ys : Group) → cond b (each f ys) ys ≡ each (λ u y. cond b (f u y) y) ys
       cond-group true f ys = refl
       cond-group false f ys = sym (each-id ys)
+
       two-telegrams : (a b : Bool) (y : Telegram) → cond a (cond b (with_changed p (with_packet_field v k n) y) y) y ≡ parts y.head y.padding (each (λ q x. cond a (cond b (cond (same_tag p q) (with_packet_field v k n x) x) x) x) y.packets)
       two-telegrams true true y = refl
       two-telegrams true false y = ap (parts y.head y.padding) (sym (each-id y.packets))
@@ -119,9 +119,9 @@ module _ (g : Tag) (t : ℕ) (p : Tag) (v : Var) (k n : ℕ) (plan : Plan) (soun
       by (Ok w) s i = (
         stands-is g t p v k n plan ys here x a ∙ s.0,
         c ∙ each-found nat_test _ _ ys (group_sound plan sound g ys here).tags (λ u z e.
-          split_on (eqb t u)
-          (λ d. let q : z ≡ x = unsome (sym e ∙ ap (λ j. find eqb j ys) (sym (nat_test.one t u d)) ∙ a) in simp d (s.2 ∙ ap (with_changed p (with_packet_field v k n)) (sym q)))
-          (λ d. simp d)),
+            split_on (eqb t u)
+            (λ d. let q : z ≡ x = unsome (sym e ∙ ap (λ j. find eqb j ys) (sym (nat_test.one t u d)) ∙ a) in simp d (s.2 ∙ ap (with_changed p (with_packet_field v k n)) (sym q)))
+            (λ d. simp d)),
       )
 
   pub set_plan : (was : ℕ) → InGroup t p v k n ys (Ok was) zs → (own : Id) → set_value (same_tag g) plan zs ≡ effect (0, SetVar g t p v k n) own plan

@@ -1,5 +1,5 @@
 -- What renumbering a group makes of a plan and of its indexes.
-use Rattle.std.proofs.Common.{◌≡◌, ◌≢◌, ◌<◌, ◌≤◌, ◌^◌, ◌+◌, ℕ, Bool, true, false, cond, eqb, not, ◌&&◌, ◌||◌, List, [], ◌∷◌, Option, Some, None, refl, sym, ap, subst, ◌∙◌, arith, inr}
+use Rattle.std.proofs.Common.{◌≡◌, ◌≢◌, ◌<◌, ◌≤◌, ℕ, Bool, true, false, cond, eqb, not, ◌&&◌, ◌||◌, [], ◌∷◌, Option, Some, None, refl, sym, ap, subst, ◌∙◌, arith}
 use Rattle.std.specs.Prelude.{IsTrue, is_none, nat_lt}
 use Rattle.std.specs.Option.{option_map, is_some}
 use Rattle.std.specs.BTreeMap as map
@@ -13,16 +13,16 @@ use Rattle.balise_rules.specs.declared.variable.Var.TheVariants.{NidBg, NidC}
 use Rattle.balise_rules.specs.declared.refusal.Refusal.TheVariants.{NoSuchGroup, ValueTooWide, NumberReserved, NumberTaken}
 use Rattle.balise_rules.specs.Variables.{width_of}
 use Rattle.balise_rules.specs.Bits.{fits}
-use Rattle.balise_rules.specs.Tagged.{find, each, Distinct}
+use Rattle.balise_rules.specs.Tagged.{find, each}
 use Rattle.balise_rules.specs.Tags.{Key, is_of, same_tag, same_var, same_id}
 use Rattle.balise_rules.specs.Telegram.{Telegram}
 use Rattle.balise_rules.specs.Plan.{Group, IsSound, reserved, country_of, telegram_at, identity_of, group_named}
 use Rattle.balise_rules.specs.Plan as rules
-use Rattle.balise_rules.specs.Names.{is_real, is_it, country_at, is_named}
-use Rattle.balise_rules.specs.Accepting.{Accepted, NoGroup, NoName}
+use Rattle.balise_rules.specs.Names.{is_real, country_at, is_named}
+use Rattle.balise_rules.specs.Accepting.{Accepted}
 use Rattle.balise_rules.specs.Doing.{refusal, taken, renumbered, first_of, when, done}
 use Rattle.balise_rules.specs.Notes.{note_group}
-use Rattle.balise_rules.specs.Edits.{Edit, Item, Renumber, effect, field_after, telegram_after, head_after, group_after}
+use Rattle.balise_rules.specs.Edits.{Renumber, effect, field_after, telegram_after, head_after, group_after}
 use Rattle.balise_rules.proofs.Tests.{split_on, split_keys, tag_test, nat_test, var_test, id_test, flip_no}
 use Rattle.balise_rules.proofs.Lists.{find-each}
 use Rattle.balise_rules.proofs.Cases.{unsome}
@@ -30,8 +30,6 @@ use Rattle.balise_rules.proofs.Found.{group_sound}
 use Rattle.balise_edit_laws.proofs.Naming.{no_group_from, no_group_to, no_name_from}
 use Rattle.balise_edit_laws.proofs.Identities.{differ_apart}
 use Rattle.balise_edit_laws.proofs.Refusing.{refused_exactly}
-use Rattle.balise_edit_laws.proofs.HeadsKept.{new_identity}
-use Rattle.balise_edit_laws.proofs.GroupsKept.{GroupKept}
 use Rattle.balise_edit_laws.proofs.SoundKept.{groups_kept, sound_parts}
 use Rattle.balise_plan.specs.declared.links.LinkPlace.{LinkPlace}
 use Rattle.balise_plan.specs.declared.change.Change.TheVariants.{Name}
@@ -39,7 +37,7 @@ use Rattle.balise_plan.specs.Links.{compare_id, is_id, held, in_links, named_at,
 use Rattle.balise_plan.specs.Walks.{change_all, places_of, renumbered_heads}
 use Rattle.balise_plan.specs.Held.{IsHeld, tag_named}
 use Rattle.balise_plan.proofs.Comparing.{id_is, id_itself}
-use Rattle.balise_plan.proofs.Walking.{among_after, all_fields, change-all, all-same, all-name, found-each}
+use Rattle.balise_plan.proofs.Walking.{among_after, change-all, all-same, all-name, found-each}
 use Rattle.balise_plan.specs.Walks.{among}
 use Rattle.balise_plan.proofs.Renaming.{keyed, renumber-is}
 use Rattle.balise_plan.proofs.Identified.{id_at, is_the, named-is, id-after, tag-named, named-found}
@@ -122,7 +120,7 @@ module _ (plan : rules.Plan) (sound : IsSound plan) (g0 : Tag) (ys0 : Group) (n 
         found-each tag_test (group_after (0, Renumber g0 n) from) g zs plan e (λ ys f z.
         split_keys tag_test g0 g
         (λ d k. let w : ys ≡ ys0 = unsome (sym f ∙ ap (λ u. find same_tag u plan) (sym k) ∙ here) in
-          ap (λ u. same_id (identity_of u) q) z ∙ ap (λ u. same_id (identity_of (group_after (0, Renumber g0 n) from g u)) q) w ∙ ap (λ u. same_id (identity_of (group_after (0, Renumber g0 n) from u ys0)) q) (sym k) ∙ ap (λ u. same_id u q) kept_here ∙ a)
+        ap (λ u. same_id (identity_of u) q) z ∙ ap (λ u. same_id (identity_of (group_after (0, Renumber g0 n) from g u)) q) w ∙ ap (λ u. same_id (identity_of (group_after (0, Renumber g0 n) from u ys0)) q) (sym k) ∙ ap (λ u. same_id u q) kept_here ∙ a)
         (λ d. ap (λ u. same_id (identity_of u) q) z ∙ ap (λ u. same_id u q) (kept_there g ys f d) ∙ h g ys f d))))
 
     differ : same_id from to ≡ false
@@ -132,7 +130,7 @@ module _ (plan : rules.Plan) (sound : IsSound plan) (g0 : Tag) (ys0 : Group) (n 
     tags_new q =
         split_keys id_test from q
         (λ a k. let b : same_id to q ≡ false = ap (same_id to) (sym k) ∙ flip_no id_test from to differ in
-          simp a (none_new q b (λ g ys f d. ap (same_id (identity_of ys)) (sym k) ∙ differ_apart plan sound.identities g g0 ys ys0 f here (flip_no tag_test g0 g d))))
+        simp a (none_new q b (λ g ys f d. ap (same_id (identity_of ys)) (sym k) ∙ differ_apart plan sound.identities g g0 ys ys0 f here (flip_no tag_test g0 g d))))
         (λ a. split_on (same_id to q)
         (λ b. simp (a, b) (tag-named q new new_sound g0 (group_after (0, Renumber g0 n) from g0 ys0) (new_here g0 ys0 here) (ap (λ u. same_id u q) kept_here ∙ b)))
         (λ b. simp (a, b) (by (group_named q plan) refl a b)))
@@ -142,7 +140,7 @@ module _ (plan : rules.Plan) (sound : IsSound plan) (g0 : Tag) (ys0 : Group) (n 
         by (Some y) e a b =
             let h = named-found q plan sound.tags y e in
             let d : same_tag g0 y.0 ≡ false = split_keys tag_test g0 y.0
-                (λ d k. absurd (let w : y.1 ≡ ys0 = unsome (sym h.0 ∙ ap (λ u. find same_tag u plan) (sym k) ∙ here) in true≢false (sym h.1 ∙ ap (λ u. same_id (identity_of u) q) w ∙ a))) (λ d. d) in
+            (λ d k. absurd (let w : y.1 ≡ ys0 = unsome (sym h.0 ∙ ap (λ u. find same_tag u plan) (sym k) ∙ here) in true≢false (sym h.1 ∙ ap (λ u. same_id (identity_of u) q) w ∙ a))) (λ d. d) in
             tag-named q new new_sound y.0 (group_after (0, Renumber g0 n) from y.0 y.1) (new_here y.0 y.1 h.0) (ap (λ u. same_id u q) (kept_there y.0 y.1 h.0 d) ∙ h.1)
             ∙ sym (ap (option_map (λ (y : Tag × Group). y.0)) e)
 
@@ -171,14 +169,17 @@ module _ (plan : rules.Plan) (sound : IsSound plan) (g0 : Tag) (ys0 : Group) (n 
         where
           gone : (is_real to && is_the to (id_at w plan)) ≡ false
           gone = sym (named-is to w plan) ∙ sym (index to w) ∙ ap (λ o. in_links o w) empty
+
           false-right : (b : Bool) → false ≡ (b && false)
           false-right true = refl
           false-right false = refl
+
           false-left : (a b c : Bool) → cond a (b && false) (cond c false (a && false)) ≡ false
           false-left true true c = refl
           false-left true false c = refl
           false-left false b true = refl
           false-left false b false = refl
+
           either : (a b c d : Bool) → cond a (b && false) (cond c false (d && false)) ≡ (d && false)
           either true true c true = refl
           either true true c false = refl
@@ -187,6 +188,7 @@ module _ (plan : rules.Plan) (sound : IsSound plan) (g0 : Tag) (ys0 : Group) (n 
           either false b true true = refl
           either false b true false = refl
           either false b false d = refl
+
           each-id : (o : Option Id) → (is_real to && is_the to o) ≡ false → cond (same_id to q) (is_real from && is_the from o) (cond (same_id from q) false (is_real q && is_the q o)) ≡ (is_real q && is_the q (option_map (λ j. cond (same_id j from) to j) o))
           each-id None z = either (same_id to q) (is_real from) (same_id from q) (is_real q)
           each-id (Some j) z =
@@ -194,16 +196,16 @@ module _ (plan : rules.Plan) (sound : IsSound plan) (g0 : Tag) (ys0 : Group) (n 
               let nz : same_id j to ≡ false = sym (ap (λ b. b && same_id j to) real_to) ∙ z in
               split_keys id_test to q
               (λ a k. let rq : is_real q ≡ true = ap is_real (sym k) ∙ real_to in
-                split_on (same_id j from)
-                (λ d. simp (a, d, r, rq))
-                (λ d. let jq : same_id j q ≡ false = ap (same_id j) (sym k) ∙ nz in simp (a, d, r, rq, jq)))
+              split_on (same_id j from)
+              (λ d. simp (a, d, r, rq))
+              (λ d. let jq : same_id j q ≡ false = ap (same_id j) (sym k) ∙ nz in simp (a, d, r, rq, jq)))
               (λ a. split_keys id_test from q
               (λ b k. split_on (same_id j from)
-                (λ d. simp (a, b, d) (false-right (is_real q)))
-                (λ d. let jq : same_id j q ≡ false = ap (same_id j) (sym k) ∙ d in simp (a, b, d, jq) (false-right (is_real q))))
+              (λ d. simp (a, b, d) (false-right (is_real q)))
+              (λ d. let jq : same_id j q ≡ false = ap (same_id j) (sym k) ∙ d in simp (a, b, d, jq) (false-right (is_real q))))
               (λ b. split_keys id_test j from
-                (λ d k. let jq : same_id j q ≡ false = ap (λ u. same_id u q) k ∙ b in simp (a, b, d, jq))
-                (λ d. simp (a, b, d))))
+              (λ d k. let jq : same_id j q ≡ false = ap (λ u. same_id u q) k ∙ b in simp (a, b, d, jq))
+              (λ d. simp (a, b, d))))
 
       among_is : (w : LinkPlace) → among w (places_of (map.get compare_id after to)) ≡ named_at from w plan
       among_is w = in-places (map.get compare_id after to) ∙ moves to w ∙ ap (λ b. cond b (held names from w) (cond (is_id from to) false (held names to w))) (id_itself to) ∙ index from w
@@ -260,10 +262,12 @@ module _ (plan : rules.Plan) (sound : IsSound plan) (g0 : Tag) (ys0 : Group) (n 
         held = subst (λ gs. IsHeld ids_after after gs) (sym e) (record {
           sound = new_sound plan sound g0 ys0 n here small other no_group no_name;
           tags = λ q. s.taken_out q ∙ ap (cond (is_id (identity_of ys0) q) None) (s.put q ∙ ap (cond (is_id i q) (Some g0)) (s.tags q))
-            ∙ ap (λ b. cond b None (cond (is_id i q) (Some g0) (tag_named q plan))) (id_is (identity_of ys0) q) ∙ ap (λ b. cond (same_id (identity_of ys0) q) None (cond b (Some g0) (tag_named q plan))) (id_is i q)
-            ∙ sym (tags_new plan sound g0 ys0 n here small other no_group no_name q);
+              ∙ ap (λ b. cond b None (cond (is_id i q) (Some g0) (tag_named q plan))) (id_is (identity_of ys0) q) ∙ ap (λ b. cond (same_id (identity_of ys0) q) None (cond b (Some g0) (tag_named q plan))) (id_is i q)
+              ∙ sym (tags_new plan sound g0 ys0 n here small other no_group no_name q);
           named = names_new plan sound g0 ys0 n here small other no_group no_name names s.index empty after s.moves;
-          full = s.full }) }
+          full = s.full;
+        });
+      }
 
   pub finish : (own : Id) → own ≡ identity_of ys0 → Steps plan g0 n own ids first ids_after names after walked_groups groups → Outcome plan g0 n ids_after after groups
   finish own e s = finished (subst (λ o. Steps plan g0 n o ids first ids_after names after walked_groups groups) e s)

@@ -1,37 +1,38 @@
 -- Renumbering by the index is renumbering each field that names the identity.
-use Rattle.std.proofs.Common.{◌≡◌, ◌-◌, ℕ, Bool, true, false, cond, eqb, ◌&&◌, List, [], ◌∷◌, Option, Some, None, refl, sym, ap, subst, ◌∙◌}
+use Rattle.std.proofs.Common.{◌≡◌, ℕ, Bool, true, false, cond, eqb, ◌&&◌, List, Some, refl, sym, ap, ◌∙◌}
 use Rattle.std.specs.Prelude.{option_and_then}
 use Rattle.balise_rules.specs.declared.tag.Tag.{Tag}
 use Rattle.balise_rules.specs.declared.identity.Id.{Id}
 use Rattle.balise_rules.specs.declared.variable.Var.TheVariants.{NidBg}
 use Rattle.balise_rules.specs.Tagged.{find, each, Distinct}
-use Rattle.balise_rules.specs.Tags.{Key, is_of, same_tag, same_key, same_var}
+use Rattle.balise_rules.specs.Tags.{Key, is_of, same_tag, same_key}
 use Rattle.balise_rules.specs.Forms.{Fields}
-use Rattle.balise_rules.specs.Packet.{Packet, field_of, with_value}
+use Rattle.balise_rules.specs.Packet.{Packet, with_value}
 use Rattle.balise_rules.specs.Telegram.{Telegram}
 use Rattle.balise_rules.specs.Plan.{Group, Plan, IsSound, country_of, telegram_at}
 use Rattle.balise_rules.specs.Names.{is_real, is_it, calls, country_at}
-use Rattle.balise_rules.specs.Edits.{Edit, Renumber, effect, field_after, packet_after, telegram_after, head_after}
+use Rattle.balise_rules.specs.Edits.{Renumber, effect, field_after, head_after}
 use Rattle.balise_rules.proofs.Tests.{split_on, tag_test, nat_test, key_test, var_test}
-use Rattle.balise_rules.proofs.Lists.{find-each}
 use Rattle.balise_rules.proofs.Found.{group_sound, placed, packet_spelt, fields_distinct, head_distinct}
 use Rattle.balise_edit_laws.proofs.Headers.{header_once}
-use Rattle.balise_telegram.specs.Setting.{with_head}
 use Rattle.balise_plan.specs.declared.links.LinkPlace.{LinkPlace}
-use Rattle.balise_plan.specs.declared.change.Change.TheVariants.{Name, Flip}
+use Rattle.balise_plan.specs.declared.change.Change.TheVariants.{Name}
 use Rattle.balise_plan.specs.Links.{named_at, named_in_telegram, named_in_packet}
-use Rattle.balise_plan.specs.Walks.{renumbered_heads, with_number}
-use Rattle.balise_plan.proofs.Walking.{Keyed, KeyedGroup, among_after, place, all_fields, packet_fields, telegram_fields, group_fields, parts, each-each, each-found, each-same, cond-each}
+use Rattle.balise_plan.specs.Walks.{renumbered_heads}
+use Rattle.balise_plan.proofs.Walking.{Keyed, among_after, place, all_fields, packet_fields, group_fields, parts, each-each, each-found, cond-each}
 use Rattle.balise_plan.specs.Walks.{among}
 
 pub keyed : (plan : Plan) → IsSound plan → Keyed plan
 keyed plan s = record {
-    tags = s.tags;
-    groups = λ g ys e. let sg = group_sound plan s g ys e in record {
-      tags = sg.tags;
-      telegrams = λ t y f. let sy = (placed ys sg t y f).sound in record {
-        tags = sy.tags;
-        packets = λ p x h. record { fields = fields_distinct _ x (packet_spelt y sy p x h) } } } }
+  tags = s.tags;
+  groups = λ g ys e. let sg = group_sound plan s g ys e in record {
+    tags = sg.tags;
+    telegrams = λ t y f. let sy = (placed ys sg t y f).sound in record {
+      tags = sy.tags;
+      packets = λ p x h. record { fields = fields_distinct _ x (packet_spelt y sy p x h) };
+    };
+  };
+}
 
 -- the element at a place that stands
 pub named_here : (i : Id) (plan : Plan) (g : Tag) (ys : Group) (t : ℕ) (y : Telegram) (p : Tag) (x : Packet) (k : ℕ) → find same_tag g plan ≡ Some ys → find eqb t ys ≡ Some y → find same_tag p y.packets ≡ Some x →
@@ -61,9 +62,9 @@ module _ (s : ℕ) (g0 : Tag) (n : ℕ) (i : Id) (ws : List LinkPlace) (plan : P
   head_is g t hs u once =
       cond-each (same_tag g0 g) (λ key v. cond (same_key (NidBg, 0) key) n v) hs
       ∙ each-found key_test _ _ hs u (λ key v e.
-        split_on (is_of NidBg key)
-        (λ o. let q : eqb 0 key.1 ≡ true = ap (λ (j : Key). eqb 0 j.1) (once key v e o) in simp (o, q))
-        (λ o. simp o (same_both (same_tag g0 g) v)))
+      split_on (is_of NidBg key)
+      (λ o. let q : eqb 0 key.1 ≡ true = ap (λ (j : Key). eqb 0 j.1) (once key v e o) in simp (o, q))
+      (λ o. simp o (same_both (same_tag g0 g) v)))
     where
       same_both : (b : Bool) (v : ℕ) → cond b v v ≡ v
       same_both true v = refl
@@ -84,7 +85,7 @@ module _ (s : ℕ) (g0 : Tag) (n : ℕ) (i : Id) (ws : List LinkPlace) (plan : P
       cond-telegram (same_tag g0 g) (with_value NidBg 0 n y.head) y.head y.padding (each (λ p x. packet_fields (among_after (Name n) ws g t p) x) y.packets)
       ∙ ap (λ h. parts h y.padding (each (λ p x. packet_fields (among_after (Name n) ws g t p) x) y.packets)) (head_is g t y.head (head_distinct y sy) (λ key v k o. header_once NidBg y.head sy.header sy.numbered refl key v k o))
       ∙ ap (parts (each (head_after (Renumber g0 n) g t y.head) y.head) y.padding) (each-found tag_test _ _ y.packets sy.tags (λ p x h.
-        ap (λ (fs : Fields). record { fields = fs; rest = x.rest }) (each-found key_test _ _ x.fields (fields_distinct _ x (packet_spelt y sy p x h)) (λ key v j. field_is g ys t y p x e f h key v j))))))
+      ap (λ (fs : Fields). record { fields = fs; rest = x.rest }) (each-found key_test _ _ x.fields (fields_distinct _ x (packet_spelt y sy p x h)) (λ key v j. field_is g ys t y p x e f h key v j))))))
     where
       both : (b : Bool) (f k : ℕ → Telegram → Telegram) (ys : Group) → cond b (each f ys) (each k ys) ≡ each (λ t y. cond b (f t y) (k t y)) ys
       both true f k ys = refl

@@ -1,14 +1,13 @@
 -- What setting a field that isn't a number of a link leaves of the indexes.
-use Rattle.std.proofs.Common.{◌≡◌, ℕ, Bool, true, false, cond, eqb, ◌&&◌, List, Option, None, refl, sym, ap, subst, ◌∙◌}
+use Rattle.std.proofs.Common.{◌≡◌, ℕ, Bool, true, false, cond, eqb, ◌&&◌, None, refl, sym, ap, ◌∙◌}
 use Rattle.std.specs.BTreeMap as map
 use Rattle.std.specs.BTreeSet as set
-use Rattle.std.proofs.lemmas.Bool.{true≢false, and_parts, and_right, and_left}
+use Rattle.std.proofs.lemmas.Bool.{true≢false}
 use Rattle.balise_rules.specs.declared.tag.Tag.{Tag}
 use Rattle.balise_rules.specs.declared.identity.Id.{Id}
 use Rattle.balise_rules.specs.declared.variable.Var.{Var}
 use Rattle.balise_rules.specs.declared.variable.Var.TheVariants.{NidBg, NidC}
 use Rattle.balise_rules.specs.Variables.{steers}
-use Rattle.balise_rules.specs.Tagged.{find}
 use Rattle.balise_rules.specs.Tags.{Key, is_of, same_tag, same_var, same_key}
 use Rattle.balise_rules.specs.Plan.{Group, IsSound, country_of, identity_of}
 use Rattle.balise_rules.specs.Plan as rules
@@ -46,7 +45,7 @@ module _ (plan : rules.Plan) (ids : map.BTreeMap Id Tag) (names : map.BTreeMap I
   unfolding steers
   not_country key e = split_on (same_var v key.0)
       (λ d. absurd (let q = var_test.one v key.0 d in let r = var_test.one NidC key.0 e in
-        let s : steers NidC ≡ false = ap steers (r ∙ sym q) ∙ accepted.0.0 in true≢false s))
+      let s : steers NidC ≡ false = ap steers (r ∙ sym q) ∙ accepted.0.0 in true≢false s))
       (λ d. ap (λ b. b && eqb k key.1) d)
 
   id_new : (w : LinkPlace) → id_at w new ≡ id_at w plan
@@ -62,7 +61,8 @@ module _ (plan : rules.Plan) (ids : map.BTreeMap Id Tag) (names : map.BTreeMap I
 
   pub set_held : IsHeld ids names new
   set_held = record {
-      sound = new_sound;
-      tags = λ q. held_is.tags q ∙ sym (tags-kept plan new held_is.sound new_sound (group_after (0, SetVar g t p v k n) own) refl (λ h ys e. (groups_kept (0, SetVar g t p v k n) own plan held_is.sound accepted (λ g t y h. tt) h ys e).identity) q);
-      named = λ q w. held_is.named q w ∙ named-is q w plan ∙ ap (λ o. is_real q && is_the q o) (sym (id_new w)) ∙ sym (named-is q w new);
-      full = held_is.full }
+    sound = new_sound;
+    tags = λ q. held_is.tags q ∙ sym (tags-kept plan new held_is.sound new_sound (group_after (0, SetVar g t p v k n) own) refl (λ h ys e. (groups_kept (0, SetVar g t p v k n) own plan held_is.sound accepted (λ g t y h. tt) h ys e).identity) q);
+    named = λ q w. held_is.named q w ∙ named-is q w plan ∙ ap (λ o. is_real q && is_the q o) (sym (id_new w)) ∙ sym (named-is q w new);
+    full = held_is.full;
+  }

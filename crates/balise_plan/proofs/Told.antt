@@ -1,19 +1,17 @@
 -- The index of names tells whether the plan names an identity.
-use Rattle.std.proofs.Common.{◌≡◌, ◌<◌, ℕ, Bool, true, false, ◌&&◌, List, [], ◌∷◌, length, Option, Some, None, refl, sym, ap, subst, ◌∙◌, arith, eqb}
+use Rattle.std.proofs.Common.{◌≡◌, ◌<◌, ℕ, true, false, ◌&&◌, List, [], ◌∷◌, length, Option, Some, None, refl, sym, ap, ◌∙◌, arith}
 use Rattle.std.specs.Option.{IfSome, is_some}
-use Rattle.std.specs.Prelude.{option_and_then}
 use Rattle.std.specs.BTreeMap as map
 use Rattle.std.specs.BTreeSet as set
 use Rattle.std.proofs.lemmas.Bool.{true≢false, and_parts}
 use Rattle.balise_rules.specs.declared.identity.Id.{Id}
 use Rattle.balise_rules.specs.declared.variable.Var.TheVariants.{NidBg}
 use Rattle.balise_rules.specs.Tagged.{find}
-use Rattle.balise_rules.specs.Tags.{same_tag, same_id}
+use Rattle.balise_rules.specs.Tags.{same_tag}
 use Rattle.balise_rules.specs.Packet.{Packet, field_of}
 use Rattle.balise_rules.specs.Telegram.{Telegram}
 use Rattle.balise_rules.specs.Plan.{Plan, IsSound, country_of, telegram_at}
 use Rattle.balise_rules.specs.Names.{Names, is_named, is_real, is_it, calls, country_at}
-use Rattle.balise_rules.specs.Accepting.{NoName}
 use Rattle.balise_rules.proofs.Tests.{split_on, id_test}
 use Rattle.balise_edit_laws.proofs.Naming.{no_name_from, no_name_to}
 use Rattle.balise_plan.specs.declared.links.LinkPlace.{LinkPlace}
@@ -39,9 +37,11 @@ place-names i plan w e = let h = and_parts (is_real i) _ e in in-telegram h.0 (t
     in-packet r y s x h (Some v) f c =
         let q = id_test.one (record { country = country_at (country_of y) w.element x.fields; number = v }) i c in
         record { telegram = y; stands = s; packet = x; has_packet = h; number = f ∙ ap (λ (j : Id). Some j.number) q; country = ap (λ (j : Id). j.country) q; real = r }
+
     in-packets : is_real i ≡ true → (y : Telegram) → telegram_at w.group w.telegram plan ≡ Some y → (o : Option Packet) → find same_tag w.packet y.packets ≡ o → named_in_packet (country_of y) i w.element o ≡ true → Names i w.group w.telegram w.packet w.element plan
     in-packets r y s None h c = absurd (true≢false (sym c))
     in-packets r y s (Some x) h c = in-packet r y s x h (field_of NidBg w.element x.fields) refl c
+
     in-telegram : is_real i ≡ true → (o : Option Telegram) → telegram_at w.group w.telegram plan ≡ o → named_in_telegram i w o ≡ true → Names i w.group w.telegram w.packet w.element plan
     in-telegram r None s c = absurd (true≢false (sym c))
     in-telegram r (Some y) s c = in-packets r y s (find same_tag w.packet y.packets) refl c
@@ -59,6 +59,7 @@ module _ (names : map.BTreeMap Id (set.BTreeSet LinkPlace)) (plan : Plan) (sound
           let c : set.contains compare_place s w ≡ true = ap (λ zs. set.contains compare_place (record { keys = zs }) w) k ∙ (let p = place_itself w in simp p) in
           let n : named_at i w plan ≡ true = sym (index i w) ∙ ap (λ o. in_links o w) h ∙ c in
           split_on (is_named i plan) (λ y. y) (λ y. absurd (no_name_from i plan y w.group w.telegram w.packet w.element (place-names i plan w n)))
+
       by : (o : Option (set.BTreeSet LinkPlace)) → map.get compare_id names i ≡ o → is_some o ≡ true → IfSome o (λ s. 0 < set.btree_set_len s) → is_named i plan ≡ true
       by None h y f = absurd (true≢false (sym y))
       by (Some s) h y f = some s h s.keys refl f

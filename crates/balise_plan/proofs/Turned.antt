@@ -1,26 +1,24 @@
 -- What turning a group makes of a plan and of its indexes.
-use Rattle.std.proofs.Common.{◌≡◌, ◌≢◌, ◌<◌, ◌≤◌, ◌-◌, ◌+◌, ℕ, suc, Bool, true, false, cond, eqb, not, ◌&&◌, reverse, List, [], ◌∷◌, length, Option, Some, None, refl, sym, ap, subst, ◌∙◌, arith}
+use Rattle.std.proofs.Common.{◌≡◌, ◌<◌, ◌-◌, ℕ, suc, Bool, true, false, cond, eqb, not, ◌&&◌, reverse, List, [], ◌∷◌, length, Option, Some, None, refl, sym, ap, subst, ◌∙◌, arith}
 use Rattle.std.specs.Option.{option_map}
 use Rattle.std.specs.BTreeMap as map
 use Rattle.std.specs.BTreeSet as set
-use Rattle.std.proofs.lemmas.Bool.{true≢false, ne_eqb}
+use Rattle.std.proofs.lemmas.Bool.{ne_eqb}
 use Rattle.balise_rules.specs.declared.tag.Tag.{Tag}
 use Rattle.balise_rules.specs.declared.identity.Id.{Id}
-use Rattle.balise_rules.specs.declared.variable.Var.TheVariants.{NidBg, NidC, QDir, QLinkorientation, NTotal}
+use Rattle.balise_rules.specs.declared.variable.Var.TheVariants.{NidC, QDir, QLinkorientation}
 use Rattle.balise_rules.specs.Tagged.{find, each, Distinct}
-use Rattle.balise_rules.specs.Tags.{Key, is_of, same_tag, same_id}
-use Rattle.balise_rules.specs.Packet.{value}
+use Rattle.balise_rules.specs.Tags.{Key, same_tag, same_id}
 use Rattle.balise_rules.specs.Telegram.{Telegram}
 use Rattle.balise_rules.specs.Plan.{Group, IsSound, SoundFrom, reserved, country_of, telegram_at, identity_of, group_named}
 use Rattle.balise_rules.specs.Plan as rules
-use Rattle.balise_rules.specs.Names.{is_real, calls, country_at}
-use Rattle.balise_rules.specs.Accepting.{Accepted, Stands}
+use Rattle.balise_rules.specs.Names.{is_real}
+use Rattle.balise_rules.specs.Accepting.{Accepted}
 use Rattle.balise_rules.specs.Doing.{refusal, done}
 use Rattle.balise_rules.specs.Notes.{note_group}
-use Rattle.balise_rules.specs.Edits.{Edit, TurnGroup, effect, exchanged, field_after, telegram_after, head_after, group_after}
-use Rattle.balise_rules.proofs.Tests.{split_on, tag_test, nat_test, id_test}
+use Rattle.balise_rules.specs.Edits.{TurnGroup, effect, field_after, telegram_after, head_after, group_after}
+use Rattle.balise_rules.proofs.Tests.{tag_test, nat_test}
 use Rattle.balise_rules.proofs.Lists.{find-each}
-use Rattle.balise_rules.proofs.Cases.{unsome}
 use Rattle.balise_rules.proofs.Distincts.{distinct-each}
 use Rattle.balise_rules.proofs.Found.{group_sound}
 use Rattle.balise_edit_laws.proofs.Naming.{no_group_from, no_group_to}
@@ -29,10 +27,10 @@ use Rattle.balise_rules.proofs.Reversed.{find-reverse}
 use Rattle.balise_edit_laws.proofs.SoundKept.{groups_kept, sound_parts}
 use Rattle.balise_plan.specs.declared.links.LinkPlace.{LinkPlace}
 use Rattle.balise_plan.specs.declared.change.Change.TheVariants.{Flip}
-use Rattle.balise_plan.specs.Links.{compare_id, compare_place, held, in_links, named_at}
+use Rattle.balise_plan.specs.Links.{compare_id, in_links, named_at}
 use Rattle.balise_plan.specs.Walks.{change_all, places_of, turned_in, FitsTotals, FitsIn}
 use Rattle.balise_plan.specs.Held.{IsHeld, tag_named}
-use Rattle.balise_plan.proofs.Walking.{among_after, all_fields, all_once, group_fields, change-all, all-same, all-flip, found-each}
+use Rattle.balise_plan.proofs.Walking.{among_after, all_once, group_fields, change-all, all-same, all-flip, found-each}
 use Rattle.balise_plan.specs.Walks.{among, Once}
 use Rattle.balise_plan.proofs.Renaming.{keyed}
 use Rattle.balise_plan.proofs.Renamed.{not_other}
@@ -89,9 +87,11 @@ module _ (plan : rules.Plan) (ids : map.BTreeMap Id Tag) (names : map.BTreeMap I
     where
       Y : ℕ → Telegram → Telegram
       Y t y = telegram_after (0, TurnGroup g0) (identity_of ys0) g t y
+
       either : (b : Bool) (zs : Group) → Distinct eqb zs → find eqb t (cond b (reverse zs) zs) ≡ find eqb t zs
       either true zs u = find-reverse nat_test t zs u
       either false zs u = refl
+
       by : (o : Option Group) → find same_tag g plan ≡ o → telegram_at g t new ≡ option_map (telegram_after (0, TurnGroup g0) (identity_of ys0) g t) (telegram_at g t plan)
       by None e = let a : find same_tag g new ≡ None = find-each tag_test _ g plan ∙ ap (option_map _) e in simp (a, e)
       by (Some ys) e =
@@ -112,10 +112,11 @@ module _ (plan : rules.Plan) (ids : map.BTreeMap Id Tag) (names : map.BTreeMap I
 
   new_held : IsHeld ids names new
   new_held = record {
-      sound = new_sound;
-      tags = λ q. held_is.tags q ∙ sym (tags-kept plan new held_is.sound new_sound (group_after (0, TurnGroup g0) (identity_of ys0)) refl kept q);
-      named = λ q w. held_is.named q w ∙ named-is q w plan ∙ ap (λ o. is_real q && is_the q o) (sym (id_new w)) ∙ sym (named-is q w new);
-      full = held_is.full }
+    sound = new_sound;
+    tags = λ q. held_is.tags q ∙ sym (tags-kept plan new held_is.sound new_sound (group_after (0, TurnGroup g0) (identity_of ys0)) refl kept q);
+    named = λ q w. held_is.named q w ∙ named-is q w plan ∙ ap (λ o. is_real q && is_the q o) (sym (id_new w)) ∙ sym (named-is q w new);
+    full = held_is.full;
+  }
 
   real : is_real (identity_of ys0) ≡ true
   real = ap not (ne_eqb (identity_of ys0).number reserved (group_sound plan held_is.sound g0 ys0 here).number)
@@ -131,11 +132,12 @@ module _ (plan : rules.Plan) (ids : map.BTreeMap Id Tag) (names : map.BTreeMap I
   turned walked groups once links heads =
       let ws = places_of (map.get compare_id names (identity_of ys0)) in
       let e : groups ≡ new = heads ∙ ap (turned_in g0) (links ∙ change-all Flip ws plan (keyed plan held_is.sound) ∙ all-same _ (among_after Flip ws) (λ g t p key v. all-flip ws once g t p key v) plan)
-          ∙ turn-is 0 g0 (identity_of ys0) ws plan held_is.sound real among_is in
+      ∙ turn-is 0 g0 (identity_of ys0) ws plan held_is.sound real among_is in
       record {
         accepted = (refused_exactly (TurnGroup g0) plan held_is.sound).1 accepted;
         is = e ∙ ap (λ o. effect (0, TurnGroup g0) (note_group o).own plan) (sym here);
-        held = subst (IsHeld ids names) (sym e) new_held }
+        held = subst (IsHeld ids names) (sym e) new_held;
+      }
 
   -- the same of the identity that the code has
   pub turn : (own : Id) → own ≡ identity_of ys0 → (walked groups : rules.Plan) → Once (places_of (map.get compare_id names own)) → walked ≡ change_all Flip (places_of (map.get compare_id names own)) plan → groups ≡ turned_in g0 walked → TurnOutcome plan g0 ids names groups

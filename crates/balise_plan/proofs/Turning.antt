@@ -1,19 +1,19 @@
 -- Turning by the index is turning each field that the rules turn.
-use Rattle.std.proofs.Common.{◌≡◌, ◌-◌, ℕ, Bool, true, false, cond, eqb, ◌&&◌, ◌||◌, reverse, List, [], ◌∷◌, Option, Some, None, refl, sym, ap, subst, ◌∙◌}
+use Rattle.std.proofs.Common.{◌≡◌, ◌-◌, ℕ, Bool, true, false, cond, eqb, ◌&&◌, ◌||◌, reverse, List, Some, refl, sym, ap, ◌∙◌}
 use Rattle.std.specs.Option.{option_map}
 use Rattle.std.specs.Prelude.{unwrap_or}
 use Rattle.balise_rules.specs.declared.tag.Tag.{Tag}
 use Rattle.balise_rules.specs.declared.identity.Id.{Id}
 use Rattle.balise_rules.specs.declared.variable.Var.{Var}
-use Rattle.balise_rules.specs.declared.variable.Var.TheVariants.{QLinkorientation, QDir, NidBg, NPig, NTotal, MDup}
+use Rattle.balise_rules.specs.declared.variable.Var.TheVariants.{QLinkorientation, QDir, NPig, NTotal, MDup}
 use Rattle.balise_rules.specs.Tagged.{find, each, Distinct}
 use Rattle.balise_rules.specs.Tags.{Key, is_of, same_tag, same_key, same_var}
 use Rattle.balise_rules.specs.Forms.{Fields}
-use Rattle.balise_rules.specs.Packet.{Packet, field_of, value, with_value}
+use Rattle.balise_rules.specs.Packet.{Packet, value}
 use Rattle.balise_rules.specs.Telegram.{Telegram}
-use Rattle.balise_rules.specs.Plan.{Group, Plan, IsSound, country_of, telegram_at}
-use Rattle.balise_rules.specs.Names.{is_real, is_it, calls, country_at}
-use Rattle.balise_rules.specs.Edits.{Edit, TurnGroup, effect, exchanged, field_after, packet_after, telegram_after, head_after}
+use Rattle.balise_rules.specs.Plan.{Group, Plan, IsSound, country_of}
+use Rattle.balise_rules.specs.Names.{is_real, calls}
+use Rattle.balise_rules.specs.Edits.{TurnGroup, effect, exchanged, field_after, head_after}
 use Rattle.balise_rules.proofs.Tests.{split_on, tag_test, nat_test, key_test, var_test, flip_no}
 use Rattle.balise_rules.proofs.Lists.{find-each}
 use Rattle.balise_rules.proofs.Found.{group_sound, placed, packet_spelt, fields_distinct, head_distinct}
@@ -22,12 +22,11 @@ use Rattle.balise_layout.specs.Setting.{turned}
 use Rattle.balise_plan.specs.declared.links.LinkPlace.{LinkPlace}
 use Rattle.balise_plan.specs.declared.change.Change.TheVariants.{Flip}
 use Rattle.balise_plan.specs.Links.{named_at}
-use Rattle.balise_plan.specs.Walks.{turned_in, turned_telegram, turned_telegrams, turned_head, turned_dup}
-use Rattle.balise_plan.proofs.Walking.{among_after, place, all_fields, packet_fields, telegram_fields, group_fields, parts, each-id, each-each, each-found, each-same, cond-each}
+use Rattle.balise_plan.specs.Walks.{turned_in, turned_telegram, turned_telegrams, turned_head}
+use Rattle.balise_plan.proofs.Walking.{among_after, place, all_fields, packet_fields, parts, each-id, each-each, each-found, each-same}
 use Rattle.balise_plan.specs.Walks.{among}
 use Rattle.balise_plan.proofs.Renaming.{named_here}
 use Rattle.balise_plan.proofs.DirOnce.{dir_once}
-
 use Rattle.std.proofs.lemmas.Bool.{eqb-true, or_parts}
 
 of_is : (w : Var) (key : Key) → is_of w key ≡ true → key ≡ (w, key.1)
@@ -67,13 +66,13 @@ module _ (hs : Fields) (u : Distinct same_key hs) (pig : (key : Key) (n : ℕ) �
   head_turned =
       split_on (eqb (value MDup 0 hs) 1 || eqb (value MDup 0 hs) 2)
       (λ m. simp m (each-each _ _ hs ∙ each-found key_test _ _ hs u (λ key n e.
-        split_on (is_of MDup key)
-        (λ o. let q = dup key n e o in let k = key_yes MDup key q in simp (o, k) (dup_is (value MDup 0 hs) n m (value_is MDup n hs key e q)))
-        (λ o. let k = key_no MDup key o in simp (o, k) (placed_at key n e ∙ and_true (is_of NPig key) _ _)))))
+      split_on (is_of MDup key)
+      (λ o. let q = dup key n e o in let k = key_yes MDup key q in simp (o, k) (dup_is (value MDup 0 hs) n m (value_is MDup n hs key e q)))
+      (λ o. let k = key_no MDup key o in simp (o, k) (placed_at key n e ∙ and_true (is_of NPig key) _ _)))))
       (λ m. simp m (each-found key_test _ _ hs u (λ key n e.
-        split_on (is_of MDup key)
-        (λ o. let q = dup key n e o in let z : is_of NPig key ≡ false = other MDup NPig key refl o in let k = key_no NPig key z in simp (o, k) (dup_left (value MDup 0 hs) n m (value_is MDup n hs key e q)))
-        (λ o. simp o (placed_at key n e ∙ and_true (is_of NPig key) _ _)))))
+      split_on (is_of MDup key)
+      (λ o. let q = dup key n e o in let z : is_of NPig key ≡ false = other MDup NPig key refl o in let k = key_no NPig key z in simp (o, k) (dup_left (value MDup 0 hs) n m (value_is MDup n hs key e q)))
+      (λ o. simp o (placed_at key n e ∙ and_true (is_of NPig key) _ _)))))
     where
       and_true : (b : Bool) (x y : ℕ) → cond b x y ≡ cond (b && true) x y
       and_true true x y = refl
@@ -88,6 +87,7 @@ head-is g0 g t hs u pig dup = by (same_tag g0 g)
     neither true false x y n = refl
     neither false true x y n = refl
     neither false false x y n = refl
+
     by : (b : Bool) → cond b (turned_head hs) hs ≡ each (λ key n. cond (is_of MDup key && b) (exchanged 1 2 n) (cond (is_of NPig key && b) (value NTotal 0 hs - n) n)) hs
     by true = head_turned hs u pig dup
     by false = sym (each-id hs) ∙ each-same _ _ hs (λ key n. neither (is_of MDup key) (is_of NPig key) (exchanged 1 2 n) (value NTotal 0 hs - n) n)
@@ -104,9 +104,9 @@ packet-is false h c x u once dir e = ap (λ (fs : Fields). record { fields = fs;
 packet-is true h c x u once dir e = ap (λ (fs : Fields). record { fields = fs; rest = x.rest }) (each-each _ _ x.fields ∙ each-found key_test _ _ x.fields u (λ key n k.
     split_on (is_of QDir key)
     (λ o. let q = once key n k o in let z = key_yes QDir key q in
-      let same : value QDir 0 (each h x.fields) ≡ h key n = ap (λ o. unwrap_or o 0) (find-each key_test h (QDir, 0) x.fields ∙ ap (option_map (h (QDir, 0))) (ap (λ (j : Key). find same_key j x.fields) (sym q) ∙ k)) ∙ ap (λ (j : Key). h j n) (sym q) in
-      let w : cond (is_of QDir key && true) (exchanged 0 1 (h key n)) (h key n) ≡ c key n = e key n k in
-      simp (o, z) (ap (exchanged 0 1) same ∙ (simp o at w)))
+    let same : value QDir 0 (each h x.fields) ≡ h key n = ap (λ o. unwrap_or o 0) (find-each key_test h (QDir, 0) x.fields ∙ ap (option_map (h (QDir, 0))) (ap (λ (j : Key). find same_key j x.fields) (sym q) ∙ k)) ∙ ap (λ (j : Key). h j n) (sym q) in
+    let w : cond (is_of QDir key && true) (exchanged 0 1 (h key n)) (h key n) ≡ c key n = e key n k in
+    simp (o, z) (ap (exchanged 0 1) same ∙ (simp o at w)))
     (λ o. let w : cond (is_of QDir key && true) (exchanged 0 1 (h key n)) (h key n) ≡ c key n = e key n k in simp o (simp o at w))))
 
 module _ (s : ℕ) (g0 : Tag) (i : Id) (ws : List LinkPlace) (plan : Plan) (sound : IsSound plan) (real : is_real i ≡ true) (index : (w : LinkPlace) → among w ws ≡ named_at i w plan) where
@@ -126,11 +126,12 @@ module _ (s : ℕ) (g0 : Tag) (i : Id) (ws : List LinkPlace) (plan : Plan) (soun
       cond-parts (same_tag g0 g) (turned_head y.head) y.head y.padding (λ p x. turned (packet_fields (among_after Flip ws g t p) x)) (λ p x. packet_fields (among_after Flip ws g t p) x) y.packets (each-each _ _ y.packets)
       ∙ ap (λ h. parts h y.padding (each (λ p x. cond (same_tag g0 g) (turned (packet_fields (among_after Flip ws g t p) x)) (packet_fields (among_after Flip ws g t p) x)) y.packets)) (head-is g0 g t y.head (head_distinct y sy) (λ key n k o. header_once NPig y.head sy.header sy.numbered refl key n k o) (λ key n k o. header_once MDup y.head sy.header sy.numbered refl key n k o))
       ∙ ap (parts (each (head_after (TurnGroup g0) g t y.head) y.head) y.padding) (each-found tag_test _ _ y.packets sy.tags (λ p x h. let sx = packet_spelt y sy p x h in
-        packet-is (same_tag g0 g) (among_after Flip ws g t p) (field_after (TurnGroup g0) i g t (country_of y) p x.fields) x (fields_distinct _ x sx) (λ key n k o. dir_once _ x sx key n k o) (λ n. refl) (λ key v j. field_is g ys t y p x e f h key v))))))
+      packet-is (same_tag g0 g) (among_after Flip ws g t p) (field_after (TurnGroup g0) i g t (country_of y) p x.fields) x (fields_distinct _ x sx) (λ key n k o. dir_once _ x sx key n k o) (λ n. refl) (λ key v j. field_is g ys t y p x e f h key v))))))
     where
       group-is : (b : Bool) (h k : ℕ → Telegram → Telegram) (ys : Group) → each (λ t y. cond b (turned_telegram (h t y)) (h t y)) ys ≡ each k ys → cond b (reverse (turned_telegrams (each h ys))) (each h ys) ≡ cond b (reverse (each k ys)) (each k ys)
       group-is true h k ys e = ap reverse (each-each _ _ ys ∙ e)
       group-is false h k ys e = e
+
       cond-parts : (b : Bool) (h k : Fields) (padding : List Bool) (F G : Tag → Packet → Packet) (ps : List (Tag × Packet)) {rs : List (Tag × Packet)} → rs ≡ each F ps → cond b (parts h padding rs) (parts k padding (each G ps)) ≡ parts (cond b h k) padding (each (λ p x. cond b (F p x) (G p x)) ps)
       cond-parts true h k padding F G ps e = ap (parts h padding) e
       cond-parts false h k padding F G ps e = refl

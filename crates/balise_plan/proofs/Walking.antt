@@ -1,7 +1,6 @@
 -- Changes of elements at places, one after another, as one change of each field.
 use Rattle.std.proofs.Common.{◌≡◌, ◌-◌, ℕ, Bool, true, false, cond, eqb, ◌&&◌, ◌||◌, List, [], ◌∷◌, Option, Some, None, refl, sym, ap, subst, ◌∙◌}
 use Rattle.std.specs.Option.{option_map}
-use Rattle.std.specs.List.{list_any}
 use Rattle.std.proofs.lemmas.Bool.{true≢false}
 use Rattle.balise_rules.specs.declared.tag.Tag.{Tag}
 use Rattle.balise_rules.specs.declared.variable.Var.{Var}
@@ -18,12 +17,10 @@ use Rattle.balise_rules.proofs.Tests.{IsTest, split_on, flip_yes, flip_no, tag_t
 use Rattle.balise_rules.proofs.Distincts.{distinct-each}
 use Rattle.balise_rules.proofs.Lists.{find-each}
 use Rattle.balise_rules.proofs.Cases.{unsome}
-use Rattle.balise_layout.specs.Setting.{flipped, renamed}
-use Rattle.balise_telegram.specs.Setting.{with_changed}
 use Rattle.balise_plan.specs.declared.links.LinkPlace.{LinkPlace}
 use Rattle.balise_plan.specs.declared.change.Change.{Change}
 use Rattle.balise_plan.specs.declared.change.Change.TheVariants.{Name, Flip}
-use Rattle.balise_plan.specs.Walks.{among, Once, changed, in_group, change_at, change_all}
+use Rattle.balise_plan.specs.Walks.{among, Once, changed, change_at, change_all}
 
 pub distinct-change : (c : Change) (w : LinkPlace) (plan : Plan) → Distinct same_tag plan → Distinct same_tag (change_at c w plan)
 distinct-change c w plan u = distinct-each tag_test _ plan u
@@ -137,7 +134,7 @@ changed-fields Flip k x u =
     ap (λ (fs : Fields). record { fields = fs; rest = x.rest }) (each-found key_test _ _ x.fields u.fields (λ key v e.
     split_on (same_key (QLinkorientation, k) key)
     (λ d. let q : value QLinkorientation k x.fields ≡ v = (let o : field_of QLinkorientation k x.fields ≡ Some v = ap (λ j. find same_key j x.fields) (key_test.one (QLinkorientation, k) key d) ∙ e in simp o) in
-      simp d (ap (λ a. 1 - a) q))
+    simp d (ap (λ a. 1 - a) q))
     (λ d. simp d)))
 
 cond-packet : (b : Bool) (h : Key → ℕ → ℕ) (x : Packet) → cond b (packet_fields h x) x ≡ packet_fields (λ key v. cond b (h key v) v) x
@@ -173,12 +170,15 @@ found-each {K} {A} {P} {same = same} t f k y xs e g = by (find same k xs) refl
 
 pub keyed-all : (h : Hit) (plan : Plan) → Keyed plan → Keyed (all_fields h plan)
 keyed-all h plan u = record {
-    tags = distinct-each tag_test _ plan u.tags;
-    groups = λ g zs e. found-each tag_test _ g zs plan e (λ ys f q. subst KeyedGroup (sym q) (let ug = u.groups g ys f in record {
-      tags = distinct-each nat_test _ ys ug.tags;
-      telegrams = λ t z i. found-each nat_test _ t z ys i (λ y j r. subst KeyedTelegram (sym r) (let uy = ug.telegrams t y j in record {
-        tags = distinct-each tag_test _ y.packets uy.tags;
-        packets = λ p w k. found-each tag_test _ p w y.packets k (λ x l s. subst KeyedPacket (sym s) (record { fields = distinct-each key_test _ x.fields (uy.packets p x l).fields })) })) })) }
+  tags = distinct-each tag_test _ plan u.tags;
+  groups = λ g zs e. found-each tag_test _ g zs plan e (λ ys f q. subst KeyedGroup (sym q) (let ug = u.groups g ys f in record {
+    tags = distinct-each nat_test _ ys ug.tags;
+    telegrams = λ t z i. found-each nat_test _ t z ys i (λ y j r. subst KeyedTelegram (sym r) (let uy = ug.telegrams t y j in record {
+      tags = distinct-each tag_test _ y.packets uy.tags;
+      packets = λ p w k. found-each tag_test _ p w y.packets k (λ x l s. subst KeyedPacket (sym s) (record { fields = distinct-each key_test _ x.fields (uy.packets p x l).fields }));
+    }));
+  }));
+}
 
 pub change-all : (c : Change) (ws : List LinkPlace) (plan : Plan) → Keyed plan → change_all c ws plan ≡ all_fields (all_once c ws) plan
 change-all c [] plan u = sym (all-id plan)

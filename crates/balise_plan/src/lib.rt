@@ -7,6 +7,7 @@ mod links;
 mod links_of;
 mod names;
 mod plan;
+mod spot;
 mod walk;
 
 pub use balise_bits::Bits;
@@ -16,3 +17,4 @@ pub use balise_telegram::{Balise, Telegram};
 pub use group::Group;
 pub use links::LinkPlace;
 pub use plan::Plan;
+pub use spot::Spot;

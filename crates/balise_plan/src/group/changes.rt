@@ -15,7 +15,14 @@ use balise_telegram::Balise;
 
 impl Group {
     /// Sets a field of a packet of one telegram.
-    pub fn set_field(&mut self, t: u32, p: Tag, var: Var, k: u32, value: u32) -> Result<u32, Refusal>
+    pub fn set_field(
+        &mut self,
+        t: u32,
+        p: Tag,
+        var: Var,
+        k: u32,
+        value: u32,
+    ) -> Result<u32, Refusal>
         ensures { Within eqb t no_telegram (Passed (SetsField p var k value)) self.old result self.new }
     {
         let Some(i) = find(&self.telegrams, t) else {
@@ -60,7 +67,12 @@ impl Group {
     }
 
     /// Moves a packet within one telegram.
-    pub fn shift_packet(&mut self, t: u32, p: Tag, anchor: Option<Tag>) -> Result<Option<Tag>, Refusal>
+    pub fn shift_packet(
+        &mut self,
+        t: u32,
+        p: Tag,
+        anchor: Option<Tag>,
+    ) -> Result<Option<Tag>, Refusal>
         ensures { Within eqb t no_telegram (Passed (OrWants (Shifts p anchor))) self.old result self.new }
     {
         let Some(i) = find(&self.telegrams, t) else {

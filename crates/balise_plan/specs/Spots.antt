@@ -1,0 +1,37 @@
+-- Where something is put in, and what putting a packet in makes of a plan.
+use Rattle.std.specs.Prelude.{◌≡◌, ◌⊎◌, ◌+◌, ℕ, not, nat_lt, Bool, List, [], ◌∷◌, Option, Some, None, Result, Ok, Err}
+use Rattle.balise_rules.specs.declared.tag.Tag.{Tag}
+use Rattle.balise_rules.specs.declared.refusal.Refusal.{Refusal}
+use Rattle.balise_rules.specs.declared.refusal.Refusal.TheVariants.{NoSuchPacket, NoRoom, OutOfMemory}
+use Rattle.balise_rules.specs.Tagged.{put, put_before, stands}
+use Rattle.balise_rules.specs.Tags.{same_tag}
+use Rattle.balise_rules.specs.Packet.{Packet, width}
+use Rattle.balise_rules.specs.Telegram.{room}
+use Rattle.balise_rules.specs.Plan.{telegram_at}
+use Rattle.balise_rules.specs.Plan as rules
+use Rattle.balise_rules.specs.Doing.{first_of, when, no_group, no_telegram, in_telegram}
+use Rattle.balise_rules.specs.Back.{in_packets}
+use Rattle.balise_plan.specs.declared.spot.Spot.{Spot}
+use Rattle.balise_plan.specs.declared.spot.Spot.TheVariants.{After, Before}
+use Rattle.balise_plan.specs.Held.{Plan}
+
+-- the list with an item put in there
+abbrev pub put_in : {A : Type 0} → Spot Tag → Tag × A → List (Tag × A) → List (Tag × A)
+put_in (After a) z xs = put same_tag a z xs
+put_in (Before b) z xs = put_before same_tag b z xs
+
+-- whether the neighbour stands by which the place is named
+abbrev pub spot_stands : {A : Type 0} → Spot Tag → List (Tag × A) → Bool
+spot_stands (After a) xs = stands same_tag a xs
+spot_stands (Before b) xs = stands same_tag b xs
+
+-- the first reason why a packet isn't put in
+abbrev pub put_refusal : Tag → ℕ → Spot Tag → Packet → rules.Plan → Option Refusal
+put_refusal g t s x plan = first_of (no_group g plan ∷ no_telegram g t plan
+    ∷ when (in_telegram (telegram_at g t plan) (λ y. not (spot_stands s y.packets))) NoSuchPacket
+    ∷ when (in_telegram (telegram_at g t plan) (λ y. nat_lt (room y) (width x))) NoRoom ∷ [])
+
+-- The packet stands there under the tag; or the first refusal is answered, or want of memory, the packet is handed back and all stays.
+abbrev pub PutsPacket : Tag → ℕ → Spot Tag → Tag → Packet → Plan → Result Unit (Refusal × Packet) → Plan → Type 0
+PutsPacket g t s p x old (Ok u) new = (put_refusal g t s x old.groups ≡ None) × (new ≡ record { groups = in_packets g t (put_in s (p, x)) old.groups; changes = old.changes + 1 })
+PutsPacket g t s p x old (Err e) new = ((e.0 ≡ OutOfMemory) ⊎ (put_refusal g t s x old.groups ≡ Some e.0)) × (e.1 ≡ x) × (new ≡ old)

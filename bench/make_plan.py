@@ -47,21 +47,21 @@ def telegram(width, pig, total, packets):
     return int(bits.ljust(width, "1"), 2) << -width % 8
 
 
-def samples(make):
-    return [make(i) for i in range(1000)]
+def single(i):
+    return telegram(210, 0, 1, linking(1) + packet(66, some(8)) + (packet(44, some(16)) if i % 3 == 0 else ""))
 
 
 random.seed(1)
-single = samples(lambda i: telegram(210, 0, 1, linking(1) + packet(66, some(8)) + (packet(44, some(16)) if i % 3 == 0 else "")))
-first = samples(lambda i: telegram(830, 0, 2, linking(4) + others()))
-second = samples(lambda i: telegram(210, 1, 2, packet(66, some(8))))
+singles = [single(i) for i in range(1000)]
+firsts = [telegram(830, 0, 2, linking(4) + others()) for _ in range(1000)]
+seconds = [telegram(210, 1, 2, packet(66, some(8))) for _ in range(1000)]
 
 sys.stdout.write("plan 1\n")
 for i in range(int(sys.argv[1])):
     identity = 1 + i // 16000 << 14 | i % 16000  # NID_C and NID_BG, bits 25 to 48
     short, long, k = identity << 210 - 49 + 6, identity << 830 - 49 + 2, i % 1000
     if i % 4 < 3:
-        sys.stdout.write(f"group\n{single[k] | short:054x}\n")
+        sys.stdout.write(f"group\n{singles[k] | short:054x}\n")
     else:
-        sys.stdout.write(f"group\n{first[k] | long:0208x}\n{second[k] | short:054x}\n")
+        sys.stdout.write(f"group\n{firsts[k] | long:0208x}\n{seconds[k] | short:054x}\n")
 sys.stdout.write("edits\n")

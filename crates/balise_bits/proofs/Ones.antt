@@ -4,6 +4,8 @@ use Rattle.std.proofs.Math.Nat.{pow-suc, mod-eq_of_lt}
 use Rattle.std.proofs.lemmas.Nat.{pow-add, shr_high}
 use Rattle.std.proofs.lemmas.List.{take-append-drop, length-replicate, replicate-append-replicate}
 use Rattle.balise_rules.specs.Bits.{num, bits, ones, put_at}
+use Rattle.balise_bits.specs.Bytes.{flat}
+use Rattle.balise_bits.proofs.Flat.{flat-nil, flat-cons}
 use Rattle.balise_bits.proofs.Pieces.{same_bits}
 use Rattle.balise_bits.proofs.Putting.{put_at-put_at}
 
@@ -14,24 +16,36 @@ num-ones (suc n) =
     let p : 2 ^ length (replicate n true) ≡ 2 ^ n = ap (λ (k : ℕ). 2 ^ k) (length-replicate n true) in
     omega (arith, num-ones n, p, pow-suc 2 n)
 
--- the largest number of w bits, cut from that of 32
-pub all_ones : (w : ℕ) → w ≤ 32 → 4294967295 / 2 ^ (32 - w) ≡ num (ones w)
+-- the largest number of w bits, cut from that of 8
+pub all_ones : (w : ℕ) → w ≤ 8 → 255 / 2 ^ (8 - w) ≡ num (ones w)
 all_ones w h =
-    let k = 32 - w in
-    let whole : 2 ^ w * 2 ^ k ≡ 4294967296 = sym (pow-add 2 w k) ∙ ap (λ (x : ℕ). 2 ^ x) (let e : w + k ≡ 32 = omega arith in e) in
+    let k = 8 - w in
+    let whole : 2 ^ w * 2 ^ k ≡ 256 = sym (pow-add 2 w k) ∙ ap (λ (x : ℕ). 2 ^ x) (let e : w + k ≡ 8 = omega arith in e) in
     let low : num (ones k) < 2 ^ k = omega (arith, num-ones k) in
-    let pieces : num (ones w) * 2 ^ k + num (ones k) ≡ 4294967295 =
-    let distributed : (num (ones w) + 1) * 2 ^ k ≡ 4294967296 = ap (λ (x : ℕ). x * 2 ^ k) (num-ones w) ∙ whole in
+    let pieces : num (ones w) * 2 ^ k + num (ones k) ≡ 255 =
+    let distributed : (num (ones w) + 1) * 2 ^ k ≡ 256 = ap (λ (x : ℕ). x * 2 ^ k) (num-ones w) ∙ whole in
     omega (arith, distributed, num-ones k) in
     ap (λ (x : ℕ). x / 2 ^ k) (sym pieces) ∙ shr_high (num (ones w)) k (num (ones k)) low
 
-pub all_ones_fit : (w : ℕ) → w ≤ 32 → 4294967295 / 2 ^ (32 - w) < 2 ^ w
+pub all_ones_fit : (w : ℕ) → w ≤ 8 → 255 / 2 ^ (8 - w) < 2 ^ w
 all_ones_fit w h = omega (arith, all_ones w h, num-ones w)
 
-pub bits-all_ones : (w : ℕ) → w ≤ 32 → bits w (4294967295 / 2 ^ (32 - w)) ≡ ones w
+pub bits-all_ones : (w : ℕ) → w ≤ 8 → bits w (255 / 2 ^ (8 - w)) ≡ ones w
 bits-all_ones w h =
     let small = all_ones_fit w h in
-    same_bits w (4294967295 / 2 ^ (32 - w)) (ones w) (length-replicate w true) (mod-eq_of_lt small ∙ all_ones w h)
+    same_bits w (255 / 2 ^ (8 - w)) (ones w) (length-replicate w true) (mod-eq_of_lt small ∙ all_ones w h)
+
+ones-byte : bits 8 255 ≡ ones 8
+unfolding bits
+ones-byte = refl
+
+-- bytes without a zero
+pub flat-full : (k : ℕ) → flat (replicate k 255) ≡ ones (8 * k)
+flat-full zero = flat-nil
+flat-full (suc k) =
+    flat-cons 255 (replicate k 255) ∙ ap (λ (x : List Bool). x ++ flat (replicate k 255)) ones-byte
+    ∙ ap (λ (x : List Bool). ones 8 ++ x) (flat-full k)
+    ∙ ap ones (let s : suc (suc (suc (suc (suc (suc (suc (suc (8 * k)))))))) ≡ 8 * suc k = omega arith in s)
 
 -- more ones behind those that were put
 pub put_at-ones_more : (at done w : ℕ) (b : List Bool) → at + done + w ≤ length b → put_at (at + done) (ones w) (put_at at (ones done) b) ≡ put_at at (ones (done + w)) b

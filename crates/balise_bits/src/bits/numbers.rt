@@ -1,6 +1,6 @@
 //! Numbers among the bits: read, put in place, added at the end.
 
-ghost use Rattle.std.specs.Prelude.{◌≡◌, ◌+◌, ◌^◌, ◌<◌, ◌≤◌, ◌++◌, length, replicate, IsOkUnless, OnErr, OnOk};
+ghost use Rattle.std.specs.Prelude.{◌≡◌, ◌+◌, ◌*◌, ◌%◌, ◌^◌, ◌<◌, ◌≤◌, ◌++◌, length, replicate, IsOkUnless, OnErr, OnOk};
 ghost use Rattle.balise_rules.specs.Bits.{bits, num, ones, part, put_at, zeros};
 
 use crate::bits::Bits;
@@ -36,6 +36,9 @@ impl Bits {
         requires fits { value < 2 ^ width }
         ensures { self.new ≡ put_at at (bits width value) self.old }
     {
+        if width == 0 {
+            return;
+        }
         let count = self.bytes.len();
         let size = count.min(WINDOW);
         let first = (at / 8).min(count - size);
@@ -79,12 +82,25 @@ impl Bits {
     {
         // The length is a number of 64 bits, so the places below are too.
         let _len = self.len();
-        let mut done = 0;
-        while done < count {
-            let width = (count - done).min(32) as u32;
-            self.put(at + done, width, u32::MAX >> (32 - width));
-            done += width as usize;
-        }
+        let head = ((8 - at % 8) % 8).min(count);
+        self.put(at, head as u32, 255 >> (8 - head));
+        let whole = (count - head) / 8;
+        self.put_full_bytes(at + head, whole);
+        let done = head + 8 * whole;
+        let tail = count - done;
+        self.put(at + done, tail as u32, 255 >> (8 - tail));
+    }
+
+    // Puts ones over whole bytes.
+    fn put_full_bytes(&mut self, to: usize, count: usize)
+        requires aligned { 0 < count → to % 8 ≡ 0 }
+        requires room { to + 8 * count ≤ length self.old }
+        ensures { self.new ≡ put_at to (ones (8 * count)) self.old }
+    {
+        // Reading a field tells the prover what the type keeps.
+        let _len = self.len;
+        let first = to / 8;
+        self.bytes[first..first + count].fill(255);
     }
 }
 

@@ -1,4 +1,4 @@
-use Rattle.std.proofs.Common.{◌≡◌, ◌∙◌, sym, arith, Result, Ok, Err}
+use Rattle.std.proofs.Common.{◌∙◌, sym, arith, Result, Ok, Err}
 use Rattle.std.specs.Prelude.{IsOk, OnOk}
 use Rattle.balise_bits.proofs.Digits.{digits_in-flat}
 use Rattle.balise_bits.proofs.nibbles.put_digits.Goals as goal

@@ -1,14 +1,21 @@
-use Rattle.std.proofs.Common.{sym, ap, ◌∙◌, length, take, drop, arith, ◌≡◌, ◌+◌, ◌-◌, ◌*◌, ℕ, List}
-use Rattle.std.proofs.lemmas.List.{length-take, length-drop, take_at}
+use Rattle.std.proofs.Common.{sym, ap, ◌∙◌, length, take, drop, arith, ◌≡◌, ◌+◌, ◌-◌, ◌*◌, ℕ, List, Bool}
+use Rattle.std.proofs.lemmas.List.{length-take, length-drop, take_at, nil_from_length}
 use Rattle.smallvec.specs.SmallVec.{with_items}
 use borrow.Rule.Slice.PartMut.{put_mid}
 use Rattle.balise_rules.specs.Bits.{bits, put_at}
 use Rattle.balise_rules.proofs.Numbers.{length-bits}
 use Rattle.balise_bits.specs.Bytes.{flat}
 use Rattle.balise_bits.proofs.Flat.{length-flat}
+use Rattle.balise_bits.proofs.Ones.{put_at-none}
 use Rattle.balise_bits.proofs.Putting.{length-put_at}
 use Rattle.balise_bits.proofs.Packing.{length-view, flat-middle, packed_put, view-put}
 use Rattle.balise_bits.proofs.bits.Bits.put.Goals as goal
+
+pub returns-then-width-eq0 : goal.returns-then-width-eq0
+returns-then-width-eq0 c =
+    let x = bits c.args.width c.args.value in
+    let none = nil_from_length x (omega (arith, length-bits c.args.width c.args.value, c.if-width-eq0.true)) in
+    sym (ap (λ (l : List Bool). put_at c.args.at l c.args.self.now) none ∙ put_at-none c.args.at c.args.self.now)
 
 len_held : (c : goal.After-self-1) → c.self.inside.len ≡ length c.args.self.now
 len_held c = sym (length-view c.self.inside.len c.self.inside.bytes.items c.self.invariant) ∙ ap length c.self.view_is

@@ -58,7 +58,8 @@ impl Telegram {
         if !header.is_balise() {
             return Err(TelegramFault::NotABalise);
         }
-        let (packets, end) = read_packets(alloc, &bits, header.version())?;
+        let (mut packets, end) = read_packets(alloc, &bits, header.version())?;
+        packets.shrink_to_fit();
         let mut padding = bits;
         padding.put_ones(0, end);
         Ok(Telegram {

@@ -23,11 +23,11 @@ returns-in_err-packets-clause-fault c =
     (λ m. packets_fail b c.len.result c.len-2.result c.read-header.result c.version.result (refusal_of fault) c.len.ensures c.len-2.ensures c.if-len.false c.read-header.ensures c.version.ensures (sym c.is_balise.ensures ∙ c.if-not-is_balise.false) (c.in_err-packets.ensures.fault m))
 
 pub returns-clause-ok : goal.returns-clause-ok
-returns-clause-ok c = rw c.shrink_to_fit.ensures.items (packets_end c.args.bits c.len.result c.len-2.result c.read-header.result c.version.result c.in_ok-packets.packets.items c.args.bits c.put_ones.new.self c.in_ok-packets.end c.len.ensures c.len-2.ensures c.if-len.false c.read-header.ensures c.version.ensures (sym c.is_balise.ensures ∙ c.if-not-is_balise.false) c.in_ok-packets.ensures.ok c.in_ok-packets.ensures.used refl c.put_ones.ensures)
+returns-clause-ok c = packets_end c.args.bits c.len.result c.len-2.result c.read-header.result c.version.result c.in_ok-packets.packets.items c.args.bits c.put_ones.new.self c.in_ok-packets.end c.len.ensures c.len-2.ensures c.if-len.false c.read-header.ensures c.version.ensures (sym c.is_balise.ensures ∙ c.if-not-is_balise.false) c.in_ok-packets.ensures.ok c.in_ok-packets.ensures.used refl c.put_ones.ensures
 
 pub invariant_of-result : goal.invariant_of-result
 invariant_of-result c = record {
-  tags = rw c.shrink_to_fit.ensures.items (read_distinct (length c.args.bits) c.version.result (drop 50 c.args.bits) (c.in_ok-packets.packets.items, drop c.in_ok-packets.end c.args.bits) c.in_ok-packets.ensures.ok);
+  tags = read_distinct (length c.args.bits) c.version.result (drop 50 c.args.bits) (c.in_ok-packets.packets.items, drop c.in_ok-packets.end c.args.bits) c.in_ok-packets.ensures.ok;
   size = grind (arith, common_steps);
   fits = grind (arith, common_steps);
 }

@@ -7,7 +7,7 @@ use std::io;
 use std::io::{BufRead, BufReader, BufWriter, Write};
 
 /// How many bits a telegram has that is written in so many digits.
-fn bits_in(digits: usize) -> Option<usize> {
+pub fn bits_in(digits: usize) -> Option<usize> {
     match digits {
         54 => Some(210),
         208 => Some(830),

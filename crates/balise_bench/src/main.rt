@@ -3,6 +3,7 @@
 
 mod digits;
 mod packets;
+mod telegrams;
 
 use anyhow::{Result, bail};
 use std::env;
@@ -11,11 +12,15 @@ fn main(rt: HostRuntime) -> Result<()> {
     let mut words = env::args(&rt)?;
     let _program = words.next();
     let Some(mode) = words.next() else {
-        bail!("which layer? digits, packets");
+        bail!("which layer? digits, packets, telegrams");
     };
     match mode.as_str() {
         "digits" => digits::run(&rt),
         "packets" => packets::run(&rt),
+        "telegrams" => match words.next() {
+            Some(form) => telegrams::run(&rt, form.as_str()),
+            None => bail!("which form? packed, open"),
+        },
         other => bail!("no layer is called {other}"),
     }
 }

@@ -7,3 +7,4 @@ pub mod Digits
 pub mod Spare
 pub mod Ones
 pub mod Same
+pub mod Judging

@@ -1,10 +1,27 @@
 //! Hexadecimal digits of bytes, read and written in place.
 
-ghost use Rattle.std.specs.Prelude.{◌≡◌, ◌*◌, true, false, length, Some, None};
-ghost use Rattle.balise_rules.specs.Digits.{digit_bits, digits_in};
+ghost use Rattle.std.specs.Prelude.{◌≡◌, ◌*◌, ◌<◌, ◌≤◌, true, false, length, Some, None};
+ghost use Rattle.balise_rules.specs.Digits.{digit_bits, digit_value, digits_in};
 ghost use Rattle.balise_bits.specs.Bytes.{flat};
 
-use hex::{decode_to_slice, encode_to_slice};
+use hex::encode_to_slice;
+
+// The value of a digit of either case, and a number above 15 for any other byte.
+#[inline(always)]
+fn value(c: u8) -> u8
+    ensures digit { result < 16 → digit_value c ≡ Some result }
+    ensures other { 16 ≤ result → digit_value c ≡ None }
+{
+    if b'0' <= c && c <= b'9' {
+        c - b'0'
+    } else if b'A' <= c && c <= b'F' {
+        c - b'A' + 10
+    } else if b'a' <= c && c <= b'f' {
+        c - b'a' + 10
+    } else {
+        255
+    }
+}
 
 /// Reads the bytes of digits, and answers whether all are digits.
 pub(crate) fn decoded(text: &[u8], out: &mut [u8]) -> bool
@@ -13,10 +30,14 @@ pub(crate) fn decoded(text: &[u8], out: &mut [u8]) -> bool
     ensures bad { result ≡ false → digit_bits text.now ≡ None }
     ensures len { length out.new ≡ length out.old }
 {
-    match decode_to_slice(text, out) {
-        Ok(()) => true,
-        Err(_) => false,
+    let mut worst: u8 = 0;
+    for i in 0..out.len() {
+        let high = value(text[2 * i]);
+        let low = value(text[2 * i + 1]);
+        worst = worst.max(high).max(low);
+        out[i] = high % 16 * 16 + low % 16;
     }
+    worst < 16
 }
 
 /// Writes the digits of bytes in lower case.

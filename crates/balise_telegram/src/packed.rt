@@ -90,18 +90,25 @@ impl PackedTelegram {
         self.packed.len()
     }
 
+    /// Its header.
+    pub fn header(&self) -> Header
+        ensures { result ≡ self.now.head }
+    {
+        Header::read(&self.packed)
+    }
+
     /// The value of a variable of the header, where a header has it.
     pub fn head(&self, var: Var) -> Option<u32>
         ensures { result ≡ field_of var 0 self.now.head }
     {
-        Header::read(&self.packed).get(var)
+        self.header().get(var)
     }
 
     /// M_VERSION, of 7 bits.
     pub fn version(&self) -> u32
         ensures { result ≡ version_of self.now }
     {
-        Header::read(&self.packed).version()
+        self.header().version()
     }
 }
 

@@ -57,7 +57,7 @@ impl Bits {
         if text.len() % 2 != 0 {
             return Err(BitsFault::BadHex);
         }
-        let mut bytes = SmallVec::new(alloc);
+        let mut bytes = SmallVec::with_capacity(alloc, text.len() / 2)?;
         add_zeros(&mut bytes, text.len() / 2)?;
         if !decoded(text, bytes.as_mut_slice()) {
             return Err(BitsFault::BadHex);

@@ -112,6 +112,9 @@ pub(crate) fn add_zeros(bytes: &mut SmallVec<u8, 30>, count: usize) -> Result<()
     ensures ok { OnOk result (bytes.new.items ≡ bytes.old.items ++ replicate count 0) }
     ensures err { OnErr result (bytes.new.items ≡ bytes.old.items) }
 {
+    if count == 0 {
+        return Ok(());
+    }
     if count <= ZEROS.len() {
         return bytes.extend_from_slice(&ZEROS[..count]);
     }

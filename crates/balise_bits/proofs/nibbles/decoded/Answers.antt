@@ -1,16 +1,16 @@
-use Rattle.std.proofs.Common.{◌∙◌, length}
-use Rattle.hex.specs.Hex.{decode_sized}
-use Rattle.balise_bits.proofs.Digits.{digit_bits-sized, sized-ok, sized-err}
+use Rattle.std.proofs.Common.{arith}
+use Rattle.balise_bits.proofs.Judging.{none_judged, byte_judged, all_good}
+use Rattle.std.proofs.lemmas.Bool.{ltb-true}
 use Rattle.balise_bits.proofs.nibbles.decoded.Goals as goal
 
-pub returns-in-Ok-clause-ok : goal.returns-in-Ok-clause-ok
-returns-in-Ok-clause-ok c =
-    let text = c.args.text.now in
-    let n = length c.args.out.now in
-    λ _. digit_bits-sized text n c.requires ∙ sized-ok (decode_sized text n) c.decode_to_slice.new.out tt c.in-Ok.field-0 c.in-Ok.ensures.value
+pub loop-i-init : goal.loop-i-init
+loop-i-init c = none_judged c.args.text.now c.args.out.now
 
-pub returns-in-Err-clause-bad : goal.returns-in-Err-clause-bad
-returns-in-Err-clause-bad c =
-    let text = c.args.text.now in
-    let n = length c.args.out.now in
-    λ _. digit_bits-sized text n c.requires ∙ sized-err (decode_sized text n) c.decode_to_slice.new.out tt c.in-Err.field-0 c.in-Err.ensures.value
+pub loop-i-preserved : goal.loop-i-preserved
+loop-i-preserved c =
+    byte_judged c.args.text.now c.loop-i.out c.loop-i.i c.loop-i.worst c.value-high.result c.value-low.result c.max-worst.result (omega (arith, c.loop-i-test.true, c.loop-i.auto.out)) (omega (arith, c.requires, c.loop-i.auto.out))
+    c.value-high.ensures.digit c.value-high.ensures.other c.value-low.ensures.digit c.value-low.ensures.other
+    (omega (arith, c.max.ensures, c.max-worst.ensures)) (omega (arith, c.max.ensures, c.max-worst.ensures)) (omega (arith, c.max.ensures, c.max-worst.ensures)) (λ x y z. omega (arith, x, y, z, c.max.ensures, c.max-worst.ensures)) c.loop-i.invariant
+
+pub returns-clause-ok : goal.returns-clause-ok
+returns-clause-ok c = λ e. all_good c.args.text.now c.loop-i.out c.loop-i.i c.loop-i.worst c.loop-i.invariant (ltb-true c.loop-i.worst 16 e) (omega (arith, c.loop-i-test.false, c.loop-i.auto.out, c.loop-i.auto.i-end)) (omega (arith, c.requires, c.loop-i.auto.out))

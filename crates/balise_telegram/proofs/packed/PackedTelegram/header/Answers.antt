@@ -2,8 +2,7 @@ use Rattle.std.proofs.Common.{◌∙◌, ap, arith}
 use Rattle.balise_rules.specs.Telegram.{Telegram, read_telegram}
 use Rattle.balise_telegram.specs.Packed.{telegram_of}
 use Rattle.balise_telegram.proofs.PackedPlaces.{held_read, long_enough, head_is}
-use Rattle.balise_rules.specs.Packet.{field_of}
-use Rattle.balise_telegram.proofs.packed.PackedTelegram.head.Goals as goal
+use Rattle.balise_telegram.proofs.packed.PackedTelegram.header.Goals as goal
 
 pub read-requires : goal.read-requires
 read-requires c =
@@ -13,4 +12,4 @@ read-requires c =
 pub returns : goal.returns
 returns c =
     let b = c.self.inside.packed in
-    c.get.ensures ∙ ap (field_of c.args.var 0) (c.read.ensures ∙ head_is b (telegram_of (read_telegram b)) (held_read b c.self.invariant)) ∙ ap (λ (y : Telegram). field_of c.args.var 0 y.head) c.self.view_is
+    c.read.ensures ∙ head_is b (telegram_of (read_telegram b)) (held_read b c.self.invariant) ∙ ap (λ (y : Telegram). y.head) c.self.view_is

@@ -1,6 +1,7 @@
 //! A group: its telegrams under their tags.
 
 mod changes;
+mod reading;
 mod turning;
 
 ghost use Rattle.std.specs.Prelude.{◌≡◌, eqb, length, option_map, slice_get, position};
@@ -33,16 +34,7 @@ impl Group {
     pub fn identity(&self) -> Id
         ensures { result ≡ identity_of self.now }
     {
-        match self.telegrams.get(0) {
-            Some((_, telegram)) => Id {
-                country: telegram.head(Var::NidC).unwrap_or(0),
-                number: telegram.head(Var::NidBg).unwrap_or(0),
-            },
-            None => Id {
-                country: 0,
-                number: 0,
-            },
-        }
+        identity(&self.telegrams)
     }
 
     /// How many telegrams it has.
@@ -68,4 +60,23 @@ fn find(telegrams: &Vec<(u32, Balise)>, t: u32) -> Option<usize>
     ensures { result ≡ position (λ q. eqb t q.0) telegrams.now.items }
 {
     telegrams.iter().position(|q| t == q.0)
+}
+
+// The identity of the first telegram.
+fn identity(telegrams: &Vec<(u32, Balise)>) -> Id
+    ensures { result ≡ identity_of telegrams.now.items }
+{
+    match telegrams.get(0) {
+        Some((_, telegram)) => {
+            let header = telegram.header();
+            Id {
+                country: header.get(Var::NidC).unwrap_or(0),
+                number: header.get(Var::NidBg).unwrap_or(0),
+            }
+        }
+        None => Id {
+            country: 0,
+            number: 0,
+        },
+    }
 }

@@ -1,0 +1,66 @@
+//! A group read from the bits of its telegrams.
+
+ghost use Rattle.std.specs.Prelude.{◌≡◌, ◌≢◌, ◌+◌, ◌-◌, ◌<◌, ◌^◌, IfErr, IfOk, length, Ok, Err};
+ghost use Rattle.balise_rules.specs.Plan.{agree_from, read_group, IsSoundGroup};
+
+use crate::group::{Group, identity};
+use balise_bits::Bits;
+use balise_rules::{Id, Refusal, Var};
+use balise_telegram::Balise;
+use std::alloc::Global;
+
+impl Group {
+    /// The group of these telegrams, tagged by their places from 0.
+    ///
+    /// Refused in this order: `GroupSize` for none or more than eight, the fault of the first telegram that has one,
+    /// `HeaderDisagrees`, `NumberReserved`. `OutOfMemory` may stand in place of any answer.
+    pub fn read(alloc: Global, telegrams: Vec<Bits>) -> Result<Group, Refusal>
+        ensures ok { IfOk result (λ g. read_group telegrams.items ≡ Ok g) }
+        ensures sound { IfOk result (λ g. IsSoundGroup g) }
+        ensures fault { IfErr result (λ e. e ≢ Refusal.OutOfMemory → read_group telegrams.items ≡ Err e) }
+    {
+        let count = telegrams.len();
+        if (count < 1) | (count > 8) {
+            return Err(Refusal::GroupSize);
+        }
+        let mut read = Vec::with_capacity(alloc, count)?;
+        let mut tag = 0;
+        for bits in telegrams {
+            let balise = match Balise::read(bits) {
+                Ok(balise) => balise,
+                Err(fault) => return Err(fault.refusal()),
+            };
+            read.push((tag, balise))?;
+            tag += 1;
+        }
+        let id = identity(&read);
+        if !agree(&read, id) {
+            return Err(Refusal::HeaderDisagrees);
+        }
+        if id.number == 16383 {
+            return Err(Refusal::NumberReserved);
+        }
+        Ok(Group { telegrams: read })
+    }
+}
+
+// Whether each telegram has its place as N_PIG, the count less one as N_TOTAL, and this identity.
+fn agree(telegrams: &Vec<(u32, Balise)>, id: Id) -> bool
+    requires { length telegrams.now.items < 2 ^ 32 }
+    ensures { result ≡ agree_from id (length telegrams.now.items - 1) 0 telegrams.now.items }
+{
+    let last = telegrams.len() as u32;
+    for i in 0..telegrams.len() {
+        let header = telegrams[i].1.header();
+        let place = header.get(Var::NPig).unwrap_or(0);
+        let total = header.get(Var::NTotal).unwrap_or(0);
+        let own = Id {
+            country: header.get(Var::NidC).unwrap_or(0),
+            number: header.get(Var::NidBg).unwrap_or(0),
+        };
+        if (place as usize != i) | (total + 1 != last) | (own != id) {
+            return false;
+        }
+    }
+    true
+}

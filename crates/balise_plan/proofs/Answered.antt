@@ -7,6 +7,13 @@ use Rattle.std.proofs.lemmas.Bool.{and_parts}
 use Rattle.balise_rules.specs.declared.tag.Tag.{Tag}
 use Rattle.balise_rules.specs.declared.refusal.Refusal.{Refusal}
 use Rattle.balise_rules.specs.declared.refusal.Refusal.TheVariants.{NoSuchTelegram}
+use Rattle.std.specs.BTreeMap as map
+use Rattle.std.specs.BTreeSet as set
+use Rattle.balise_rules.specs.declared.identity.Id.{Id}
+use Rattle.balise_rules.specs.Doing.{refusal, done}
+use Rattle.balise_rules.specs.Edits.{Edit}
+use Rattle.balise_plan.specs.declared.links.LinkPlace.{LinkPlace}
+use Rattle.balise_plan.specs.Held.{IsHeld}
 use Rattle.balise_rules.specs.Tagged.{find, each}
 use Rattle.balise_rules.specs.Tags.{same_tag}
 use Rattle.balise_rules.specs.Telegram.{Telegram}
@@ -21,6 +28,17 @@ use Rattle.balise_plan.proofs.Walking.{each-same, each-found, cond-each}
 use Rattle.balise_plan.proofs.Spots.{value-each}
 use Rattle.balise_plan.proofs.Placing.{same-item, unerr}
 use Rattle.balise_plan.proofs.Replaced.{with_telegram}
+
+-- An edit done, and the indexes for what it makes.
+pub record Outcome (e : Edit) (ids : map.BTreeMap Id Tag) (names : map.BTreeMap Id (set.BTreeSet LinkPlace)) (plan new : Plan) : Type 0 where
+  pub accepted : refusal e plan ≡ None
+  pub is : new ≡ done (0, e) plan
+  pub held : IsHeld ids names new
+
+-- An edit refused.
+pub record Refused (e : Edit) (plan new : Plan) (r : Refusal) : Type 0 where
+  pub refused : refusal e plan ≡ Some r
+  pub is : new ≡ plan
 
 -- The telegram stands and answers well, and the new one stands there.
 pub record Well {A : Type 0} (g : Tag) (t : ℕ) (R : Telegram → Result A TelegramFault → Telegram → Type 0) (plan : Plan) (a : A) (new : Plan) : Type 0 where

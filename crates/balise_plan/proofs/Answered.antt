@@ -1,12 +1,12 @@
 -- What a group's call on one telegram says of the plan.
-use Rattle.std.proofs.Common.{◌≡◌, ℕ, Bool, true, false, cond, eqb, ◌&&◌, Option, Some, None, Result, Ok, Err, refl, sym, ap, ◌∙◌}
+use Rattle.std.proofs.Common.{◌≡◌, ◌⊎◌, ℕ, Bool, true, false, cond, eqb, ◌&&◌, Option, Some, None, Result, Ok, Err, refl, sym, ap, ◌∙◌}
 use Rattle.std.specs.Prelude.{option_and_then}
 use Rattle.std.specs.Map.{set_value}
 use Rattle.std.proofs.lemmas.Map.Steps.{set_value_same}
 use Rattle.std.proofs.lemmas.Bool.{and_parts}
 use Rattle.balise_rules.specs.declared.tag.Tag.{Tag}
 use Rattle.balise_rules.specs.declared.refusal.Refusal.{Refusal}
-use Rattle.balise_rules.specs.declared.refusal.Refusal.TheVariants.{NoSuchTelegram}
+use Rattle.balise_rules.specs.declared.refusal.Refusal.TheVariants.{NoSuchTelegram, OutOfMemory}
 use Rattle.std.specs.BTreeMap as map
 use Rattle.std.specs.BTreeSet as set
 use Rattle.balise_rules.specs.declared.identity.Id.{Id}
@@ -40,6 +40,11 @@ pub record Refused (e : Edit) (plan new : Plan) (r : Refusal) : Type 0 where
   pub refused : refusal e plan ≡ Some r
   pub is : new ≡ plan
 
+-- An edit refused, or memory is wanting.
+pub record Failed (e : Edit) (plan new : Plan) (r : Refusal) : Type 0 where
+  pub why : (r ≡ OutOfMemory) ⊎ (refusal e plan ≡ Some r)
+  pub is : new ≡ plan
+
 -- The telegram stands and answers well, and the new one stands there.
 pub record Well {A : Type 0} (g : Tag) (t : ℕ) (R : Telegram → Result A TelegramFault → Telegram → Type 0) (plan : Plan) (a : A) (new : Plan) : Type 0 where
   pub old : Telegram
@@ -69,7 +74,7 @@ and-cond true b x y = refl
 and-cond false b x y = refl
 
 module _ (g : Tag) (t : ℕ) (plan : Plan) (sound : IsSound plan) (ys zs : Group) (here : find same_tag g plan ≡ Some ys) where
-  at-group : (o : Option Telegram) → find eqb t ys ≡ o → telegram_at g t plan ≡ o
+  pub at-group : (o : Option Telegram) → find eqb t ys ≡ o → telegram_at g t plan ≡ o
   at-group o e = ap (option_and_then (find eqb t)) here ∙ e
 
   pub written : (z : Telegram) → zs ≡ with_item eqb t z ys → set_value (same_tag g) plan zs ≡ with_telegram g t z plan

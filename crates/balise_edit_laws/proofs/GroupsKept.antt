@@ -24,7 +24,7 @@ use Rattle.balise_edit_laws.proofs.HeadsKept.{new_identity, new_place, head_of, 
 id_is : (i : Id) → (c n : ℕ) → c ≡ i.country → n ≡ i.number → ◌≡◌ {A = Id} (record { country = c; number = n }) i
 id_is i c n e d = ap (λ a. record { country = a; number = n }) e ∙ ap (λ b. record { country = i.country; number = b }) d
 
-telegram_kept : (e : Item) → Lawful e.1 → (i own : Id) → (last n : ℕ) → (g : Tag) → (t : ℕ) → (y : Telegram) → IsSoundTelegram i last n y → Fitted e g t (version_of y) (length y.padding) y.packets →
+pub telegram_kept : (e : Item) → Lawful e.1 → (i own : Id) → (last n : ℕ) → (g : Tag) → (t : ℕ) → (y : Telegram) → IsSoundTelegram i last n y → Fitted e g t (version_of y) (length y.padding) y.packets →
     IsSoundTelegram (new_identity e.1 g i) last (new_place e.1 g last n) (telegram_after e own g t y)
 telegram_kept e l i own last n g t y s w =
     let h = head_kept e.1 l i last n g t y.head (head_of i last n y s) in
@@ -43,7 +43,7 @@ telegram_kept e l i own last n g t y s w =
     }
 
 -- telegrams in their order
-sound_each : (i j : Id) → (last : ℕ) → (h : ℕ → Telegram → Telegram) → (n : ℕ) → (ys : Group) → SoundFrom i last n ys → Distinct eqb ys → ((t : ℕ) → (y : Telegram) → (m : ℕ) → find eqb t ys ≡ Some y → IsSoundTelegram i last m y → IsSoundTelegram j last m (h t y)) → SoundFrom j last n (each h ys)
+pub sound_each : (i j : Id) → (last : ℕ) → (h : ℕ → Telegram → Telegram) → (n : ℕ) → (ys : Group) → SoundFrom i last n ys → Distinct eqb ys → ((t : ℕ) → (y : Telegram) → (m : ℕ) → find eqb t ys ≡ Some y → IsSoundTelegram i last m y → IsSoundTelegram j last m (h t y)) → SoundFrom j last n (each h ys)
 sound_each i j last h n [] s u k = tt
 sound_each i j last h n (y ∷ ys) s u k =
     let r = nat_test.itself y.0 in
@@ -95,7 +95,7 @@ pub record GroupKept (j : Id) (ys : Group) : Type 0 where
   pub identity : identity_of ys ≡ j
 
 -- a group of one identity, in its order
-sound_as : (j : Id) → (last : ℕ) → (zs : Group) → suc last ≡ length zs → length zs ≤ 8 → Distinct eqb zs → j.number ≢ reserved → SoundFrom j last 0 zs → GroupKept j zs
+pub sound_as : (j : Id) → (last : ℕ) → (zs : Group) → suc last ≡ length zs → length zs ≤ 8 → Distinct eqb zs → j.number ≢ reserved → SoundFrom j last 0 zs → GroupKept j zs
 sound_as j last zs size most u number s =
     let some : 1 ≤ length zs = omega (arith, size) in
     let i_is = first_identity j last zs some s in

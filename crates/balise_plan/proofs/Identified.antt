@@ -39,7 +39,7 @@ calls-is : (c k : ℕ) (fs : Fields) (q : Id) (o : Option ℕ) → is_it (countr
 calls-is c k fs q None = refl
 calls-is c k fs q (Some v) = refl
 
-in-packet : (c k : ℕ) (q : Id) (o : Option Packet) → named_in_packet c q k o ≡ is_the q (option_and_then (id_in_packet c k) o)
+pub in-packet : (c k : ℕ) (q : Id) (o : Option Packet) → named_in_packet c q k o ≡ is_the q (option_and_then (id_in_packet c k) o)
 in-packet c k q None = refl
 in-packet c k q (Some x) = calls-is c k x.fields q (field_of NidBg k x.fields)
 

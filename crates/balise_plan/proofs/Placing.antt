@@ -43,7 +43,7 @@ same-item {same = same} t k x (y ∷ ys) u e =
     (λ d. let w : Some y.1 ≡ Some x = simp d at e in simp d (ap (λ z. (y.0, z) ∷ with_item same k x ys) (sym (unsome w)) ∙ ap (λ l. y ∷ l) (absent-each same k (λ _. x) ys (ap (λ r. find same r ys) (t.one k y.0 d) ∙ u.0))))
     (λ d. let w : find same k ys ≡ Some x = simp d at e in simp d (ap (λ l. y ∷ l) (same-item t k x ys u.1 w)))
 
-unerr : {A : Type 0} (r s : Result A Refusal) (e f : Refusal) → r ≡ s → r ≡ Err e → s ≡ Err f → f ≡ e
+pub unerr : {A : Type 0} (r s : Result A Refusal) (e f : Refusal) → r ≡ s → r ≡ Err e → s ≡ Err f → f ≡ e
 unerr r s e f h a b = cc
 
 -- the first reason for a refusal, by the telegram

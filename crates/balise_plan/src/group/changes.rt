@@ -2,7 +2,8 @@
 
 ghost use Rattle.balise_plan.specs.Within.{Within, Passed, no_telegram};
 ghost use Rattle.balise_plan.specs.Walks.{changed, in_group, with_number, FitsName};
-ghost use Rattle.std.specs.Prelude.{eqb, ◌≡◌, ◌<◌, ◌^◌};
+ghost use Rattle.std.specs.Prelude.{eqb, ◌≡◌, ◌<◌, ◌^◌, IfOk, IfErr};
+ghost use Rattle.balise_plan.specs.LinksIn.{LinksIn, NoLinks};
 ghost use Rattle.balise_telegram.specs.Setting.{SetsField, SetsHead};
 ghost use Rattle.balise_telegram.specs.Balise.{OrWants};
 ghost use Rattle.balise_telegram.specs.Moving.{TakesOut, Shifts};
@@ -10,7 +11,7 @@ ghost use Rattle.balise_telegram.specs.Moving.{TakesOut, Shifts};
 use crate::change::Change;
 use crate::group::{Group, find};
 use balise_layout::Packet;
-use balise_rules::{Refusal, Tag, Var};
+use balise_rules::{Id, Refusal, Tag, Var};
 use balise_telegram::Balise;
 
 impl Group {
@@ -49,6 +50,23 @@ impl Group {
             Err(fault) => return Err(fault.refusal()),
         };
         Ok(old)
+    }
+
+    /// The identities of the elements of a packet of one telegram, one each in order, with number 16383 kept: none
+    /// where the packet isn't there.
+    pub fn links(&self, t: u32, p: Tag) -> Result<Vec<Id>, Refusal>
+        ensures ok { IfOk result (λ links. LinksIn t p self.now links.items) }
+        ensures fault { IfErr result (λ e. NoLinks t self.now e) }
+    {
+        let Some(i) = find(&self.telegrams, t) else {
+            return Err(Refusal::NoSuchTelegram);
+        };
+        let telegram = &self.telegrams[i].1;
+        let links = match telegram.links(p) {
+            Ok(links) => links,
+            Err(fault) => return Err(fault.refusal()),
+        };
+        Ok(links)
     }
 
     /// Takes a packet out of one telegram.

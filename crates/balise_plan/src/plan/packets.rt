@@ -1,0 +1,65 @@
+//! Packets of a plan put in, taken out and moved.
+
+ghost use Rattle.std.specs.Prelude.{◌≡◌, ◌<◌, ◌^◌, IfOk, Some};
+ghost use Rattle.balise_rules.specs.Edits.{DeletePacket, MovePacket};
+ghost use Rattle.balise_rules.specs.Notes.{noted};
+ghost use Rattle.balise_plan.specs.Held.{Does};
+
+use crate::links_of::{count, forget_links};
+use crate::plan::Plan;
+use balise_layout::Packet;
+use balise_rules::{Refusal, Tag};
+
+impl Plan {
+    /// Takes a packet out of a telegram, and answers it and the tag of its next neighbour.
+    ///
+    /// Refused in this order, and then all stays: `NoSuchGroup`, `NoSuchTelegram`, `NoSuchPacket`. `OutOfMemory` may
+    /// stand in place of any answer.
+    pub fn take_packet(&mut self, g: Tag, t: u32, p: Tag) -> Result<(Packet, Option<Tag>), Refusal>
+        requires count { self.old.changes < 2 ^ 63 }
+        ensures does { Does (DeletePacket g t p) self.old result self.new }
+        ensures taken { IfOk result (λ r. ((noted (DeletePacket g t p) self.old.groups).packet ≡ Some r.0) × ((noted (DeletePacket g t p) self.old.groups).before ≡ r.1)) }
+    {
+        let Some(group) = self.groups.get_mut(&g) else {
+            return Err(Refusal::NoSuchGroup);
+        };
+        let links = match group.links(t, p) {
+            Ok(links) => links,
+            Err(fault) => return Err(fault),
+        };
+        let taken = match group.take_packet(t, p) {
+            Ok(taken) => taken,
+            Err(fault) => return Err(fault),
+        };
+        forget_links(&mut self.names, g, t, p, &links, count(&links));
+        self.changes += 1;
+        Ok(taken)
+    }
+
+    /// Moves a packet within its telegram directly after the anchor, or to the first place, and answers the tag of its
+    /// old next neighbour.
+    ///
+    /// Refused in this order, and then all stays: `NoSuchGroup`, `NoSuchTelegram`, `NoSuchPacket` where it or the
+    /// anchor doesn't stand, `SamePlace` where it stands there. `OutOfMemory` may stand in place of any answer.
+    pub fn shift_packet(
+        &mut self,
+        g: Tag,
+        t: u32,
+        p: Tag,
+        anchor: Option<Tag>,
+    ) -> Result<Option<Tag>, Refusal>
+        requires count { self.old.changes < 2 ^ 63 }
+        ensures does { Does (MovePacket g t p anchor) self.old result self.new }
+        ensures next { IfOk result (λ n. (noted (MovePacket g t p anchor) self.old.groups).before ≡ n) }
+    {
+        let Some(group) = self.groups.get_mut(&g) else {
+            return Err(Refusal::NoSuchGroup);
+        };
+        let next = match group.shift_packet(t, p, anchor) {
+            Ok(next) => next,
+            Err(fault) => return Err(fault),
+        };
+        self.changes += 1;
+        Ok(next)
+    }
+}

@@ -49,7 +49,7 @@ links-few c fs (f ∷ from) =
 pub links-within : (c : ℕ) (x : Packet) → length (links_of c x) ≤ width x
 links-within c x = omega (arith, links-few c x.fields x.fields, length-append (spelling x.fields) x.rest)
 
-short : (n : ℕ) → IsLength n → n ≤ 830
+pub short : (n : ℕ) → IsLength n → n ≤ 830
 short n (inl e) = omega (arith, e)
 short n (inr e) = omega (arith, e)
 

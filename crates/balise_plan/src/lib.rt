@@ -3,6 +3,7 @@
 
 mod change;
 mod group;
+mod group_links;
 mod links;
 mod links_of;
 mod names;

@@ -29,7 +29,7 @@ use Rattle.balise_plan.proofs.Walking as walking
 rebuilt : (y : Telegram) (hs : Fields) (ps qs : List (Tag × Packet)) → hs ≡ y.head → ps ≡ qs → parts hs y.padding ps ≡ with_packets y qs
 rebuilt y hs ps qs e d = ap (λ u. parts u y.padding ps) e ∙ ap (with_packets y) d
 
-here : (g : Tag) (t : ℕ) → (same_tag g g && eqb t t) ≡ true
+pub here : (g : Tag) (t : ℕ) → (same_tag g g && eqb t t) ≡ true
 here g t = and_from (same_tag g g) (eqb t t) (tag_test.itself g) (nat_test.itself t)
 
 module _ (own : Id) (g : Tag) (t : ℕ) where

@@ -1,6 +1,7 @@
 //! A group: its telegrams under their tags.
 
 mod changes;
+mod putting;
 mod turning;
 
 ghost use Rattle.std.specs.Prelude.{◌≡◌, eqb, length, option_map, slice_get, position};

@@ -7,6 +7,7 @@ mod links;
 mod links_of;
 mod names;
 mod plan;
+mod relink;
 mod spot;
 mod walk;
 

@@ -85,6 +85,12 @@ module _ (g : Tag) (t : ℕ) (plan : Plan) (sound : IsSound plan) (ys zs : Group
   unwritten : zs ≡ ys → set_value (same_tag g) plan zs ≡ plan
   unwritten e = ap (set_value (same_tag g) plan) e ∙ set_value_same (same_tag g) plan ys here
 
+  -- any answer of one telegram
+  pub spoken : {B P : Type 0} (none : B) (R : Telegram → B → Telegram → Type 0) (r : B) → Within eqb t none R ys r zs → (telegram_at g t plan ≡ None → r ≡ none → set_value (same_tag g) plan zs ≡ plan → P) →
+      ((x z : Telegram) → telegram_at g t plan ≡ Some x → R x r z → set_value (same_tag g) plan zs ≡ with_telegram g t z plan → (z ≡ x → set_value (same_tag g) plan zs ≡ plan) → P) → P
+  spoken none R r (Absent n e s) k l = k (at-group None n) e (unwritten s)
+  spoken none R r (Changed x z f c s) k l = l x z (at-group (Some x) f) c (written z s) (λ q. unwritten (s ∙ ap (λ v. with_item eqb t v ys) q ∙ same-item nat_test t x ys (group_sound plan sound g ys here).tags f))
+
   module _ {A : Type 0} (R : Telegram → Result A TelegramFault → Telegram → Type 0) where
     pub well : (a : A) → Within eqb t no_telegram (Passed R) ys (Ok a) zs → Well g t R plan a (set_value (same_tag g) plan zs)
     well a (Absent n r s) = absurd cc

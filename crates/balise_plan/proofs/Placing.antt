@@ -56,7 +56,7 @@ module _ (g : Tag) (t : ℕ) (p : Tag) (v : Var) (k n : ℕ) (plan : Plan) (ys :
   unfolding refused
   stands-is y e = ap (λ b. refused p v k n b (telegram_at g t plan)) (ap is_none here) ∙ ap (refused p v k n false) (ap (option_and_then (find eqb t)) here ∙ e)
 
-  absent-is : find eqb t ys ≡ None → refusal (SetVar g t p v k n) plan ≡ Some NoSuchTelegram
+  pub absent-is : find eqb t ys ≡ None → refusal (SetVar g t p v k n) plan ≡ Some NoSuchTelegram
   unfolding refused
   absent-is e = ap (λ b. refused p v k n b (telegram_at g t plan)) (ap is_none here) ∙ ap (refused p v k n false) (ap (option_and_then (find eqb t)) here ∙ e)
 
@@ -65,7 +65,7 @@ abbrev pub at_packet : Tag → ℕ → Tag → (Packet → Packet) → Plan → 
 at_packet g t p f plan = each (λ h ys. cond (same_tag g h) (each (λ u y. cond (eqb t u) (with_changed p f y) y) ys) ys) plan
 
 module _ (s : ℕ) (own : Id) (g : Tag) (t : ℕ) (p : Tag) (v : Var) (k n : ℕ) where
-  set-packet : (h : Tag) (u : ℕ) (c : ℕ) (q : Tag) (x : Packet) → cond (same_tag g h) (cond (eqb t u) (cond (same_tag p q) (with_packet_field v k n x) x) x) x ≡ record { fields = each (field_after (SetVar g t p v k n) own h u c q x.fields) x.fields; rest = x.rest }
+  pub set-packet : (h : Tag) (u : ℕ) (c : ℕ) (q : Tag) (x : Packet) → cond (same_tag g h) (cond (eqb t u) (cond (same_tag p q) (with_packet_field v k n x) x) x) x ≡ record { fields = each (field_after (SetVar g t p v k n) own h u c q x.fields) x.fields; rest = x.rest }
   set-packet h u c q x = by (same_tag g h) (eqb t u) (same_tag p q)
     where
       keep : x ≡ record { fields = each (λ (key : Key) (old : ℕ). old) x.fields; rest = x.rest }

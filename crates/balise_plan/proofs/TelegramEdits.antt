@@ -16,20 +16,21 @@ use Rattle.balise_rules.specs.Telegram.{Telegram, room}
 use Rattle.balise_rules.specs.Plan.{Group, Plan, telegram_at}
 use Rattle.balise_rules.specs.Doing.{refusal, first_of, when, too_wide, in_telegram, same_place}
 use Rattle.balise_rules.specs.Back.{with_packets}
-use Rattle.balise_rules.specs.Edits.{SetHead, DeletePacket, MovePacket, telegram_after, packet_after}
+use Rattle.balise_rules.specs.Edits.{SetVar, SetHead, DeletePacket, MovePacket, telegram_after, packet_after}
 use Rattle.balise_rules.proofs.Tests.{split_on, tag_test, nat_test}
 use Rattle.balise_rules.proofs.Each.{each-id, each-same}
-use Rattle.balise_telegram.specs.Setting.{head_refusal, with_head}
+use Rattle.balise_telegram.specs.Setting.{head_refusal, with_field, with_head}
 use Rattle.balise_telegram.specs.Moving.{shift_refusal, insert_refusal}
 use Rattle.balise_plan.specs.declared.spot.Spot.{Spot}
 use Rattle.balise_plan.specs.Spots.{put_refusal, spot_stands}
+use Rattle.balise_plan.proofs.Placing.{set-packet}
 use Rattle.balise_plan.proofs.Walking.{parts}
 use Rattle.balise_plan.proofs.Walking as walking
 
 rebuilt : (y : Telegram) (hs : Fields) (ps qs : List (Tag × Packet)) → hs ≡ y.head → ps ≡ qs → parts hs y.padding ps ≡ with_packets y qs
 rebuilt y hs ps qs e d = ap (λ u. parts u y.padding ps) e ∙ ap (with_packets y) d
 
-here : (g : Tag) (t : ℕ) → (same_tag g g && eqb t t) ≡ true
+pub here : (g : Tag) (t : ℕ) → (same_tag g g && eqb t t) ≡ true
 here g t = and_from (same_tag g g) (eqb t t) (tag_test.itself g) (nat_test.itself t)
 
 module _ (own : Id) (g : Tag) (t : ℕ) where
@@ -44,6 +45,16 @@ module _ (own : Id) (g : Tag) (t : ℕ) where
 
     pub head-other : (h : Tag) (u : ℕ) (x : Telegram) → (same_tag g h && eqb t u) ≡ false → telegram_after (0, SetHead g t v n) own h u x ≡ x
     head-other h u x d = rebuilt x _ _ x.packets (each-same _ x.head (λ key m. split_on (same_key (v, 0) key) (λ e. simp (e, d)) (λ e. simp e))) (still h u 0 x.packets)
+
+  pub set-at : (p : Tag) (v : Var) (k n : ℕ) (y : Telegram) → with_field p v k n y ≡ telegram_after (0, SetVar g t p v k n) own g t y
+  set-at p v k n y =
+      sym (rebuilt y _ _ (with_field p v k n y).packets (each-id y.head)
+      (walking.each-same _ _ y.packets (λ q x. sym (set-packet 0 own g t p v k n g t 0 q x) ∙ within (same_tag g g) (eqb t t) (here g t) _ x)))
+    where
+      within : (a b : Bool) → (a && b) ≡ true → (z x : Packet) → cond a (cond b z x) x ≡ z
+      within true true e z x = refl
+      within true false e z x = absurd cc
+      within false b e z x = absurd cc
 
   taken : (b : Bool) → b ≡ true → (c : Change Tag Packet) (ps : List (Tag × Packet)) → changed same_tag (cond b c (Each (λ q x. x))) ps ≡ changed same_tag c ps
   taken b e c ps = ap (λ a. changed same_tag (cond a c (Each (λ q x. x))) ps) e

@@ -8,6 +8,7 @@ mod links;
 mod links_of;
 mod names;
 mod plan;
+mod relink;
 mod spot;
 mod walk;
 

@@ -1,16 +1,63 @@
 //! Packets of a plan put in, taken out and moved.
 
-ghost use Rattle.std.specs.Prelude.{◌≡◌, ◌<◌, ◌^◌, IfOk, Some};
+ghost use Rattle.std.specs.Prelude.{◌≡◌, ◌<◌, ◌^◌, IfOk, Some, None};
 ghost use Rattle.balise_rules.specs.Edits.{DeletePacket, MovePacket};
 ghost use Rattle.balise_rules.specs.Notes.{noted};
+ghost use Rattle.balise_rules.specs.Packet.{IsSpelt};
+ghost use Rattle.balise_rules.specs.Plan.{telegram_at};
+ghost use Rattle.balise_rules.specs.Tagged.{find};
+ghost use Rattle.balise_rules.specs.Tags.{same_tag};
+ghost use Rattle.balise_rules.specs.Telegram.{Telegram, version_of};
 ghost use Rattle.balise_plan.specs.Held.{Does};
+ghost use Rattle.balise_plan.specs.Spots.{PutsPacket};
 
-use crate::links_of::{count, forget_links};
+use crate::links_of::{add_links, count, forget_links};
 use crate::plan::Plan;
+use crate::spot::Spot;
 use balise_layout::Packet;
 use balise_rules::{Refusal, Tag};
 
 impl Plan {
+    /// Puts a packet into a telegram under a tag that is new there. The packet is spelt in the telegram's version.
+    ///
+    /// Refused in this order, and then all stays and the packet is handed back: `NoSuchGroup`, `NoSuchTelegram`,
+    /// `NoSuchPacket` where the neighbour doesn't stand, `NoRoom` where the packet is wider than the room.
+    /// `OutOfMemory` may stand in place of any answer.
+    pub fn put_packet(
+        &mut self,
+        g: Tag,
+        t: u32,
+        spot: Spot<Tag>,
+        p: Tag,
+        packet: Packet,
+    ) -> Result<(), (Refusal, Packet)>
+        requires count { self.old.changes < 2 ^ 63 }
+        requires new { (y : Telegram) → telegram_at g t self.old.groups ≡ Some y → find same_tag p y.packets ≡ None }
+        requires spelt { (y : Telegram) → telegram_at g t self.old.groups ≡ Some y → IsSpelt (version_of y) packet }
+        ensures { PutsPacket g t spot p packet self.old result self.new }
+    {
+        let alloc = *self.groups.allocator();
+        let Some(group) = self.groups.get_mut(&g) else {
+            return Err((Refusal::NoSuchGroup, packet));
+        };
+        let Some(country) = group.country(t) else {
+            return Err((Refusal::NoSuchTelegram, packet));
+        };
+        let Ok(links) = packet.links(country) else {
+            return Err((Refusal::OutOfMemory, packet));
+        };
+        let n = count(&links);
+        if add_links(alloc, &mut self.names, g, t, p, &links, n).is_err() {
+            return Err((Refusal::OutOfMemory, packet));
+        }
+        if let Err(back) = group.put_packet(t, spot, p, packet) {
+            forget_links(&mut self.names, g, t, p, &links, n);
+            return Err(back);
+        }
+        self.changes += 1;
+        Ok(())
+    }
+
     /// Takes a packet out of a telegram, and answers it and the tag of its next neighbour.
     ///
     /// Refused in this order, and then all stays: `NoSuchGroup`, `NoSuchTelegram`, `NoSuchPacket`. `OutOfMemory` may

@@ -1,0 +1,108 @@
+use Rattle.std.proofs.Common.{rules, ◌≡◌, ◌∙◌, ◌+◌, ◌⊎◌, inl, inr, sym, ap, subst, refl, Some, None}
+use Rattle.std.specs.Map.{set_value}
+use Rattle.std.proofs.lemmas.Map.Steps.{set_value_same}
+use Rattle.balise_rules.specs.declared.identity.Id.{Id}
+use Rattle.balise_rules.specs.declared.refusal.Refusal.TheVariants.{OutOfMemory}
+use Rattle.balise_rules.specs.declared.variable.Var.TheVariants.{NidBg}
+use Rattle.balise_rules.specs.Tagged.{find}
+use Rattle.balise_rules.specs.Tags.{same_tag}
+use Rattle.balise_rules.specs.Edits.{SetVar}
+use Rattle.balise_rules.specs.Doing.{refusal}
+use Rattle.balise_rules.specs.Notes.{noted}
+use Rattle.balise_plan.specs.Held.{edited, IsHeld}
+use Rattle.balise_plan.specs.Links.{Keeps}
+use Rattle.balise_plan.specs.Relinking.{AddsReal, ForgetsOther, element_at}
+use Rattle.balise_plan.proofs.LinkSet.{untold, kept, linked}
+use Rattle.balise_plan.proofs.PacketPut.{held-keeps}
+use Rattle.balise_plan.proofs.Placing.{left}
+use Rattle.balise_plan.proofs.Walking.{place}
+use Rattle.balise_plan.proofs.plan.Plan.set_link.Goals as goal
+
+pub invariant_of-self-in-Err : goal.invariant_of-self-in-Err
+invariant_of-self-in-Err c =
+    let plan = c.self.inside.groups.entries in
+    let n : find same_tag c.args.g plan ≡ Some c.in-Some.group.now = sym c.in-Some.ensures.value in
+    let w = (c.get_mut.follows.holds c.in-Some.group.now).0 ∙ set_value_same (same_tag c.args.g) plan c.in-Some.group.now n in
+    subst (IsHeld c.self.inside.identities c.self.inside.names) (sym w) c.self.invariant
+
+pub returns-in-Err-clause-does : goal.returns-in-Err-clause-does
+returns-in-Err-clause-does c =
+    let plan = c.self.inside.groups.entries in
+    let n : find same_tag c.args.g plan ≡ Some c.in-Some.group.now = sym c.in-Some.ensures.value in
+    let w = (c.get_mut.follows.holds c.in-Some.group.now).0 ∙ set_value_same (same_tag c.args.g) plan c.in-Some.group.now n in
+    let r = untold plan c.self.inside.identities c.self.inside.names c.self.invariant c.args.g c.args.t c.args.p c.args.k c.args.value c.in-Some.group.now n c.in-Err.fault c.in-Err.ensures.fault in
+    (subst (λ q. (c.in-Err.fault ≡ OutOfMemory) ⊎ (refusal (SetVar c.args.g c.args.t c.args.p NidBg c.args.k c.args.value) q.groups ≡ Some c.in-Err.fault)) c.self.view_is r, ap (λ gs. record { groups = gs; changes = c.self.inside.changes }) w ∙ c.self.view_is)
+
+pub invariant_of-self-then-is_err : goal.invariant_of-self-then-is_err
+invariant_of-self-then-is_err c =
+    let plan = c.self.inside.groups.entries in
+    let n : find same_tag c.args.g plan ≡ Some c.in-Some.group.now = sym c.in-Some.ensures.value in
+    let w = (c.get_mut.follows.holds c.in-Some.group.now).0 ∙ set_value_same (same_tag c.args.g) plan c.in-Some.group.now n in
+    let same : Keeps c.self.inside.names c.add_real.new.names = search rules in
+    subst (IsHeld c.self.inside.identities c.add_real.new.names) (sym w) (held-keeps c.self.inside.identities c.self.inside.names c.add_real.new.names plan c.self.invariant (c.add_real.ensures.full c.self.invariant.full) same)
+
+pub returns-then-is_err-clause-does : goal.returns-then-is_err-clause-does
+returns-then-is_err-clause-does c =
+    let plan = c.self.inside.groups.entries in
+    let n : find same_tag c.args.g plan ≡ Some c.in-Some.group.now = sym c.in-Some.ensures.value in
+    let w = (c.get_mut.follows.holds c.in-Some.group.now).0 ∙ set_value_same (same_tag c.args.g) plan c.in-Some.group.now n in
+    (inl refl, ap (λ gs. record { groups = gs; changes = c.self.inside.changes }) w ∙ c.self.view_is)
+
+pub invariant_of-self-in-Err-set_field : goal.invariant_of-self-in-Err-set_field
+invariant_of-self-in-Err-set_field c =
+    let plan = c.self.inside.groups.entries in
+    let n : find same_tag c.args.g plan ≡ Some c.in-Some.group.now = sym c.in-Some.ensures.value in
+    let v = (c.get_mut.follows.holds c.set_field.new.self).0 in
+    let adds : AddsReal c.self.inside.names c.add_real.new.names (record { country = c.element-from.result.country; number = c.args.value }) (place c.args.g c.args.t c.args.p c.args.k) = search rules in
+    let added : AddsReal c.self.inside.names c.add_real.new.names (record { country = (element_at c.in-Ok.links.items c.args.k).country; number = c.args.value }) (place c.args.g c.args.t c.args.p c.args.k) = subst (λ (i : Id). AddsReal c.self.inside.names c.add_real.new.names (record { country = i.country; number = c.args.value }) (place c.args.g c.args.t c.args.p c.args.k)) c.element-from.ensures adds in
+    let f : ForgetsOther c.add_real.new.names c.forget_other.new.names (element_at c.in-Ok.links.items c.args.k) (record { country = (element_at c.in-Ok.links.items c.args.k).country; number = c.args.value }) (place c.args.g c.args.t c.args.p c.args.k) = subst (λ (i : Id). ForgetsOther c.add_real.new.names c.forget_other.new.names i (record { country = i.country; number = c.args.value }) (place c.args.g c.args.t c.args.p c.args.k)) c.element-from.ensures c.forget_other.ensures.forgotten in
+    let same = kept plan c.self.inside.identities c.self.inside.names c.self.invariant c.args.g c.args.t c.args.p c.args.k c.args.value c.in-Some.group.now n c.in-Ok.links.items c.in-Ok.ensures.ok c.add_real.new.names c.forget_other.new.names added f in
+    let r = left c.args.g c.args.t c.args.p NidBg c.args.k c.args.value plan c.self.invariant.sound c.in-Some.group.now c.set_field.new.self n c.in-Err-set_field.fault c.in-Err-set_field.ensures in
+    let e = v ∙ ap (set_value (same_tag c.args.g) plan) r.1 ∙ set_value_same (same_tag c.args.g) plan c.in-Some.group.now n in
+    let full = c.forget_other.ensures.full (c.add_real.ensures.full c.self.invariant.full) in
+    subst (IsHeld c.self.inside.identities c.forget_other.new.names) (sym e) (held-keeps c.self.inside.identities c.self.inside.names c.forget_other.new.names plan c.self.invariant full same)
+
+pub returns-in-Err-set_field-clause-does : goal.returns-in-Err-set_field-clause-does
+returns-in-Err-set_field-clause-does c =
+    let plan = c.self.inside.groups.entries in
+    let n : find same_tag c.args.g plan ≡ Some c.in-Some.group.now = sym c.in-Some.ensures.value in
+    let v = (c.get_mut.follows.holds c.set_field.new.self).0 in
+    let r = left c.args.g c.args.t c.args.p NidBg c.args.k c.args.value plan c.self.invariant.sound c.in-Some.group.now c.set_field.new.self n c.in-Err-set_field.fault c.in-Err-set_field.ensures in
+    let e = v ∙ ap (set_value (same_tag c.args.g) plan) r.1 ∙ set_value_same (same_tag c.args.g) plan c.in-Some.group.now n in
+    (inr (subst (λ q. refusal (SetVar c.args.g c.args.t c.args.p NidBg c.args.k c.args.value) q.groups ≡ Some c.in-Err-set_field.fault) c.self.view_is r.0), ap (λ gs. record { groups = gs; changes = c.self.inside.changes }) e ∙ c.self.view_is)
+
+pub invariant_of-self-2 : goal.invariant_of-self-2
+invariant_of-self-2 c =
+    let plan = c.self.inside.groups.entries in
+    let n : find same_tag c.args.g plan ≡ Some c.in-Some.group.now = sym c.in-Some.ensures.value in
+    let v = (c.get_mut.follows.holds c.set_field.new.self).0 in
+    let adds : AddsReal c.self.inside.names c.add_real.new.names (record { country = c.element-from.result.country; number = c.args.value }) (place c.args.g c.args.t c.args.p c.args.k) = search rules in
+    let added : AddsReal c.self.inside.names c.add_real.new.names (record { country = (element_at c.in-Ok.links.items c.args.k).country; number = c.args.value }) (place c.args.g c.args.t c.args.p c.args.k) = subst (λ (i : Id). AddsReal c.self.inside.names c.add_real.new.names (record { country = i.country; number = c.args.value }) (place c.args.g c.args.t c.args.p c.args.k)) c.element-from.ensures adds in
+    let f : ForgetsOther c.add_real.new.names c.forget_other-2.new.names (record { country = (element_at c.in-Ok.links.items c.args.k).country; number = c.args.value }) (element_at c.in-Ok.links.items c.args.k) (place c.args.g c.args.t c.args.p c.args.k) = subst (λ (i : Id). ForgetsOther c.add_real.new.names c.forget_other-2.new.names (record { country = i.country; number = c.args.value }) i (place c.args.g c.args.t c.args.p c.args.k)) c.element-from.ensures c.forget_other-2.ensures.forgotten in
+    let full = c.forget_other-2.ensures.full (c.add_real.ensures.full c.self.invariant.full) in
+    let r = linked plan c.self.inside.identities c.self.inside.names c.self.invariant c.args.g c.args.t c.args.p c.args.k c.args.value c.in-Some.group.now n c.in-Ok.links.items c.in-Ok.ensures.ok c.add_real.new.names c.forget_other-2.new.names added c.set_field.new.self c.in-Ok-set_field.old c.in-Ok-set_field.ensures full f in
+    subst (IsHeld c.self.inside.identities c.forget_other-2.new.names) (sym v) r.0.held
+
+pub returns-clause-does : goal.returns-clause-does
+returns-clause-does c =
+    let plan = c.self.inside.groups.entries in
+    let n : find same_tag c.args.g plan ≡ Some c.in-Some.group.now = sym c.in-Some.ensures.value in
+    let v = (c.get_mut.follows.holds c.set_field.new.self).0 in
+    let adds : AddsReal c.self.inside.names c.add_real.new.names (record { country = c.element-from.result.country; number = c.args.value }) (place c.args.g c.args.t c.args.p c.args.k) = search rules in
+    let added : AddsReal c.self.inside.names c.add_real.new.names (record { country = (element_at c.in-Ok.links.items c.args.k).country; number = c.args.value }) (place c.args.g c.args.t c.args.p c.args.k) = subst (λ (i : Id). AddsReal c.self.inside.names c.add_real.new.names (record { country = i.country; number = c.args.value }) (place c.args.g c.args.t c.args.p c.args.k)) c.element-from.ensures adds in
+    let f : ForgetsOther c.add_real.new.names c.forget_other-2.new.names (record { country = (element_at c.in-Ok.links.items c.args.k).country; number = c.args.value }) (element_at c.in-Ok.links.items c.args.k) (place c.args.g c.args.t c.args.p c.args.k) = subst (λ (i : Id). ForgetsOther c.add_real.new.names c.forget_other-2.new.names (record { country = i.country; number = c.args.value }) i (place c.args.g c.args.t c.args.p c.args.k)) c.element-from.ensures c.forget_other-2.ensures.forgotten in
+    let full = c.forget_other-2.ensures.full (c.add_real.ensures.full c.self.invariant.full) in
+    let r = linked plan c.self.inside.identities c.self.inside.names c.self.invariant c.args.g c.args.t c.args.p c.args.k c.args.value c.in-Some.group.now n c.in-Ok.links.items c.in-Ok.ensures.ok c.add_real.new.names c.forget_other-2.new.names added c.set_field.new.self c.in-Ok-set_field.old c.in-Ok-set_field.ensures full f in
+    (subst (λ q. refusal (SetVar c.args.g c.args.t c.args.p NidBg c.args.k c.args.value) q.groups ≡ None) c.self.view_is r.0.accepted, ap (λ gs. record { groups = gs; changes = c.self.inside.changes + 1 }) (v ∙ r.0.is) ∙ ap (edited (SetVar c.args.g c.args.t c.args.p NidBg c.args.k c.args.value)) c.self.view_is)
+
+pub returns-clause-old : goal.returns-clause-old
+returns-clause-old c =
+    let plan = c.self.inside.groups.entries in
+    let n : find same_tag c.args.g plan ≡ Some c.in-Some.group.now = sym c.in-Some.ensures.value in
+    let v = (c.get_mut.follows.holds c.set_field.new.self).0 in
+    let adds : AddsReal c.self.inside.names c.add_real.new.names (record { country = c.element-from.result.country; number = c.args.value }) (place c.args.g c.args.t c.args.p c.args.k) = search rules in
+    let added : AddsReal c.self.inside.names c.add_real.new.names (record { country = (element_at c.in-Ok.links.items c.args.k).country; number = c.args.value }) (place c.args.g c.args.t c.args.p c.args.k) = subst (λ (i : Id). AddsReal c.self.inside.names c.add_real.new.names (record { country = i.country; number = c.args.value }) (place c.args.g c.args.t c.args.p c.args.k)) c.element-from.ensures adds in
+    let f : ForgetsOther c.add_real.new.names c.forget_other-2.new.names (record { country = (element_at c.in-Ok.links.items c.args.k).country; number = c.args.value }) (element_at c.in-Ok.links.items c.args.k) (place c.args.g c.args.t c.args.p c.args.k) = subst (λ (i : Id). ForgetsOther c.add_real.new.names c.forget_other-2.new.names (record { country = i.country; number = c.args.value }) i (place c.args.g c.args.t c.args.p c.args.k)) c.element-from.ensures c.forget_other-2.ensures.forgotten in
+    let full = c.forget_other-2.ensures.full (c.add_real.ensures.full c.self.invariant.full) in
+    let r = linked plan c.self.inside.identities c.self.inside.names c.self.invariant c.args.g c.args.t c.args.p c.args.k c.args.value c.in-Some.group.now n c.in-Ok.links.items c.in-Ok.ensures.ok c.add_real.new.names c.forget_other-2.new.names added c.set_field.new.self c.in-Ok-set_field.old c.in-Ok-set_field.ensures full f in
+    r.1 ∙ ap (λ q. (noted (SetVar c.args.g c.args.t c.args.p NidBg c.args.k c.args.value) q.groups).old) c.self.view_is

@@ -1,0 +1,26 @@
+-- A packet put into one telegram: what it answers and leaves.
+use Rattle.std.specs.Prelude.{◌≡◌, Result, Ok, Err}
+use Rattle.balise_rules.specs.declared.tag.Tag.{Tag}
+use Rattle.balise_rules.specs.declared.refusal.Refusal.{Refusal}
+use Rattle.balise_rules.specs.declared.refusal.Refusal.TheVariants.{NoSuchTelegram}
+use Rattle.balise_rules.specs.Packet.{Packet}
+use Rattle.balise_rules.specs.Telegram.{Telegram}
+use Rattle.balise_telegram.specs.declared.fault.TelegramFault.{TelegramFault}
+use Rattle.balise_telegram.specs.Faults.{refusal_of}
+use Rattle.balise_telegram.specs.Balise.{InsertsOrWants}
+use Rattle.balise_plan.specs.declared.spot.Spot.{Spot}
+use Rattle.balise_plan.specs.Spots.{put_in, spot_stands}
+
+abbrev pub no_telegram : Packet → Result Unit (Refusal × Packet)
+no_telegram x = Err (NoSuchTelegram, x)
+
+-- a telegram's answer as it is passed on
+abbrev pub passed : Result Unit (TelegramFault × Packet) → Result Unit (Refusal × Packet)
+passed (Ok u) = Ok u
+passed (Err e) = Err (refusal_of e.0, e.1)
+
+-- a telegram's call, its answer passed on
+pub record PutsIn (s : Spot Tag) (p : Tag) (x : Packet) (old : Telegram) (result : Result Unit (Refusal × Packet)) (new : Telegram) : Type 0 where
+  pub answer : Result Unit (TelegramFault × Packet)
+  pub call : InsertsOrWants (spot_stands s old.packets) x (put_in s (p, x) old.packets) old answer new
+  pub is : result ≡ passed answer

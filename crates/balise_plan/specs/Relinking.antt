@@ -1,0 +1,25 @@
+-- One link that names another identity, in the index.
+use Rattle.std.specs.Prelude.{◌≡◌, ℕ, not, ◌&&◌, true, false, cond, List, slice_get, unwrap_or}
+use Rattle.std.specs.BTreeMap as map
+use Rattle.std.specs.BTreeSet as set
+use Rattle.balise_rules.specs.declared.identity.Id.{Id}
+use Rattle.balise_rules.specs.Tags.{same_id}
+use Rattle.balise_rules.specs.Names.{is_real}
+use Rattle.balise_plan.specs.declared.links.LinkPlace.{LinkPlace}
+use Rattle.balise_plan.specs.Links.{held, is_id, is_place}
+
+-- an identity that nothing names
+abbrev pub unnamed : Id
+unnamed = record { country = 0; number = 16383 }
+
+-- the identity of element k, where there is one
+abbrev pub element_at : List Id → ℕ → Id
+element_at links k = unwrap_or (slice_get links k) unnamed
+
+-- w names q, if that can be named
+abbrev pub AddsReal : map.BTreeMap Id (set.BTreeSet LinkPlace) → map.BTreeMap Id (set.BTreeSet LinkPlace) → Id → LinkPlace → Type 0
+AddsReal m n q w = (r : Id) (v : LinkPlace) → held n r v ≡ cond (is_real q && (is_id q r && is_place w v)) true (held m r v)
+
+-- w doesn't name the one identity, unless that is the other
+abbrev pub ForgetsOther : map.BTreeMap Id (set.BTreeSet LinkPlace) → map.BTreeMap Id (set.BTreeSet LinkPlace) → Id → Id → LinkPlace → Type 0
+ForgetsOther m n kept gone w = (r : Id) (v : LinkPlace) → held n r v ≡ cond (not (same_id kept gone) && (is_id gone r && is_place w v)) false (held m r v)

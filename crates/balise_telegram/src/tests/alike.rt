@@ -95,6 +95,7 @@ pub(crate) fn check_alike(rt: &impl Abort, balise: &Balise, telegram: &Telegram)
     assert!(rt; balise.count() == telegram.count());
     for var in HEADER {
         assert!(rt; balise.head(var) == telegram.head(var));
+        assert!(rt; balise.header().get(var) == telegram.header().get(var));
     }
     for place in 0..35 {
         assert!(rt; balise.packet_at(place as usize) == telegram.packet_at(place as usize));

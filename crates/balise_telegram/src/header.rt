@@ -14,7 +14,7 @@ use balise_bits::{Bits, BitsFault};
 use balise_rules::Var;
 use std::marker::Model;
 
-/// The ten fields of a header, 50 bits (SUBSET-026, 8.4.2). In bits, in their order: Q_UPDOWN 1,
+/// The ten fields of a header, 50 bits (SUBSET-026, 8.4.2). In bits, in the order of the standard: Q_UPDOWN 1,
 /// M_VERSION 7, Q_MEDIA 1, N_PIG 3, N_TOTAL 3, M_DUP 2, M_MCOUNT 8, NID_C 10, NID_BG 14, Q_LINK 1.
 #[derive(Debug, Drop)]
 pub struct Header {
@@ -25,9 +25,9 @@ pub struct Header {
     n_total: u8,
     m_dup: u8,
     m_mcount: u8,
+    q_link: u8,
     nid_c: u16,
     nid_bg: u16,
-    q_link: u8,
 }
 
 impl Model for Header {

@@ -1,5 +1,7 @@
 //! Telegrams of known digits, each read and shown again.
 
+mod alike;
+mod balise;
 mod changes;
 mod full;
 mod packed;
@@ -125,13 +127,17 @@ fn finds_packets(rt: HostRuntime) {
     for (i, restriction) in [(0, 5), (1, 7)] {
         let (tag, packet) = telegram.at(i as usize).expect(&rt, "a packet");
         assert!(rt; tag == PacketTag::Base(i));
+        assert!(rt; telegram.packet_at(i as usize) == Some((tag, 66)));
+        assert!(rt; telegram.field(tag, Var::NidTsr, 0) == Some(restriction));
         assert!(rt; packet.field(Var::NidTsr, 0) == Some(restriction));
         let packet = telegram.packet(tag).expect(&rt, "a packet");
         assert!(rt; packet.field(Var::NidTsr, 0) == Some(restriction));
     }
     assert!(rt; telegram.at(2).is_none());
+    assert!(rt; telegram.packet_at(2).is_none());
     for tag in [PacketTag::Base(2), PacketTag::Fresh(0)] {
         assert!(rt; telegram.packet(tag).is_none());
+        assert!(rt; telegram.field(tag, Var::NidTsr, 0).is_none());
     }
     for (var, value) in [(Var::MMcount, Some(255)), (Var::NidTsr, None)] {
         assert!(rt; telegram.head(var) == value);

@@ -1,6 +1,6 @@
 //! Hexadecimal digits, four bits each.
 
-ghost use Rattle.std.specs.Prelude.{◌≡◌, ◌≢◌, length, Ok, Err, IfErr, IfOk, OnOk, IsOkUnless};
+ghost use Rattle.std.specs.Prelude.{◌≡◌, ◌≢◌, length, Ok, Err, IfErr, IfOk, OnErr, OnOk, IsOkUnless};
 ghost use Rattle.std.specs.String.{string_bytes};
 ghost use Rattle.balise_rules.specs.Digits.{digits_in, hex_of, read_digits, read_hex};
 ghost use Rattle.balise_bits.specs.Bytes.{flat};
@@ -68,9 +68,10 @@ impl Bits {
         Ok(Bits { bytes, len })
     }
 
-    /// Writes the digits in lower case into a buffer, in the place of all that it holds.
+    /// Writes the digits in lower case into a buffer, in the place of all that it holds. On want of memory that stays.
     pub fn hex_into(&self, out: &mut Vec<u8>) -> Result<(), BitsFault>
         ensures ok { OnOk result (out.new.items ≡ hex_of self.now) }
+        ensures err { OnErr result (out.new.items ≡ out.old.items) }
         ensures fault { IsOkUnless result BitsFault.OutOfMemory }
     {
         let Some(count) = self.bytes.len().checked_mul(2) else {

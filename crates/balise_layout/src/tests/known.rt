@@ -163,6 +163,27 @@ fn links_are_listed(rt: HostRuntime) -> Result<(), Fail> {
 }
 
 #[test]
+fn links_are_listed_where_a_packet_stands(rt: HostRuntime) -> Result<(), Fail> {
+    for (digits, version, expected) in [
+        (LINKS, 33, [SIX, SIX].as_slice()),
+        (LINK, 16, [FIVE].as_slice()),
+        (INFILL, 33, [FIVE].as_slice()),
+        (INFILL_ABROAD, 33, [SIX].as_slice()),
+        (SPEEDS, 33, [].as_slice()),
+        (OPAQUE, 33, [].as_slice()),
+    ] {
+        let mut bits = Bits::new(rt.alloc());
+        bits.push_zeros(50)?;
+        packet_of(rt.alloc(), digits, version)?.write(&mut bits)?;
+        let links = Packet::links_in(&bits, 50, version, 5)?;
+        assert!(rt; links.as_slice() == expected, "{digits}");
+        let none = Packet::links_in(&bits, 49, version, 5)?;
+        assert!(rt; none.is_empty(), "{digits}");
+    }
+    Ok(())
+}
+
+#[test]
 fn links_have_the_telegrams_country(rt: HostRuntime) -> Result<(), Fail> {
     let packet = packet_of(rt.alloc(), LINK, 33)?;
     check_links(&rt, &packet, &[FIVE])?;

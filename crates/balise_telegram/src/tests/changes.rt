@@ -1,10 +1,28 @@
 //! What turning and renumbering change, and copies, with digits made by hand.
 
 use crate::tests::{TWO_PACKETS, shows, telegram};
-use crate::{PacketTag, Var};
+use crate::{Id, PacketTag, Var};
 
-// One packet 5 with one element.
-const LINKING: &str = "a1007f80a032c15022a07d00326301ffffffffffffffffffffffc0";
+/// One packet 5 with one element.
+pub(crate) const LINKING: &str = "a1007f80a032c15022a07d00326301ffffffffffffffffffffffc0";
+
+/// What the element names.
+pub(crate) const NAMED: Id = Id {
+    country: 5,
+    number: 100,
+};
+
+/// The same with the element's orientation flipped.
+pub(crate) const FLIPPED: &str = "a1007f80a032c15022a07d00322301ffffffffffffffffffffffc0";
+
+/// The same with 777 named.
+pub(crate) const RENAMED: &str = "a1007f80a032c15022a07d0184e301ffffffffffffffffffffffc0";
+
+/// The two packets, the first one turned.
+pub(crate) const TURNED: &str = "a1007f80a03250800f82a1201f07ffffffffffffffffffffffffc0";
+
+/// The two packets under a header with N_PIG 3 and NID_BG 777.
+pub(crate) const HEADER_PUT: &str = "a1307f80a184d0900f82a1201f07ffffffffffffffffffffffffc0";
 
 #[test]
 fn turns_a_packet(rt: HostRuntime) {
@@ -13,8 +31,7 @@ fn turns_a_packet(rt: HostRuntime) {
     telegram.flip_dir(PacketTag::Base(2));
     assert!(rt; shows(&rt, alloc, &telegram, TWO_PACKETS));
     telegram.flip_dir(PacketTag::Base(0));
-    let turned = "a1007f80a03250800f82a1201f07ffffffffffffffffffffffffc0";
-    assert!(rt; shows(&rt, alloc, &telegram, turned));
+    assert!(rt; shows(&rt, alloc, &telegram, TURNED));
     telegram.flip_dir(PacketTag::Base(0));
     assert!(rt; shows(&rt, alloc, &telegram, TWO_PACKETS));
 }
@@ -23,18 +40,20 @@ fn turns_a_packet(rt: HostRuntime) {
 fn changes_an_element(rt: HostRuntime) {
     let alloc = rt.alloc();
     let mut telegram = telegram(&rt, alloc, LINKING);
+    let links = telegram.links(PacketTag::Base(0)).expect(&rt, "memory");
+    assert!(rt; links.as_slice() == [NAMED].as_slice());
+    let links = telegram.links(PacketTag::Base(1)).expect(&rt, "memory");
+    assert!(rt; links.is_empty());
     telegram.flip_link(PacketTag::Base(0), 1);
     telegram.flip_link(PacketTag::Base(1), 0);
     telegram.name_link(PacketTag::Base(0), 1, 777);
     telegram.name_link(PacketTag::Base(1), 0, 777);
     assert!(rt; shows(&rt, alloc, &telegram, LINKING));
     telegram.flip_link(PacketTag::Base(0), 0);
-    let flipped = "a1007f80a032c15022a07d00322301ffffffffffffffffffffffc0";
-    assert!(rt; shows(&rt, alloc, &telegram, flipped));
+    assert!(rt; shows(&rt, alloc, &telegram, FLIPPED));
     telegram.flip_link(PacketTag::Base(0), 0);
     telegram.name_link(PacketTag::Base(0), 0, 777);
-    let renamed = "a1007f80a032c15022a07d0184e301ffffffffffffffffffffffc0";
-    assert!(rt; shows(&rt, alloc, &telegram, renamed));
+    assert!(rt; shows(&rt, alloc, &telegram, RENAMED));
 }
 
 #[test]
@@ -44,8 +63,7 @@ fn puts_variables_of_the_header(rt: HostRuntime) {
     let mut telegram = telegram(&rt, alloc, TWO_PACKETS);
     telegram.put_head(Var::NPig, 3);
     telegram.put_head(Var::NidBg, 777);
-    let put = "a1307f80a184d0900f82a1201f07ffffffffffffffffffffffffc0";
-    assert!(rt; shows(&rt, alloc, &telegram, put));
+    assert!(rt; shows(&rt, alloc, &telegram, HEADER_PUT));
 }
 
 #[test]

@@ -16,11 +16,11 @@ const LAST_FIRST: &str =
     "a1007f80a03261100bb2201765402ecc805d9d00bb4201769402ed4805dad00bb620176d402edc805dbd00bb8201771402ee4805dcd00bba201775402eec805ddd00bbc201779402ef4805ded00bbe20177d402efc805dfd00bc0201781402f04805e0d00bfffffc";
 
 /// 830 bits without packets.
-const LONG: &str =
+pub(crate) const LONG: &str =
     "a1007f80a0327ffffffffffffffffffffffffffffffffffffffffffffffffffffffffffffffffffffffffffffffffffffffffffffffffffffffffffffffffffffffffffffffffffffffffffffffffffffffffffffffffffffffffffffffffffffffffffffffffffc";
 
 /// 210 bits without packets.
-const SHORT: &str = "a1007f80a0327fffffffffffffffffffffffffffffffffffffffc0";
+pub(crate) const SHORT: &str = "a1007f80a0327fffffffffffffffffffffffffffffffffffffffc0";
 
 /// The bits of a packet 44, which isn't known, of so many bits: zeros behind its first three fields.
 fn opaque(rt: &impl Abort, alloc: Global, width: u32) -> Bits {

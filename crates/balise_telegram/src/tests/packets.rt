@@ -1,32 +1,31 @@
 //! Packets taken out and put in, with digits made by hand.
 
+use crate::tests::full::SHORT;
 use crate::tests::{TWO_PACKETS, shows, telegram};
 use crate::{Bits, Packet, PacketTag, Telegram, TelegramFault, Var};
 use std::alloc::Global;
 use std::process::Abort;
 
-const EMPTY: &str = "a1007f80a0327fffffffffffffffffffffffffffffffffffffffc0";
-
-const ONE_PACKET: &str = "a1007f80a03250900f82ffffffffffffffffffffffffffffffffc0";
+pub(crate) const ONE_PACKET: &str = "a1007f80a03250900f82ffffffffffffffffffffffffffffffffc0";
 
 const COLOURED: &str = "a1007f80a0327fc05a5a5a5a5a5a5a5a5a5a5a5a5a5a5a5a5a5a40";
 
 const COLOURED_ONE: &str = "a1007f80a03250900f82ffda5a5a5a5a5a5a5a5a5a5a5a5a5a5a40";
 
-// The two packets, the second one first.
-const EXCHANGED: &str = "a1007f80a03250900f83a1201f05ffffffffffffffffffffffffc0";
+/// The two packets, the second one first.
+pub(crate) const EXCHANGED: &str = "a1007f80a03250900f83a1201f05ffffffffffffffffffffffffc0";
 
 /// Packets 66, which take back restrictions 5 and 9.
-const FIVE: &str = "42403e0a";
+pub(crate) const FIVE: &str = "42403e0a";
 
-const NINE: &str = "42403e12";
+pub(crate) const NINE: &str = "42403e12";
 
 /// The bits of such a packet.
-fn packet_bits(rt: &impl Abort, alloc: Global, text: &str) -> Bits {
+pub(crate) fn packet_bits(rt: &impl Abort, alloc: Global, text: &str) -> Bits {
     Bits::from_hex(alloc, text, 31).expect(rt, "digits")
 }
 
-fn packet(rt: &impl Abort, alloc: Global, text: &str) -> Packet {
+pub(crate) fn packet(rt: &impl Abort, alloc: Global, text: &str) -> Packet {
     let bits = packet_bits(rt, alloc, text);
     Packet::read(&bits, 0, 33).expect(rt, "a packet").0
 }
@@ -82,7 +81,7 @@ fn has(telegram: &Telegram, restrictions: &[u32]) -> bool {
 #[test]
 fn puts_a_packet_in_and_takes_it_out(rt: HostRuntime) {
     let alloc = rt.alloc();
-    for (before, after) in [(EMPTY, ONE_PACKET), (COLOURED, COLOURED_ONE)] {
+    for (before, after) in [(SHORT, ONE_PACKET), (COLOURED, COLOURED_ONE)] {
         let mut telegram = telegram(&rt, alloc, before);
         let tag = PacketTag::Fresh(1);
         let five = packet(&rt, alloc, FIVE);

@@ -5,7 +5,6 @@ use Rattle.std.specs.BTreeSet as set
 use Rattle.balise_rules.specs.declared.identity.Id.{Id}
 use Rattle.balise_rules.specs.declared.tag.Tag.{Tag}
 use Rattle.balise_rules.specs.Packet.{Packet}
-use Rattle.balise_rules.specs.Telegram.{Telegram}
 use Rattle.balise_rules.specs.Plan.{Group, country_of}
 use Rattle.balise_rules.specs.Names.{is_real, links_of}
 use Rattle.balise_plan.specs.declared.links.LinkPlace.{LinkPlace}

@@ -1,13 +1,13 @@
 -- Where something is put in, and what putting a packet in makes of a plan.
-use Rattle.std.specs.Prelude.{◌≡◌, ◌⊎◌, ◌+◌, ℕ, not, nat_lt, Bool, List, [], ◌∷◌, Option, Some, None, Result, Ok, Err}
+use Rattle.std.specs.Prelude.{◌≡◌, ◌⊎◌, ◌+◌, ℕ, not, nat_lt, Bool, List, [], ◌∷◌, Option, Some, None, Result, Ok, Err, is_some}
 use Rattle.balise_rules.specs.declared.tag.Tag.{Tag}
 use Rattle.balise_rules.specs.declared.refusal.Refusal.{Refusal}
-use Rattle.balise_rules.specs.declared.refusal.Refusal.TheVariants.{NoSuchPacket, NoRoom, OutOfMemory}
+use Rattle.balise_rules.specs.declared.refusal.Refusal.TheVariants.{NoSuchGroup, NoSuchPacket, NoRoom, GroupTwice, OutOfMemory}
 use Rattle.balise_rules.specs.Tagged.{put, put_before, stands}
 use Rattle.balise_rules.specs.Tags.{same_tag}
 use Rattle.balise_rules.specs.Packet.{Packet, width}
 use Rattle.balise_rules.specs.Telegram.{room}
-use Rattle.balise_rules.specs.Plan.{telegram_at}
+use Rattle.balise_rules.specs.Plan.{Group, group_named, identity_of, pushed, telegram_at}
 use Rattle.balise_rules.specs.Plan as rules
 use Rattle.balise_rules.specs.Doing.{first_of, when, no_group, no_telegram, in_telegram}
 use Rattle.balise_rules.specs.Back.{in_packets}
@@ -35,3 +35,17 @@ put_refusal g t s x plan = first_of (no_group g plan ∷ no_telegram g t plan
 abbrev pub PutsPacket : Tag → ℕ → Spot Tag → Tag → Packet → Plan → Result Unit (Refusal × Packet) → Plan → Type 0
 PutsPacket g t s p x old (Ok u) new = (put_refusal g t s x old.groups ≡ None) × (new ≡ record { groups = in_packets g t (put_in s (p, x)) old.groups; changes = old.changes + 1 })
 PutsPacket g t s p x old (Err e) new = ((e.0 ≡ OutOfMemory) ⊎ (put_refusal g t s x old.groups ≡ Some e.0)) × (e.1 ≡ x) × (new ≡ old)
+
+-- the first reason why a group isn't put in
+abbrev pub group_refusal : Spot Tag → Group → rules.Plan → Option Refusal
+group_refusal s ys plan = first_of (when (not (spot_stands s plan)) NoSuchGroup ∷ when (is_some (group_named (identity_of ys) plan)) GroupTwice ∷ [])
+
+-- The group stands there under the tag; or the first refusal is answered, or want of memory, the group is handed back and all stays.
+abbrev pub PutsGroup : Spot Tag → Tag → Group → Plan → Result Unit (Refusal × Group) → Plan → Type 0
+PutsGroup s g ys old (Ok u) new = (group_refusal s ys old.groups ≡ None) × (new ≡ record { groups = put_in s (g, ys) old.groups; changes = old.changes + 1 })
+PutsGroup s g ys old (Err e) new = ((e.0 ≡ OutOfMemory) ⊎ (group_refusal s ys old.groups ≡ Some e.0)) × (e.1 ≡ ys) × (new ≡ old)
+
+-- One more group stands at the end, as the rules read it, and no change is counted; or the first refusal is answered, or want of memory, and all stays.
+abbrev pub Pushes : List (List Bool) → Plan → Result Unit Refusal → Plan → Type 0
+Pushes bs old (Ok u) new = (pushed old.groups bs ≡ Ok new.groups) × (new.changes ≡ old.changes)
+Pushes bs old (Err e) new = ((e ≡ OutOfMemory) ⊎ (pushed old.groups bs ≡ Err e)) × (new ≡ old)

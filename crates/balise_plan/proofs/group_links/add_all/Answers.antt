@@ -1,4 +1,4 @@
-use Rattle.std.proofs.Common.{◌<◌, length, arith}
+use Rattle.std.proofs.Common.{arith}
 use Rattle.balise_plan.proofs.GroupLists.{adds_one, put_back}
 use Rattle.balise_plan.proofs.group_links.add_all.Goals as goal
 

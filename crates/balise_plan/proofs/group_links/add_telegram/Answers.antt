@@ -1,11 +1,9 @@
-use Rattle.std.proofs.Common.{◌≡◌, ◌∙◌, ◌≤◌, ◌<◌, ◌+◌, ◌++◌, ℕ, List, Some, length, drop, slice_get, ap, sym, append_assoc, arith}
+use Rattle.std.proofs.Common.{◌≡◌, ◌∙◌, ◌+◌, ◌++◌, List, length, drop, slice_get, ap, sym, append_assoc, arith}
 use Rattle.balise_rules.specs.declared.identity.Id.{Id}
-use Rattle.balise_rules.specs.declared.tag.Tag.{Tag}
 use Rattle.balise_rules.specs.Names.{links_of}
-use Rattle.balise_rules.specs.Packet.{Packet}
 use Rattle.balise_rules.specs.Plan.{country_of}
 use Rattle.balise_rules.proofs.Tests.{tag_test}
-use Rattle.balise_telegram.specs.Packed.{links_at, links_found}
+use Rattle.balise_telegram.specs.Packed.{links_found}
 use Rattle.balise_plan.specs.GroupLinks.{links_from, links_in_packets}
 use Rattle.balise_plan.proofs.GroupLists.{Links, drop_found, found_at, used_at}
 use Rattle.balise_plan.proofs.LinksAll.{links-within}

@@ -1,4 +1,4 @@
-use Rattle.std.proofs.Common.{◌<◌, length, arith}
+use Rattle.std.proofs.Common.{arith}
 use Rattle.balise_plan.proofs.GroupLists.{forgets_one}
 use Rattle.balise_plan.proofs.group_links.forget_first.Goals as goal
 

@@ -1,6 +1,5 @@
-use Rattle.std.proofs.Common.{◌≡◌, ◌∙◌, ◌≤◌, ◌+◌, ◌-◌, ◌++◌, ℕ, List, Some, length, drop, slice_get, ap, sym, append_assoc, arith}
-use Rattle.balise_rules.specs.Telegram.{Telegram}
-use Rattle.balise_rules.specs.Plan.{Group, country_of, identity_of}
+use Rattle.std.proofs.Common.{◌≡◌, ◌∙◌, ◌+◌, ◌-◌, ◌++◌, length, drop, ap, sym, append_assoc, arith}
+use Rattle.balise_rules.specs.Plan.{country_of, identity_of}
 use Rattle.balise_plan.specs.GroupLinks.{links_in_group, links_in_packets}
 use Rattle.balise_plan.proofs.GroupLists.{Links, drop_found, sound_at}
 use Rattle.balise_plan.proofs.LinksAll.{short}

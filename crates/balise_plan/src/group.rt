@@ -1,6 +1,7 @@
 //! A group: its telegrams under their tags.
 
 mod changes;
+mod copying;
 mod putting;
 mod reading;
 mod turning;

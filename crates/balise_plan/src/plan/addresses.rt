@@ -66,12 +66,7 @@ impl Plan {
     }
 
     // The telegram of the packet at a place, with the tags that lead to the packet.
-    fn find_packet(
-        &self,
-        id: Id,
-        pig: u32,
-        pkt: u32,
-    ) -> Result<(Tag, u32, &Balise, Tag), Refusal>
+    fn find_packet(&self, id: Id, pig: u32, pkt: u32) -> Result<(Tag, u32, &Balise, Tag), Refusal>
         ensures ok { IfOk result (λ r. (x : Packet) × (find_packet id pig pkt self.now.groups ≡ Ok (record { group = r.0; place = r.1; telegram = r.2.now; tag = r.3; packet = x })) × (find same_tag r.3 r.2.now.packets ≡ Some x)) }
         ensures fault { IfErr result (λ e. find_packet id pig pkt self.now.groups ≡ Err e) }
     {

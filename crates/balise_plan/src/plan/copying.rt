@@ -1,0 +1,30 @@
+//! A plan once more.
+
+ghost use Rattle.std.specs.Prelude.{◌≡◌, IfOk, IsOkUnless};
+
+use crate::plan::Plan;
+use balise_rules::Refusal;
+use indexmap::IndexMap;
+
+impl Plan {
+    /// The same plan once more.
+    pub fn copy(&self) -> Result<Plan, Refusal>
+        ensures ok { IfOk result (λ plan. plan ≡ self.now) }
+        ensures fault { IsOkUnless result Refusal.OutOfMemory }
+    {
+        let mut groups = IndexMap::new(*self.groups.allocator());
+        groups.reserve(self.groups.len())?;
+        for i in 0..self.groups.len() {
+            let Some((tag, group)) = self.groups.get_index(i) else {
+                return Err(Refusal::OutOfMemory);
+            };
+            groups.insert(*tag, group.copy()?)?;
+        }
+        Ok(Plan {
+            groups,
+            identities: self.identities.clone()?,
+            names: self.names.clone()?,
+            changes: self.changes,
+        })
+    }
+}

@@ -9,7 +9,6 @@ use Rattle.balise_rules.specs.declared.tag.Tag.{Tag}
 use Rattle.balise_rules.specs.declared.identity.Id.{Id}
 use Rattle.balise_rules.specs.declared.refusal.Refusal.{Refusal}
 use Rattle.balise_rules.specs.declared.refusal.Refusal.TheVariants as refusals
-use Rattle.balise_rules.specs.declared.variable.Var.{Var}
 use Rattle.balise_rules.specs.declared.variable.Var.TheVariants.{NidBg, NidC}
 use Rattle.balise_rules.specs.Tagged.{find}
 use Rattle.balise_rules.specs.Tags.{Key, same_tag, same_id, same_key}
@@ -20,7 +19,7 @@ use Rattle.balise_rules.specs.Plan as rules
 use Rattle.balise_rules.specs.Accepting.{Accepted}
 use Rattle.balise_rules.specs.Doing.{refusal}
 use Rattle.balise_rules.specs.Names.{country_at, is_it, is_real, links_of}
-use Rattle.balise_rules.specs.Notes.{noted, note_at, set_note}
+use Rattle.balise_rules.specs.Notes.{noted}
 use Rattle.balise_rules.specs.Edits.{SetVar, telegram_after}
 use Rattle.balise_rules.proofs.Tests.{test-sym, tag_test, key_test}
 use Rattle.balise_rules.proofs.Cases.{found, unsome}
@@ -49,14 +48,6 @@ use Rattle.balise_plan.proofs.Replaced.{Replaces, held-put}
 use Rattle.balise_plan.proofs.TelegramEdits.{set-at}
 use Rattle.balise_plan.proofs.Turned.{map-id}
 use Rattle.balise_plan.proofs.Walking.{place}
-
--- the old value is what is noted
-pub noted-set : (g : Tag) (t : ℕ) (p : Tag) (v : Var) (k n was : ℕ) (plan : rules.Plan) (y : Telegram) → telegram_at g t plan ≡ Some y → field_at p v k y ≡ Some was → was ≡ (noted (SetVar g t p v k n) plan).old
-noted-set g t p v k n was plan y e f =
-    found (find same_tag p y.packets)
-    (λ h. absurd (let q = sym f ∙ ap (option_and_then (λ (x : Packet). field_of v k x.fields)) h in cc))
-    (λ x h. let q : field_of v k x.fields ≡ Some was = sym (ap (option_and_then (λ (x : Packet). field_of v k x.fields)) h) ∙ f in
-    sym (ap (λ o. (note_at (SetVar g t p v k n) o).old) e ∙ ap (λ o. (set_note v k n (country_of y) o).old) h ∙ ap (λ o. unwrap_or o 0) q))
 
 -- a packet that has the link
 pub record HasLink (p : Tag) (k was : ℕ) (y : Telegram) : Type 0 where
@@ -123,7 +114,7 @@ module _ (plan : rules.Plan) (ids : map.BTreeMap Id Tag) (names : map.BTreeMap I
 
       -- set
       pub linked : (zs : Group) (was : ℕ) → Within eqb t no_telegram (Passed (SetsField p NidBg k n)) ys (Ok was) zs → AreFull after → ForgetsOther mid after to (element_at ls k) (place g t p k) →
-          Outcome (SetVar g t p NidBg k n) ids after plan (set_value (same_tag g) plan zs) × (was ≡ (noted (SetVar g t p NidBg k n) plan).old)
+          Outcome (SetVar g t p NidBg k n) ids after plan (set_value (same_tag g) plan zs)
       linked zs was w full f =
           let l = well g t plan held_is.sound ys zs here (SetsField p NidBg k n) was w in
           let y = l.old in
@@ -142,16 +133,14 @@ module _ (plan : rules.Plan) (ids : map.BTreeMap Id Tag) (names : map.BTreeMap I
           let body : (r : Tag) → find same_tag r l.next.packets ≡ option_map (λ z. cond (same_tag p r) (with_packet_field NidBg k n z) z) (find same_tag r y.packets) =
           λ r. ap (λ (z : Telegram). find same_tag r z.packets) l.call.2 ∙ find-each tag_test (λ q z. cond (same_tag p q) (with_packet_field NidBg k n z) z) r y.packets in
           let itself : find same_tag p l.next.packets ≡ Some (with_packet_field NidBg k n x) = body p ∙ ap (option_map (λ z. cond (same_tag p p) (with_packet_field NidBg k n z) z)) h.there
-          ∙ ap (λ b. Some (cond b (with_packet_field NidBg k n x) x)) (tag_test.itself p) in (
-            record {
-              accepted = ok;
-              is = set_plan g t p NidBg k n plan held_is.sound ys zs here was w own;
-              held = subst (IsHeld ids after) (sym l.is) (held-put plan held_is.sound g t y l.next l.stands replaces ids names held_is p (Some (with_packet_field NidBg k n x)) itself
-                  (λ r d. body r ∙ ap (λ b. option_map (λ z. cond b (with_packet_field NidBg k n z) z) (find same_tag r y.packets)) (test-sym tag_test p r ∙ d) ∙ map-id (find same_tag r y.packets)) after full
-                  (index y l.stands x was h.there h.number to_is f));
-            },
-            noted-set g t p NidBg k n was plan y l.stands l.call.1,
-          )
+          ∙ ap (λ b. Some (cond b (with_packet_field NidBg k n x) x)) (tag_test.itself p) in
+          record {
+            accepted = ok;
+            is = set_plan g t p NidBg k n plan held_is.sound ys zs here was w own;
+            held = subst (IsHeld ids after) (sym l.is) (held-put plan held_is.sound g t y l.next l.stands replaces ids names held_is p (Some (with_packet_field NidBg k n x)) itself
+                (λ r d. body r ∙ ap (λ b. option_map (λ z. cond b (with_packet_field NidBg k n z) z) (find same_tag r y.packets)) (test-sym tag_test p r ∙ d) ∙ map-id (find same_tag r y.packets)) after full
+                (index y l.stands x was h.there h.number to_is f));
+          }
         where
           index : (y : Telegram) → telegram_at g t plan ≡ Some y → (x : Packet) (was : ℕ) → find same_tag p y.packets ≡ Some x → field_of NidBg k x.fields ≡ Some was → to ≡ record { country = country_at (country_of y) k x.fields; number = n } →
               ForgetsOther mid after to (element_at ls k) (place g t p k) →

@@ -106,7 +106,7 @@ unpair e f q = cc
 
 module _ (plan : rules.Plan) (ids : map.BTreeMap Id Tag) (names : map.BTreeMap Id (set.BTreeSet LinkPlace)) (held_is : IsHeld ids names plan) (g : Tag) (t : ℕ) (s : Spot Tag) (p : Tag) (x : Packet) (ys : Group) (group : find same_tag g plan ≡ Some ys)
     (fresh : (y : Telegram) → telegram_at g t plan ≡ Some y → find same_tag p y.packets ≡ None) (spelt : (y : Telegram) → telegram_at g t plan ≡ Some y → IsSpelt (version_of y) x) where
-  pub at : (o : Option Telegram) → find eqb t ys ≡ o → telegram_at g t plan ≡ o
+  at : (o : Option Telegram) → find eqb t ys ≡ o → telegram_at g t plan ≡ o
   at o e = ap (option_and_then (find eqb t)) group ∙ e
 
   pub lacking : None ≡ option_map country_of (find eqb t ys) → put_refusal g t s x plan ≡ Some refusals.NoSuchTelegram

@@ -16,7 +16,7 @@ use Rattle.balise_rules.specs.Plan.{Group, telegram_at, country_of}
 use Rattle.balise_rules.specs.Plan as rules
 use Rattle.balise_rules.specs.Accepting.{Accepted, AcceptedAt, AcceptedIn}
 use Rattle.balise_rules.specs.Doing.{refusal, when}
-use Rattle.balise_rules.specs.Notes.{noted, note_at}
+use Rattle.balise_rules.specs.Notes.{noted}
 use Rattle.balise_rules.specs.Edits.{DeletePacket, MovePacket, telegram_after}
 use Rattle.balise_rules.proofs.Tests.{split_keys, tag_test}
 use Rattle.balise_rules.proofs.Cases.{unsome}
@@ -66,7 +66,7 @@ module _ (plan : rules.Plan) (ids : map.BTreeMap Id Tag) (names : map.BTreeMap I
       links-is y e = links.2 ∙ ap (links_at p) (unsome (sym (at-group g t plan held_is.sound ys ys here (Some links.0) links.1) ∙ e))
 
       pub taken : (after : map.BTreeMap Id (set.BTreeSet LinkPlace)) → AreFull after → Forgets g t p ls (length ls) names after →
-          Outcome (DeletePacket g t p) ids after plan (set_value (same_tag g) plan zs) × ((noted (DeletePacket g t p) plan).packet ≡ Some a.0) × ((noted (DeletePacket g t p) plan).before ≡ a.1)
+          Outcome (DeletePacket g t p) ids after plan (set_value (same_tag g) plan zs)
       taken after full f =
           let l = well g t plan held_is.sound ys zs here (OrWants (TakesOut p)) a w in
           let own = (noted (DeletePacket g t p) plan).own in
@@ -74,17 +74,14 @@ module _ (plan : rules.Plan) (ids : map.BTreeMap Id Tag) (names : map.BTreeMap I
           let at : l.next ≡ telegram_after (0, DeletePacket g t p) own g t l.old = l.call.2 ∙ delete-at own g t p l.old in
           let replaces : Replaces l.old l.next = λ i last m s. subst (rules.IsSoundTelegram i last m) (sym at) (telegram_kept (0, DeletePacket g t p) tt i own last m g t l.old s tt) in
           let all = links-is l.old l.stands ∙ ap (links_found (country_of l.old)) l.call.0 in
-          let gone : find same_tag p l.next.packets ≡ None = ap (λ (y : Telegram). find same_tag p y.packets) l.call.2 ∙ find-without_same same_tag p l.old.packets in (
-            record {
-              accepted = ok;
-              is = l.is ∙ by-telegram (telegram_after (0, DeletePacket g t p) own) g t plan held_is.sound l.old l.next l.stands at (delete-other own g t p);
-              held = subst (IsHeld ids after) (sym l.is) (held-put plan held_is.sound g t l.old l.next l.stands replaces ids names held_is p None gone
-                  (λ r d. ap (λ (y : Telegram). find same_tag r y.packets) l.call.2 ∙ find-without tag_test r p d l.old.packets) after full
-                  (forgotten g t p plan held_is.sound l.old l.stands names after held_is.named a.0 ls all l.call.0 f));
-            },
-            ap (λ o. (note_at (DeletePacket g t p) o).packet) l.stands ∙ l.call.0,
-            ap (λ o. (note_at (DeletePacket g t p) o).before) l.stands ∙ l.call.1,
-          )
+          let gone : find same_tag p l.next.packets ≡ None = ap (λ (y : Telegram). find same_tag p y.packets) l.call.2 ∙ find-without_same same_tag p l.old.packets in
+          record {
+            accepted = ok;
+            is = l.is ∙ by-telegram (telegram_after (0, DeletePacket g t p) own) g t plan held_is.sound l.old l.next l.stands at (delete-other own g t p);
+            held = subst (IsHeld ids after) (sym l.is) (held-put plan held_is.sound g t l.old l.next l.stands replaces ids names held_is p None gone
+                (λ r d. ap (λ (y : Telegram). find same_tag r y.packets) l.call.2 ∙ find-without tag_test r p d l.old.packets) after full
+                (forgotten g t p plan held_is.sound l.old l.stands names after held_is.named a.0 ls all l.call.0 f));
+          }
 
 module _ (plan : rules.Plan) (ids : map.BTreeMap Id Tag) (names : map.BTreeMap Id (set.BTreeSet LinkPlace)) (held_is : IsHeld ids names plan) (g : Tag) (t : ℕ) (p : Tag) (b : Option Tag) (ys zs : Group) (here : find same_tag g plan ≡ Some ys) where
   pub unmoved : (e : Refusal) → Within eqb t no_telegram (Passed (OrWants (Shifts p b))) ys (Err e) zs → Failed (MovePacket g t p b) plan (set_value (same_tag g) plan zs) e
@@ -97,7 +94,7 @@ module _ (plan : rules.Plan) (ids : map.BTreeMap Id Tag) (names : map.BTreeMap I
       by l (inl q) = record { why = inl (l.fault ∙ ap refusal_of q.0); is = l.is q.1 }
       by l (inr q) = record { why = inr (move-refused g t plan ys here p b l.old l.stands ∙ q.0 ∙ ap Some (sym l.fault)); is = l.is q.1 }
 
-  pub moved : (a : Option Tag) → Within eqb t no_telegram (Passed (OrWants (Shifts p b))) ys (Ok a) zs → Outcome (MovePacket g t p b) ids names plan (set_value (same_tag g) plan zs) × ((noted (MovePacket g t p b) plan).before ≡ a)
+  pub moved : (a : Option Tag) → Within eqb t no_telegram (Passed (OrWants (Shifts p b))) ys (Ok a) zs → Outcome (MovePacket g t p b) ids names plan (set_value (same_tag g) plan zs)
   moved a w =
       let l = well g t plan held_is.sound ys zs here (OrWants (Shifts p b)) a w in
       let own = (noted (MovePacket g t p b) plan).own in
@@ -110,11 +107,9 @@ module _ (plan : rules.Plan) (ids : map.BTreeMap Id Tag) (names : map.BTreeMap I
       ap (λ (y : Telegram). find same_tag r y.packets) l.call.2
       ∙ split_keys tag_test r p
       (λ d q. ap (λ u. find same_tag u (move same_tag p b l.old.packets)) q ∙ find-move_same p b inside.0.0 l.old.packets inside.0.1 inside.1 inside.2 ∙ sym (ap (λ u. find same_tag u l.old.packets) q ∙ inside.0.1))
-      (λ d. find-move tag_test r p b d l.old.packets) in (
-        record {
-          accepted = ok;
-          is = l.is ∙ by-telegram (telegram_after (0, MovePacket g t p b) own) g t plan held_is.sound l.old l.next l.stands at (move-other own g t p b);
-          held = subst (IsHeld ids names) (sym l.is) (held-kept plan held_is.sound g t l.old l.next l.stands replaces ids names held_is same);
-        },
-        ap (λ o. (note_at (MovePacket g t p b) o).before) l.stands ∙ l.call.1,
-      )
+      (λ d. find-move tag_test r p b d l.old.packets) in
+      record {
+        accepted = ok;
+        is = l.is ∙ by-telegram (telegram_after (0, MovePacket g t p b) own) g t plan held_is.sound l.old l.next l.stands at (move-other own g t p b);
+        held = subst (IsHeld ids names) (sym l.is) (held-kept plan held_is.sound g t l.old l.next l.stands replaces ids names held_is same);
+      }

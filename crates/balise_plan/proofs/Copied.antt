@@ -1,8 +1,6 @@
 -- A plan copied group by group, and its indexes cloned.
-use Rattle.std.proofs.Common.{◌≡◌, ◌∙◌, ℕ, zero, suc, ◌+◌, Bool, true, false, List, [], ◌∷◌, take, slice_get, Option, Some, None, refl, sym, ap, arith}
+use Rattle.std.proofs.Common.{◌≡◌, ◌∙◌, ℕ, zero, suc, ◌+◌, Bool, List, [], ◌∷◌, take, slice_get, Some, None, refl, sym, ap, arith}
 use Rattle.std.specs.List.{AllZip}
-use Rattle.std.specs.BTreeMap as map
-use Rattle.std.specs.BTreeSet as set
 use Rattle.indexmap.specs.IndexMap.{insert_entry}
 use Rattle.balise_rules.specs.Tagged.{find, Distinct}
 use Rattle.balise_rules.proofs.Cases.{unsome}

@@ -1,4 +1,4 @@
-use Rattle.std.proofs.Common.{◌≡◌, ◌∙◌, Some, slice_get, sym}
+use Rattle.std.proofs.Common.{Some, slice_get, sym}
 use Rattle.balise_rules.specs.Addresses.{FoundTelegram}
 use Rattle.balise_rules.proofs.Tests.{tag_test}
 use Rattle.balise_plan.proofs.Finding.{packet_found}

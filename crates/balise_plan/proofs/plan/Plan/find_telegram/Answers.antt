@@ -1,6 +1,5 @@
 use Rattle.std.proofs.Common.{◌≡◌, ◌∙◌, Some, ap, sym, subst}
 use Rattle.balise_rules.specs.Addresses.{find_telegram}
-use Rattle.balise_rules.specs.Plan.{Plan}
 use Rattle.balise_plan.specs.Held.{tag_named}
 use Rattle.balise_plan.proofs.Finding.{group_found, group_there, telegram_found, tags_there}
 use Rattle.balise_plan.proofs.plan.Plan.find_telegram.Goals as goal

@@ -1,4 +1,4 @@
-use Rattle.std.proofs.Common.{◌≡◌, ◌∙◌, ◌+◌, ◌++◌, [], ◌∷◌, ℕ, Bool, List, map, drop, ap, sym, append_assoc}
+use Rattle.std.proofs.Common.{◌∙◌, ◌+◌, ◌++◌, [], ◌∷◌, Bool, List, map, drop, ap, sym, append_assoc}
 use Rattle.std.proofs.lemmas.List.{map-append}
 use Rattle.balise_rules.specs.Plan.{shown_plan}
 use Rattle.balise_plan.proofs.GroupLists.{drop_found}

@@ -1,4 +1,4 @@
-use Rattle.std.proofs.Common.{◌≡◌, ◌∙◌, ◌+◌, ◌++◌, [], ◌∷◌, ℕ, Bool, List, map, drop, ap, sym, append_assoc}
+use Rattle.std.proofs.Common.{◌∙◌, ◌+◌, ◌++◌, [], ◌∷◌, ℕ, Bool, List, map, drop, ap, sym, append_assoc}
 use Rattle.balise_rules.specs.Telegram.{Telegram, shown}
 use Rattle.balise_plan.proofs.GroupLists.{drop_found}
 use Rattle.balise_plan.proofs.plan.showing.shown_group.Goals as goal

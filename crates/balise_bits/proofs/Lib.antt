@@ -8,3 +8,5 @@ pub mod Spare
 pub mod Ones
 pub mod Same
 pub mod Judging
+mod CellsMemory
+mod Refilled

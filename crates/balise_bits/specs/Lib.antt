@@ -4,3 +4,7 @@ pub mod Equal
 pub use Rattle.balise_rules.specs.Bits
 pub use Rattle.balise_rules.specs.Digits
 pub use Rattle.balise_rules.specs.Refusals
+pub mod Cells
+pub mod Stored
+pub mod Data
+pub mod StoreLends

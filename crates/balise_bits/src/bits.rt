@@ -8,15 +8,14 @@ mod numbers;
 mod parts;
 
 use crate::fault::BitsFault;
-use smallvec::SmallVec;
+use crate::store::Store;
 use std::alloc::Global;
 use std::marker::Model;
 
 /// A list of bits, eight in a byte, the most significant first. The bits behind the last one are zero.
 #[derive(Debug, Drop)]
 pub struct Bits {
-    bytes: SmallVec<u8, 30>,
-    len: usize,
+    bytes: Store,
 }
 
 impl Model for Bits {
@@ -25,9 +24,9 @@ impl Model for Bits {
 
     ghost Value = { List Bool };
 
-    ghost view = { λ a. take a.len (flat a.bytes.items) };
+    ghost view = { λ a. take a.bytes.len (flat a.bytes.items) };
 
-    ghost invariant = { λ a. IsPacked a.len a.bytes.items };
+    ghost invariant = { λ a. IsPacked a.bytes.len a.bytes.items };
 }
 
 impl Bits {
@@ -36,8 +35,7 @@ impl Bits {
         ensures { result ≡ [] }
     {
         Bits {
-            bytes: SmallVec::new(alloc),
-            len: 0,
+            bytes: Store::new(alloc),
         }
     }
 
@@ -46,15 +44,15 @@ impl Bits {
         ensures ok { IfOk result (λ b. b ≡ []) }
         ensures fault { IsOkUnless result BitsFault.OutOfMemory }
     {
-        let bytes = SmallVec::with_capacity(alloc, len.div_ceil(8))?;
-        Ok(Bits { bytes, len: 0 })
+        let bytes = Store::with_capacity(alloc, len.div_ceil(8))?;
+        Ok(Bits { bytes })
     }
 
     /// How many bits there are.
     pub fn len(&self) -> usize
         ensures { result ≡ length self.now }
     {
-        self.len
+        self.bytes.len()
     }
 
     /// Whether there are none.
@@ -66,7 +64,7 @@ impl Bits {
 
     /// Where its memory comes from.
     pub fn allocator(&self) -> Global {
-        *self.bytes.allocator()
+        self.bytes.allocator()
     }
 
     /// The same bits once more.
@@ -74,10 +72,7 @@ impl Bits {
         ensures ok { IfOk result (λ b. b ≡ self.now) }
         ensures fault { IsOkUnless result BitsFault.OutOfMemory }
     {
-        let bytes = SmallVec::from_slice(self.allocator(), &self.bytes)?;
-        Ok(Bits {
-            bytes,
-            len: self.len,
-        })
+        let bytes = self.bytes.copy()?;
+        Ok(Bits { bytes })
     }
 }

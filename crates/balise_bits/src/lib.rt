@@ -4,8 +4,10 @@
 #![tactic(auto)]
 
 mod bits;
+mod cells;
 mod fault;
 mod nibbles;
+mod store;
 #[cfg(test)]
 mod tests;
 mod window;

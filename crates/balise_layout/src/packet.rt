@@ -1,8 +1,9 @@
 //! A packet of a telegram.
 
-ghost use Rattle.std.specs.Prelude.{◌≡◌, ◌≢◌, ◌↔◌, ◌++◌, ◌<◌, ◌^◌, ℕ, false, Some, drop, IfErr, IfOk, IsOkUnless, IsTrue, MatchResult, OnErr, OnOk};
+ghost use Rattle.std.specs.Prelude.{◌≡◌, ◌≢◌, ◌↔◌, ◌++◌, ◌+◌, ◌<◌, ◌≤◌, ◌^◌, ℕ, false, Some, drop, length, IfErr, IfOk, IsOkUnless, IsTrue, MatchResult, OnErr, OnOk};
 ghost use Rattle.balise_rules.specs.declared.variable.Var.TheVariants.{NidPacket, QDir};
 ghost use Rattle.balise_rules.specs.Variables.{steers, width_of};
+ghost use Rattle.balise_rules.specs.Bits.{put_at};
 ghost use Rattle.balise_rules.specs.Forms.{Form, Numbered};
 ghost use Rattle.balise_rules.specs.Packet.{bits_of, field_of, read_first, value, width, IsSpelt};
 ghost use Rattle.balise_rules.specs.Names.{links_of};
@@ -134,6 +135,15 @@ impl Packet {
     {
         out.append(self.bits())?;
         Ok(())
+    }
+
+    /// Puts the packet's bits over those from the place `at` on. All other bits stay. Takes no memory.
+    pub fn put_over(&self, out: &mut Bits, at: usize)
+        requires { at + width self.now ≤ length out.old }
+        ensures { out.new ≡ put_at at (bits_of self.now) out.old }
+    {
+        let bits = self.bits();
+        out.put_part(at, bits, 0, bits.len());
     }
 
     /// How many bits it has.

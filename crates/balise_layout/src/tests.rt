@@ -39,7 +39,7 @@ fn packet_of(alloc: Global, digits: &str, version: u32) -> Result<Packet, Fail> 
     Ok(packet)
 }
 
-// That the packet is written as these digits.
+// That the packet is written as these digits, and the same is put over zeros.
 fn check_digits<R: Abort>(
     rt: &R,
     alloc: Global,
@@ -50,5 +50,9 @@ fn check_digits<R: Abort>(
     packet.write(&mut bits)?;
     let text = bits.to_hex()?;
     assert_eq!(rt; text.as_str(), digits);
+    let mut over = Bits::new(alloc);
+    over.push_zeros(3 + packet.width())?;
+    packet.put_over(&mut over, 3);
+    assert!(rt; over.slice(3, packet.width())? == bits);
     Ok(())
 }

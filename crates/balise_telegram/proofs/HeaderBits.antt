@@ -11,7 +11,7 @@ use Rattle.balise_rules.specs.Forms.{Form, done, plain, Fields, count_of, spelli
 use Rattle.balise_rules.specs.Telegram.{header, read_header, fields_or_none}
 use Rattle.balise_rules.proofs.Numbers.{length-bits}
 use Rattle.balise_bits.proofs.Pieces.{bits-split, bits-mod, num-part_below}
-use Rattle.balise_bits.proofs.Putting.{put_at-put_at}
+use Rattle.balise_bits.proofs.Putting.{length-put_at, put_at-put_at}
 use Rattle.balise_telegram.specs.HeaderFields.{fields_of, AreFitting}
 
 -- ---- read
@@ -119,3 +119,11 @@ halves_put front back s b h f g =
     let behind : 25 ≡ 0 + length x = omega (arith, lx) in
     ap (λ (k : ℕ). put_at k y (put_at 0 x b)) behind ∙ put_at-put_at 0 x y b (omega (arith, lx, ly)) ∙ ap (λ (z : List Bool). put_at 0 z b) whole
     ∙ ap (λ (k : ℕ). s ++ drop k b) size
+
+-- there are as many bits as before
+pub halves_size : (front back : ℕ) (b b1 b2 : List Bool) → 50 ≤ length b → b1 ≡ put_at 0 (bits 25 front) b → b2 ≡ put_at 25 (bits 25 back) b1 → length b2 ≡ length b
+halves_size front back b b1 b2 h e f =
+    let lx : length (bits 25 front) ≡ 25 = length-bits 25 front in
+    let ly : length (bits 25 back) ≡ 25 = length-bits 25 back in
+    let one : length b1 ≡ length b = ap length e ∙ length-put_at 0 (bits 25 front) b (omega (arith, lx)) in
+    ap length f ∙ length-put_at 25 (bits 25 back) b1 (omega (arith, ly, one)) ∙ one

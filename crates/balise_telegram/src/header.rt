@@ -73,7 +73,8 @@ impl Header {
     /// Puts its 50 bits over the first 50 of others. All other bits stay. Takes no memory.
     pub(crate) fn put_over(&self, bits: &mut Bits)
         requires { 50 ≤ length bits.old }
-        ensures { bits.new ≡ spelling self.now ++ drop 50 bits.old }
+        ensures bits { bits.new ≡ spelling self.now ++ drop 50 bits.old }
+        ensures len { length bits.new ≡ length bits.old }
     {
         bits.put(0, 25, self.front());
         bits.put(25, 25, self.back());

@@ -3,7 +3,7 @@
 mod changes;
 mod packets;
 
-ghost use Rattle.std.specs.Prelude.{◌≡◌, ◌≢◌, ◌≤◌, ◌<◌, ◌+◌, ◌^◌, drop, IfErr, IfOk, IfSome, IsOkUnless, length, Ok, Err, option_map, slice_get};
+ghost use Rattle.std.specs.Prelude.{◌≡◌, ◌≢◌, ◌≤◌, ◌<◌, ◌+◌, ◌*◌, ◌^◌, drop, IfErr, IfOk, IfSome, IsOkUnless, length, Ok, Err, option_map, slice_get};
 ghost use Rattle.std.specs.List.{position};
 ghost use Rattle.balise_rules.specs.declared.variable.Var.TheVariants.{NidPacket};
 ghost use Rattle.balise_rules.specs.Packet.{field_of, value};
@@ -95,14 +95,14 @@ impl Telegram {
         ensures ok { IfOk result (λ bits. bits ≡ shown self.now) }
         ensures fault { IsOkUnless result TelegramFault.OutOfMemory }
     {
-        let mut bits = Bits::with_capacity(*self.packets.allocator(), self.width())?;
-        self.header.write(&mut bits)?;
+        let mut bits = self.padding.copy()?;
+        self.header.put_over(&mut bits);
+        let mut at = 50;
         for (_, packet) in &self.packets {
-            packet.write(&mut bits)?;
+            packet.put_over(&mut bits, at);
+            at += packet.width();
         }
-        bits.push(8, 255)?;
-        let used = self.used();
-        bits.append_part(&self.padding, used, self.width() - used)?;
+        bits.put(at, 8, 255);
         Ok(bits)
     }
 
@@ -251,7 +251,7 @@ fn read_packets(
     ensures within { IfOk result (λ r. r.1 ≤ length bits.now) }
     ensures fault { IfErr result (λ e. e ≢ TelegramFault.OutOfMemory → read_packets (length bits.now) version 0 (drop 50 bits.now) ≡ Err (refusal_of e)) }
 {
-    let mut packets = Vec::new(alloc);
+    let mut packets = Vec::with_capacity(alloc, count_packets(bits))?;
     let mut at = 50;
     let mut count = 0;
     'packets: loop {
@@ -260,7 +260,6 @@ fn read_packets(
         }
         let number = bits.number(at, 8);
         if number == 255 {
-            packets.shrink_to_fit();
             return Ok((packets, at + 8));
         }
         if number == 0 {
@@ -272,6 +271,27 @@ fn read_packets(
         };
         packets.push((PacketTag::Base(count), packet))?;
         at = end;
+        count += 1;
+    }
+}
+
+// How many packets stand one behind another by the lengths that they say, so that their list is made as long at once.
+fn count_packets(bits: &Bits) -> usize
+    requires { 50 ≤ length bits.now }
+    ensures { 23 * result + 50 ≤ length bits.now }
+{
+    let mut at = 50;
+    let mut count = 0;
+    'packets: loop {
+        if bits.len() - at < 23 {
+            return count;
+        }
+        let front = bits.number(at, 23);
+        let width = (front % 8192) as usize;
+        if (front >> 15 == 255) | (width < 23) | (width > bits.len() - at) {
+            return count;
+        }
+        at += width;
         count += 1;
     }
 }

@@ -7,11 +7,10 @@ ghost use Rattle.balise_bits.specs.Bytes.{flat};
 ghost use Rattle.balise_bits.specs.Faults.{refusal_of};
 
 use crate::bits::Bits;
-use crate::bits::numbers::add_zeros;
 use crate::fault::BitsFault;
 use crate::nibbles::{decoded, put_digits};
+use crate::store::{MOST, Store};
 use hex::encode;
-use smallvec::SmallVec;
 use std::alloc::{AllocError, Global};
 
 impl Bits {
@@ -31,13 +30,14 @@ impl Bits {
         ensures fault { IfErr result (λ e. e ≢ BitsFault.OutOfMemory → read_hex len text.now ≡ Err (refusal_of e)) }
     {
         let mut bits = Bits::digits_in_bytes(alloc, text)?;
-        if bits.bytes.len() != len.div_ceil(8) {
+        if bits.bytes.as_slice().len() != len.div_ceil(8) {
             return Err(BitsFault::BadLength);
         }
-        if bits.number(len, (bits.len - len) as u32) != 0 {
+        let spare = bits.bytes.len() - len;
+        if bits.number(len, spare as u32) != 0 {
             return Err(BitsFault::SpareBits);
         }
-        bits.len = len;
+        bits.bytes.set_spare(spare as u8);
         Ok(bits)
     }
 
@@ -57,15 +57,15 @@ impl Bits {
         if text.len() % 2 != 0 {
             return Err(BitsFault::BadHex);
         }
-        let mut bytes = SmallVec::with_capacity(alloc, text.len() / 2)?;
-        add_zeros(&mut bytes, text.len() / 2)?;
+        let count = text.len() / 2;
+        if count > MOST {
+            return Err(BitsFault::OutOfMemory);
+        }
+        let mut bytes = Store::zeros(alloc, count, 0)?;
         if !decoded(text, bytes.as_mut_slice()) {
             return Err(BitsFault::BadHex);
         }
-        let Some(len) = bytes.len().checked_mul(8) else {
-            return Err(BitsFault::OutOfMemory);
-        };
-        Ok(Bits { bytes, len })
+        Ok(Bits { bytes })
     }
 
     /// Writes the digits in lower case into a buffer, in the place of all that it holds. On want of memory that stays.
@@ -74,11 +74,9 @@ impl Bits {
         ensures err { OnErr result (out.new.items ≡ out.old.items) }
         ensures fault { IsOkUnless result BitsFault.OutOfMemory }
     {
-        let Some(count) = self.bytes.len().checked_mul(2) else {
-            return Err(BitsFault::OutOfMemory);
-        };
-        out.resize(count, 0)?;
-        put_digits(&self.bytes, out.as_mut_slice());
+        let bytes = self.bytes.as_slice();
+        out.resize(2 * bytes.len(), 0)?;
+        put_digits(bytes, out.as_mut_slice());
         Ok(())
     }
 
@@ -87,7 +85,7 @@ impl Bits {
         ensures ok { IfOk result (λ text. string_bytes text ≡ hex_of self.now) }
         ensures fault { IsOkUnless result BitsFault.OutOfMemory }
     {
-        Ok(hex_text(*self.bytes.allocator(), &self.bytes)?)
+        Ok(hex_text(self.bytes.allocator(), self.bytes.as_slice())?)
     }
 }
 

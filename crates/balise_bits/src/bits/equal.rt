@@ -16,10 +16,10 @@ impl PartialEq for Bits {
         ensures eq { result ≡ bits_eq self.now other.now }
         ensures same { IsTrue result ↔ (self.now ≡ other.now) }
     {
-        if self.len != other.len {
+        if self.bytes.len() != other.bytes.len() {
             return false;
         }
-        same_bytes(&self.bytes, &other.bytes)
+        same_bytes(self.bytes.as_slice(), other.bytes.as_slice())
     }
 }
 

@@ -5,9 +5,8 @@ ghost use Rattle.balise_rules.specs.Bits.{bits, num, ones, part, put_at, zeros};
 
 use crate::bits::Bits;
 use crate::fault::BitsFault;
+use crate::store::MOST;
 use crate::window::{WINDOW, number_before, put_over};
-use smallvec::SmallVec;
-use std::alloc::AllocError;
 
 impl Bits {
     /// The number in the `width` bits from the place `at` on.
@@ -17,16 +16,17 @@ impl Bits {
         requires within { at + width ≤ length self.now }
         ensures { result ≡ num (part at width self.now) }
     {
-        let count = self.bytes.len();
+        let bytes = self.bytes.as_slice();
+        let count = bytes.len();
         let first = at / 8;
         if first + WINDOW <= count {
             let behind = 8 * WINDOW - at % 8 - width as usize;
-            return number_before(&self.bytes[first..first + WINDOW], behind, width);
+            return number_before(&bytes[first..first + WINDOW], behind, width);
         }
         let size = count.min(WINDOW);
         let first = count - size;
         let behind = 8 * size - (at - 8 * first) - width as usize;
-        number_before(&self.bytes[first..], behind, width)
+        number_before(&bytes[first..], behind, width)
     }
 
     /// Puts a number over the `width` bits from the place `at` on. All other bits stay.
@@ -39,11 +39,12 @@ impl Bits {
         if width == 0 {
             return;
         }
-        let count = self.bytes.len();
+        let bytes = self.bytes.as_mut_slice();
+        let count = bytes.len();
         let size = count.min(WINDOW);
         let first = (at / 8).min(count - size);
         let behind = 8 * size - (at - 8 * first) - width as usize;
-        put_over(&mut self.bytes[first..first + size], behind, width, value);
+        put_over(&mut bytes[first..first + size], behind, width, value);
     }
 
     /// Adds the `width` bits of a number at the end. On want of memory the bits stay.
@@ -66,12 +67,16 @@ impl Bits {
         ensures err { OnErr result (self.new ≡ self.old) }
         ensures fault { IsOkUnless result BitsFault.OutOfMemory }
     {
-        let Some(len) = self.len.checked_add(count) else {
+        let Some(len) = self.bytes.len().checked_add(count) else {
             return Err(BitsFault::OutOfMemory);
         };
-        let more = len.div_ceil(8) - self.bytes.len();
-        add_zeros(&mut self.bytes, more)?;
-        self.len = len;
+        let whole = len.div_ceil(8);
+        if whole > MOST {
+            return Err(BitsFault::OutOfMemory);
+        }
+        let more = whole - self.bytes.as_slice().len();
+        self.bytes.add_zeros(more)?;
+        self.bytes.set_spare((8 * whole - len) as u8);
         Ok(())
     }
 
@@ -97,27 +102,7 @@ impl Bits {
         requires within { at + 8 * count ≤ length self.old }
         ensures { self.new ≡ put_at at (ones (8 * count)) self.old }
     {
-        // Reading a field tells the prover what the type keeps.
-        let _len = self.len;
         let first = at / 8;
-        self.bytes[first..first + count].fill(255);
+        self.bytes.as_mut_slice()[first..first + count].fill(255);
     }
-}
-
-// As many zero bytes as most calls add, or more.
-const ZEROS: [u8; 104] = [0; 104];
-
-// Adds so many zero bytes at the end. On want of memory the bytes stay.
-pub(crate) fn add_zeros(bytes: &mut SmallVec<u8, 30>, count: usize) -> Result<(), AllocError>
-    ensures ok { OnOk result (bytes.new.items ≡ bytes.old.items ++ replicate count 0) }
-    ensures err { OnErr result (bytes.new.items ≡ bytes.old.items) }
-{
-    if count == 0 {
-        return Ok(());
-    }
-    if count <= ZEROS.len() {
-        return bytes.extend_from_slice(&ZEROS[..count]);
-    }
-    let zeros = vec![in *bytes.allocator(); 0u8; count]?;
-    bytes.extend_from_slice(&zeros)
 }

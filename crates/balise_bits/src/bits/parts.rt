@@ -14,7 +14,7 @@ impl Bits {
         ensures ok { IfOk result (λ b. b ≡ part at len self.now) }
         ensures fault { IsOkUnless result BitsFault.OutOfMemory }
     {
-        let mut slice = Bits::with_capacity(*self.bytes.allocator(), len)?;
+        let mut slice = Bits::new(self.bytes.allocator());
         slice.append_part(self, at, len)?;
         Ok(slice)
     }
@@ -25,15 +25,7 @@ impl Bits {
         ensures err { OnErr result (self.new ≡ self.old) }
         ensures fault { IsOkUnless result BitsFault.OutOfMemory }
     {
-        if self.len % 8 != 0 {
-            return self.append_part(other, 0, other.len());
-        }
-        let Some(len) = self.len.checked_add(other.len) else {
-            return Err(BitsFault::OutOfMemory);
-        };
-        self.bytes.extend_from_slice(&other.bytes)?;
-        self.len = len;
-        Ok(())
+        self.append_part(other, 0, other.len())
     }
 
     /// Adds the `len` bits of another from the place `at` on at the end. On want of memory the bits stay.
@@ -73,12 +65,10 @@ impl Bits {
         requires room { to + 8 * count ≤ length self.old }
         ensures { self.new ≡ put_at to (part at (8 * count) other.now) self.old }
     {
-        // Reading a field tells the prover what the type keeps of both.
-        let _lengths = (self.len, other.len);
         let first = to / 8;
         fill_shifted(
-            &mut self.bytes[first..first + count],
-            &other.bytes[at / 8..],
+            &mut self.bytes.as_mut_slice()[first..first + count],
+            &other.bytes.as_slice()[at / 8..],
             at % 8,
         );
     }

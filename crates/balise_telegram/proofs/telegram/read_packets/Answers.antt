@@ -1,6 +1,4 @@
-use Rattle.std.proofs.Common.{◌∙◌, ◌+◌, List, Ok, drop, ap, Err, sym, arith}
-use Rattle.balise_rules.specs.declared.tag.Tag.{Tag}
-use Rattle.balise_rules.specs.Packet.{Packet}
+use Rattle.std.proofs.Common.{◌∙◌, ap, Err, sym, arith}
 use Rattle.balise_telegram.specs.Faults.{refusal_of}
 use Rattle.balise_telegram.proofs.PacketsRead.{short_ends, zero_ends, end_ends, one_fails, one_stands}
 use Rattle.balise_rules.proofs.PacketAgain.{front_of}
@@ -11,7 +9,6 @@ returns-then-len-at-lt8-clause-fault c = λ _. short_ends c.args.bits.now c.args
 
 pub returns-then-number-eq255-clause-ok : goal.returns-then-number-eq255-clause-ok
 returns-then-number-eq255-clause-ok c = end_ends c.args.bits.now c.args.version c.packets.at c.packets.count c.packets.packets.items c.packets.invariant (omega (arith, c.len.ensures, c.packets.invariant.within)) (sym c.if-number-eq255.true ∙ c.number-number.ensures)
-    ∙ ap (λ (l : List (Tag × Packet)). Ok (l, drop (c.packets.at + 8) c.args.bits.now)) (sym c.shrink_to_fit.ensures.items)
 
 pub returns-then-number-eq0-clause-fault : goal.returns-then-number-eq0-clause-fault
 returns-then-number-eq0-clause-fault c = λ _. zero_ends c.args.bits.now c.args.version c.packets.at c.packets.count c.packets.packets.items c.packets.invariant (omega (arith, c.len.ensures, c.packets.invariant.within)) (sym c.if-number-eq0.true ∙ c.number-number.ensures)

@@ -9,9 +9,9 @@ use Rattle.balise_bits.proofs.bits.Bits.hex_into.Goals as goal
 pub returns-clause-ok : goal.returns-clause-ok
 returns-clause-ok c =
     let bytes = c.self.inside.bytes.items in
-    let len = c.self.inside.len in
+    let len = c.self.inside.bytes.len in
     let view = take len (flat bytes) in
     let new = c.put_digits.new.out in
     take_at new (drop (length new) c.resize.new.self.items) c.resize.new.self.len (c.put_digits.ensures.len ∙ c.as_mut_slice.ensures.len)
-    ∙ c.put_digits.ensures.digits ∙ ap (λ (x : List ℕ). digits_in (flat x)) c.deref.ensures ∙ ap digits_in (flat-view len bytes c.self.invariant)
+    ∙ c.put_digits.ensures.digits ∙ ap (λ (x : List ℕ). digits_in (flat x)) c.as_slice-bytes.ensures.value ∙ ap digits_in (flat-view len bytes c.self.invariant)
     ∙ ap (λ (k : ℕ). digits_in (view ++ zeros (fill k))) (sym (length-view len bytes c.self.invariant)) ∙ ap hex_of c.self.view_is

@@ -19,20 +19,21 @@ returns-then-first-count c =
     let at = c.args.at in
     let w = c.args.width in
     let bytes = c.self.inside.bytes.items in
-    let len = c.self.inside.len in
+    let len = c.self.inside.bytes.len in
     let held : len ≡ length c.args.self.now = sym (length-view len bytes c.self.invariant) ∙ ap length c.self.view_is in
+    let all : length c.as_slice-bytes.result.now ≡ length bytes = ap length c.as_slice-bytes.ensures.value in
     c.number_before.ensures
-    ∙ in_window bytes c.deref.result.now c.args.self.now len at w (at / 8) (at / 8 + 5 - at / 8) (40 - at % 8 - w) c.deref.ensures c.self.view_is (omega arith) (omega arith) (omega arith) (omega arith)
+    ∙ in_window bytes c.as_slice-bytes.result.now c.args.self.now len at w (at / 8) (at / 8 + 5 - at / 8) (40 - at % 8 - w) c.as_slice-bytes.ensures.value c.self.view_is (omega arith) (omega arith) (omega arith) (omega arith)
 
 pub returns : goal.returns
 returns c =
     let at = c.args.at in
     let w = c.args.width in
     let bytes = c.self.inside.bytes.items in
-    let len = c.self.inside.len in
+    let len = c.self.inside.bytes.len in
     let held : len ≡ length c.args.self.now = sym (length-view len bytes c.self.invariant) ∙ ap length c.self.view_is in
     let size = c.min-size.result in
-    let first = c.len-count.result - size in
-    let all : length c.deref-2.result.now ≡ length bytes = ap length c.deref-2.ensures in
+    let first = length c.as_slice-bytes.result.now - size in
+    let all : length c.as_slice-bytes.result.now ≡ length bytes = ap length c.as_slice-bytes.ensures.value in
     c.number_before-2.ensures
-    ∙ in_window bytes c.deref-2.result.now c.args.self.now len at w first (length c.deref-2.result.now - first) (8 * size - (at - 8 * first) - w) c.deref-2.ensures c.self.view_is (omega arith) (omega arith) (omega arith) (omega arith)
+    ∙ in_window bytes c.as_slice-bytes.result.now c.args.self.now len at w first (length c.as_slice-bytes.result.now - first) (8 * size - (at - 8 * first) - w) c.as_slice-bytes.ensures.value c.self.view_is (omega arith) (omega arith) (omega arith) (omega arith)

@@ -19,10 +19,10 @@ pub invariant_of-self : goal.invariant_of-self
 invariant_of-self c =
     let b = c.self.inside.packed in
     let r : IsRead b c.args.self.now = subst (λ (x : Telegram). IsRead b x) c.self.view_is (held_read b c.self.invariant) in
-    (head_put b c.args.self.now c.args.var c.args.value c.read-header.result c.put.new.self c.put_over.new.bits r c.read-header.ensures (put_aside c.args.var c.requires.var) c.requires.fits c.put.ensures c.put_over.ensures).0
+    (head_put b c.args.self.now c.args.var c.args.value c.read-header.result c.put.new.self c.put_over.new.bits r c.read-header.ensures (put_aside c.args.var c.requires.var) c.requires.fits c.put.ensures c.put_over.ensures.bits).0
 
 pub returns : goal.returns
 returns c =
     let b = c.self.inside.packed in
     let r : IsRead b c.args.self.now = subst (λ (x : Telegram). IsRead b x) c.self.view_is (held_read b c.self.invariant) in
-    (head_put b c.args.self.now c.args.var c.args.value c.read-header.result c.put.new.self c.put_over.new.bits r c.read-header.ensures (put_aside c.args.var c.requires.var) c.requires.fits c.put.ensures c.put_over.ensures).1
+    (head_put b c.args.self.now c.args.var c.args.value c.read-header.result c.put.new.self c.put_over.new.bits r c.read-header.ensures (put_aside c.args.var c.requires.var) c.requires.fits c.put.ensures c.put_over.ensures.bits).1

@@ -35,7 +35,7 @@ invariant_of-self c =
     let h = c.in_ok-old.ensures in
     let r : IsRead b c.args.self.now = subst (λ (x : Telegram). IsRead b x) c.self.view_is (held_read b c.self.invariant) in
     let f = free_fits c.args.var c.args.value c.read-header.result h.0 in
-    (head_put b c.args.self.now c.args.var c.args.value c.read-header.result c.set.new.self c.put_over.new.bits r c.read-header.ensures (set_aside c.args.var f.0) f.1 h.2 c.put_over.ensures).0
+    (head_put b c.args.self.now c.args.var c.args.value c.read-header.result c.set.new.self c.put_over.new.bits r c.read-header.ensures (set_aside c.args.var f.0) f.1 h.2 c.put_over.ensures.bits).0
 
 pub returns : goal.returns
 returns c =
@@ -47,5 +47,5 @@ returns c =
     let f = free_fits c.args.var c.args.value c.read-header.result h.0 in (
       ap (fields_refusal c.args.var c.args.value) same ∙ h.0,
       ap (field_of c.args.var 0) same ∙ h.1,
-      (head_put b y c.args.var c.args.value c.read-header.result c.set.new.self c.put_over.new.bits r c.read-header.ensures (set_aside c.args.var f.0) f.1 h.2 c.put_over.ensures).1,
+      (head_put b y c.args.var c.args.value c.read-header.result c.set.new.self c.put_over.new.bits r c.read-header.ensures (set_aside c.args.var f.0) f.1 h.2 c.put_over.ensures.bits).1,
     )

@@ -1,0 +1,266 @@
+//! Bytes, few of them held in place.
+
+ghost use Rattle.std.specs.Prelude.{◌≡◌, ◌≤◌, ◌<◌, ◌+◌, ◌-◌, ◌*◌, ◌^◌, ◌++◌, [], length, replicate, IfOk, OnErr, OnOk};
+ghost use Rattle.std.specs.Borrow.{sem};
+ghost use Rattle.balise_bits.specs.Data.{data_items};
+ghost use Rattle.balise_bits.specs.StoreLends.{small_lends, data_lends, store_lends};
+
+use crate::cells::Cells;
+use std::alloc::{AllocError, Global};
+use std::marker::Model;
+
+/// How many bytes are held in place.
+pub(crate) const IN_PLACE: usize = 29;
+
+/// How many bytes are held at most, so that their bits are counted by a usize.
+pub(crate) const MOST: usize = 2305843009213693951;
+
+/// Bytes held in place.
+#[derive(Debug, Drop)]
+struct Small {
+    cells: Cells<u8, 29>,
+    count: u8,
+}
+
+impl Model for Small {
+    ghost use Rattle.std.specs.Prelude.{◌≡◌, ◌≤◌, length, take};
+    ghost use Rattle.balise_bits.specs.Stored.{Placed};
+
+    ghost Value = { Placed };
+
+    ghost view = { λ v. record { items = take v.count v.cells.xs } };
+
+    ghost invariant = { λ v. (v.count ≤ 29) × (length v.cells.xs ≡ 29) };
+}
+
+impl Small {
+    // So many zeros.
+    fn zeros(count: usize) -> Small
+        requires { count ≤ 29 }
+        ensures { result.items ≡ replicate count 0 }
+    {
+        Small {
+            cells: Cells { xs: [0; 29] },
+            count: count as u8,
+        }
+    }
+
+    fn copy(&self) -> Small
+        ensures { result ≡ self.now }
+    {
+        Small {
+            cells: self.cells,
+            count: self.count,
+        }
+    }
+
+    #[inline]
+    fn as_slice(&self) -> &[u8]
+        ensures value { result.now ≡ self.now.items }
+        ensures fits { length result.now ≤ 29 }
+    {
+        &self.cells.xs[..usize::from(self.count)]
+    }
+
+    #[inline]
+    fn as_mut_slice(&mut self) -> &mut [u8]
+        ensures* writes_back { sem 𝓛 (small_lends self.entry result) }
+        ensures value { result.now ≡ self.old.items }
+    {
+        let count = usize::from(self.count);
+        self.cells.front_mut(count)
+    }
+
+    // Adds zeros at the end.
+    fn add_zeros(&mut self, more: usize)
+        requires { length self.old.items + more ≤ 29 }
+        ensures { self.new.items ≡ self.old.items ++ replicate more 0 }
+    {
+        let count = usize::from(self.count);
+        self.cells.front_mut(count + more)[count..].fill(0);
+        self.count = (count + more) as u8;
+    }
+}
+
+#[derive(Debug, Drop)]
+enum Data {
+    Inline(u8, Small),
+    Heap(u8, Vec<u8>),
+}
+
+impl Data {
+    #[inline]
+    fn as_mut_slice(&mut self) -> &mut [u8]
+        ensures* writes_back { sem 𝓛 (data_lends self.entry result) }
+        ensures value { result.now ≡ data_items self.old }
+    {
+        match self {
+            Data::Inline(_, small) => small.as_mut_slice(),
+            Data::Heap(_, heap) => heap.as_mut_slice(),
+        }
+    }
+}
+
+/// Bytes, of which up to 29 are held in place, and how many of their bits count: all but the spare ones at the end.
+#[derive(Debug, Drop)]
+pub(crate) struct Store {
+    data: Data,
+    alloc: Global,
+}
+
+impl Model for Store {
+    ghost use Rattle.balise_bits.specs.Stored.{Stored};
+    ghost use Rattle.balise_bits.specs.Data.{data_view, IsSound};
+
+    ghost Value = { Stored };
+
+    ghost view = { λ s. data_view s.data };
+
+    ghost invariant = { λ s. IsSound s.data };
+}
+
+impl Store {
+    /// No bytes. Takes no memory.
+    pub(crate) fn new(alloc: Global) -> Store
+        ensures items { result.items ≡ [] }
+        ensures len { result.len ≡ 0 }
+    {
+        Store {
+            data: Data::Inline(0, Small::zeros(0)),
+            alloc,
+        }
+    }
+
+    /// No bytes, with room for so many.
+    pub(crate) fn with_capacity(alloc: Global, count: usize) -> Result<Store, AllocError>
+        ensures items { IfOk result (λ s. s.items ≡ []) }
+        ensures len { IfOk result (λ s. s.len ≡ 0) }
+    {
+        if count <= IN_PLACE {
+            return Ok(Store::new(alloc));
+        }
+        let heap = Vec::with_capacity(alloc, count)?;
+        Ok(Store {
+            data: Data::Heap(0, heap),
+            alloc,
+        })
+    }
+
+    /// So many zeros, all but so many of whose bits count.
+    pub(crate) fn zeros(alloc: Global, count: usize, spare: u8) -> Result<Store, AllocError>
+        requires spare { spare ≤ 8 * count }
+        requires fits { 8 * count < 2 ^ 64 }
+        ensures items { IfOk result (λ s. s.items ≡ replicate count 0) }
+        ensures len { IfOk result (λ s. s.len ≡ 8 * count - spare) }
+    {
+        if count <= IN_PLACE {
+            return Ok(Store {
+                data: Data::Inline(spare, Small::zeros(count)),
+                alloc,
+            });
+        }
+        let heap = vec![in alloc; 0u8; count]?;
+        Ok(Store {
+            data: Data::Heap(spare, heap),
+            alloc,
+        })
+    }
+
+    /// How many bits count.
+    #[inline]
+    pub(crate) fn len(&self) -> usize
+        ensures { result ≡ self.now.len }
+    {
+        match &self.data {
+            Data::Inline(spare, small) => 8 * small.as_slice().len() - usize::from(*spare),
+            Data::Heap(spare, heap) => 8 * heap.len() - usize::from(*spare),
+        }
+    }
+
+    /// The bytes.
+    #[inline]
+    pub(crate) fn as_slice(&self) -> &[u8]
+        ensures value { result.now ≡ self.now.items }
+        ensures fits { 8 * length result.now < 2 ^ 64 }
+    {
+        match &self.data {
+            Data::Inline(_, small) => small.as_slice(),
+            Data::Heap(_, heap) => heap.as_slice(),
+        }
+    }
+
+    /// The bytes, for writing.
+    #[inline]
+    pub(crate) fn as_mut_slice(&mut self) -> &mut [u8]
+        ensures* writes_back { sem 𝓛 (store_lends self.entry result) }
+        ensures value { result.now ≡ self.old.items }
+    {
+        self.data.as_mut_slice()
+    }
+
+    /// Lets all bits count but so many.
+    pub(crate) fn set_spare(&mut self, spare: u8)
+        requires { spare ≤ 8 * length self.old.items }
+        ensures items { self.new.items ≡ self.old.items }
+        ensures len { self.new.len ≡ 8 * length self.old.items - spare }
+    {
+        match &mut self.data {
+            Data::Inline(held, _) => *held = spare,
+            Data::Heap(held, _) => *held = spare,
+        }
+    }
+
+    /// Adds so many zeros at the end. On want of memory all stays.
+    pub(crate) fn add_zeros(&mut self, more: usize) -> Result<(), AllocError>
+        requires { 8 * (length self.old.items + more) < 2 ^ 64 }
+        ensures items { OnOk result (self.new.items ≡ self.old.items ++ replicate more 0) }
+        ensures err { OnErr result (self.new ≡ self.old) }
+    {
+        match &mut self.data {
+            Data::Inline(spare, small) => {
+                let count = small.as_slice().len() + more;
+                if count <= IN_PLACE {
+                    small.add_zeros(more);
+                    return Ok(());
+                }
+                let heap = spilled(self.alloc, small.as_slice(), count)?;
+                self.data = Data::Heap(*spare, heap);
+                Ok(())
+            }
+            Data::Heap(_, heap) => heap.resize(heap.len() + more, 0),
+        }
+    }
+
+    /// The same bytes once more.
+    pub(crate) fn copy(&self) -> Result<Store, AllocError>
+        ensures { IfOk result (λ s. s ≡ self.now) }
+    {
+        let data = match &self.data {
+            Data::Inline(spare, small) => Data::Inline(*spare, small.copy()),
+            Data::Heap(spare, heap) => Data::Heap(
+                *spare,
+                spilled(self.alloc, heap.as_slice(), heap.len())?,
+            ),
+        };
+        Ok(Store {
+            data,
+            alloc: self.alloc,
+        })
+    }
+
+    /// Where its memory comes from.
+    pub(crate) fn allocator(&self) -> Global {
+        self.alloc
+    }
+}
+
+// Bytes in an allocation of their own, with zeros behind them, so many in all.
+fn spilled(alloc: Global, bytes: &[u8], count: usize) -> Result<Vec<u8>, AllocError>
+    requires { length bytes.now ≤ count }
+    ensures { IfOk result (λ v. v.items ≡ bytes.now ++ replicate (count - length bytes.now) 0) }
+{
+    let mut heap = Vec::with_capacity(alloc, count)?;
+    heap.extend_from_slice(bytes)?;
+    heap.resize(count, 0)?;
+    Ok(heap)
+}

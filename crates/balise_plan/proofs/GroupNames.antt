@@ -11,7 +11,7 @@ use Rattle.balise_rules.specs.Packet.{Packet, IsSpelt}
 use Rattle.balise_rules.specs.Telegram.{Telegram, version_of}
 use Rattle.balise_rules.specs.Plan.{Group, IsSoundGroup, SoundFrom, identity_of, country_of}
 use Rattle.balise_rules.specs.Names.{is_real, links_of}
-use Rattle.balise_rules.proofs.Tests.{split_on, test-sym, tag_test, nat_test, id_test}
+use Rattle.balise_rules.proofs.Tests.{test-sym, tag_test, nat_test, id_test}
 use Rattle.balise_plan.specs.declared.links.LinkPlace.{LinkPlace}
 use Rattle.balise_plan.specs.Links.{is_id, is_place, named_in_packet, named_in_telegram}
 use Rattle.balise_plan.specs.PacketLinks.{is_in, is_item}

@@ -75,23 +75,37 @@ more : (z : Tag × Packet) (left right : List (Tag × Packet)) → used (left ++
 more z [] right = omega arith
 more z (x ∷ left) right = let ih = more z left right in omega (arith, ih)
 
+-- ---- with one item between two parts
+
+module _ {A : Type 0} {z : Tag × A} {xs ys : List (Tag × A)} (b : Between z xs ys) where
+  pub between-other : (r : Tag) → same_tag r z.0 ≡ false → find same_tag r ys ≡ find same_tag r xs
+  between-other r d = ap (find same_tag r) b.after ∙ other r z b.left b.right d ∙ ap (find same_tag r) (sym b.before)
+
+  module _ (absent : find same_tag z.0 xs ≡ None) where
+    pub between-itself : find same_tag z.0 ys ≡ Some z.1
+    between-itself = ap (find same_tag z.0) b.after ∙ itself z b.left b.right (ap (find same_tag z.0) (sym b.before) ∙ absent)
+
+    pub between-distinct : Distinct same_tag xs → Distinct same_tag ys
+    between-distinct u = subst (Distinct same_tag) (sym b.after) (distinct z b.left b.right (ap (find same_tag z.0) (sym b.before) ∙ absent) (subst (Distinct same_tag) b.before u))
+
+  pub between-all : (P : A → Type 0) → P z.1 → All (λ y. P y.1) xs → All (λ y. P y.1) ys
+  between-all P h a = subst (All (λ y. P y.1)) (sym b.after) (all P z b.left b.right h (subst (All (λ y. P y.1)) b.before a))
+
 -- ---- of the list
 
 module _ {A : Type 0} (s : Spot Tag) (z : Tag × A) (xs : List (Tag × A)) (there : spot_stands s xs ≡ true) where
   pub find-put_other : (r : Tag) → same_tag r z.0 ≡ false → find same_tag r (put_in s z xs) ≡ find same_tag r xs
-  find-put_other r d = let b = put-between s z xs there in ap (find same_tag r) b.after ∙ other r z b.left b.right d ∙ ap (find same_tag r) (sym b.before)
+  find-put_other = between-other (put-between s z xs there)
 
   module _ (absent : find same_tag z.0 xs ≡ None) where
     pub find-put_itself : find same_tag z.0 (put_in s z xs) ≡ Some z.1
-    find-put_itself = let b = put-between s z xs there in ap (find same_tag z.0) b.after ∙ itself z b.left b.right (ap (find same_tag z.0) (sym b.before) ∙ absent)
+    find-put_itself = between-itself (put-between s z xs there) absent
 
     pub distinct-put_in : Distinct same_tag xs → Distinct same_tag (put_in s z xs)
-    distinct-put_in u =
-        let b = put-between s z xs there in
-        subst (Distinct same_tag) (sym b.after) (distinct z b.left b.right (ap (find same_tag z.0) (sym b.before) ∙ absent) (subst (Distinct same_tag) b.before u))
+    distinct-put_in = between-distinct (put-between s z xs there) absent
 
   pub all-put_in : (P : A → Type 0) → P z.1 → All (λ y. P y.1) xs → All (λ y. P y.1) (put_in s z xs)
-  all-put_in P h a = let b = put-between s z xs there in subst (All (λ y. P y.1)) (sym b.after) (all P z b.left b.right h (subst (All (λ y. P y.1)) b.before a))
+  all-put_in = between-all (put-between s z xs there)
 
 pub used-put_in : (s : Spot Tag) (z : Tag × Packet) (xs : List (Tag × Packet)) → spot_stands s xs ≡ true → used (put_in s z xs) ≡ used xs + width z.1
 used-put_in s z xs there = let b = put-between s z xs there in ap used b.after ∙ more z b.left b.right ∙ ap (λ l. used l + width z.1) (sym b.before)

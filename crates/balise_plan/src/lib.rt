@@ -4,6 +4,7 @@
 mod change;
 mod group;
 mod group_links;
+mod group_places;
 mod links;
 mod links_of;
 mod names;

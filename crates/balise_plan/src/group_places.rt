@@ -1,0 +1,77 @@
+//! A group put into a plan's groups and indexes.
+
+ghost use Rattle.std.specs.Prelude.{◌≡◌, ◌≤◌, is_some, insert, IfErr, IfSome, None, OnOk};
+ghost use Rattle.balise_rules.specs.Plan.{group_named, identity_of, Group as GroupValue, IsSoundGroup};
+ghost use Rattle.balise_rules.specs.Tagged.{find};
+ghost use Rattle.balise_rules.specs.Tags.{same_tag};
+ghost use Rattle.balise_plan.specs.Held.{IsHeld};
+ghost use Rattle.balise_plan.specs.Spots.{put_in, spot_stands};
+ghost use Rattle.indexmap.specs.IndexMap.{index_map_len};
+
+use crate::group::Group;
+use crate::group_links::{add_all, links_in};
+use crate::links::LinkPlace;
+use crate::spot::Spot;
+use balise_rules::{Id, Tag};
+use indexmap::IndexMap;
+use std::alloc::{AllocFailed, Global};
+use std::collections::{BTreeMap, BTreeSet};
+
+/// The place that a spot names.
+pub(crate) fn place_of(groups: &IndexMap<Tag, Group>, spot: Spot<Tag>) -> Option<usize>
+    ensures there { is_some result ≡ spot_stands spot groups.now.entries }
+    ensures within { IfSome result (λ i. i ≤ index_map_len groups.now) }
+    ensures put { IfSome result (λ i. (z : Tag × GroupValue) → insert groups.now.entries i z ≡ put_in spot z groups.now.entries) }
+{
+    let len = groups.len();
+    match spot {
+        Spot::After(None) => Some(0),
+        Spot::After(Some(tag)) => match groups.get_index_of(&tag) {
+            Some(i) => Some(i + 1),
+            None => None,
+        },
+        Spot::Before(None) => Some(len),
+        Spot::Before(Some(tag)) => groups.get_index_of(&tag),
+    }
+}
+
+/// Puts a group of a new identity in at a place, under a tag that is new, and notes its identity and its links. Where
+/// memory is wanting, all stays and the group is handed back.
+pub(crate) fn put_at(
+    groups: &mut IndexMap<Tag, Group>,
+    identities: &mut BTreeMap<Id, Tag>,
+    names: &mut BTreeMap<Id, BTreeSet<LinkPlace>>,
+    i: usize,
+    g: Tag,
+    group: Group,
+) -> Result<(), Group>
+    requires held { IsHeld identities.old names.old groups.old.entries }
+    requires within { i ≤ index_map_len groups.old }
+    requires new { find same_tag g groups.old.entries ≡ None }
+    requires sound { IsSoundGroup group }
+    requires free { group_named (identity_of group) groups.old.entries ≡ None }
+    ensures put { OnOk result (groups.new.entries ≡ insert groups.old.entries i (g, group)) }
+    ensures back { IfErr result (λ b. b ≡ group) }
+    ensures unchanged { IfErr result (λ b. groups.new.entries ≡ groups.old.entries) }
+    ensures held { IsHeld identities.new names.new groups.new.entries }
+{
+    let alloc = *groups.allocator();
+    let own = group.identity();
+    let Ok(links) = links_in(alloc, g, &group) else {
+        return Err(group);
+    };
+    if groups.reserve(1).is_err() {
+        return Err(group);
+    }
+    if identities.insert(own, g).is_err() {
+        return Err(group);
+    }
+    if add_all(alloc, names, &links).is_err() {
+        let _ = identities.remove(&own);
+        return Err(group);
+    }
+    match groups.shift_insert(i, g, group) {
+        Ok(_) => Ok(()),
+        Err(AllocFailed { value: (_, group) }) => Err(group),
+    }
+}

@@ -1,0 +1,92 @@
+//! Groups of a plan put in and taken out.
+
+ghost use Rattle.std.specs.Prelude.{◌≡◌, ◌<◌, ◌^◌, IfOk, Some, None, option_map, slice_get};
+ghost use Rattle.balise_rules.specs.Edits.{DropGroup};
+ghost use Rattle.balise_rules.specs.Notes.{noted};
+ghost use Rattle.balise_rules.specs.Plan.{IsSoundGroup};
+ghost use Rattle.balise_rules.specs.Tagged.{find};
+ghost use Rattle.balise_rules.specs.Tags.{same_tag};
+ghost use Rattle.balise_plan.specs.Held.{Does};
+ghost use Rattle.balise_plan.specs.Spots.{PutsGroup};
+
+use crate::group::Group;
+use crate::group_links::{forget_first, links_in};
+use crate::group_places::{place_of, put_at};
+use crate::plan::Plan;
+use crate::spot::Spot;
+use balise_rules::{Refusal, Tag};
+use indexmap::IndexMap;
+
+impl Plan {
+    /// Puts a group in under a tag that is new.
+    ///
+    /// Refused in this order, and then all stays and the group is handed back: `NoSuchGroup` where the neighbour doesn't
+    /// stand, `GroupTwice` where a group has its identity. `OutOfMemory` may stand in place of any answer.
+    pub fn put_group(
+        &mut self,
+        spot: Spot<Tag>,
+        g: Tag,
+        group: Group,
+    ) -> Result<(), (Refusal, Group)>
+        requires count { self.old.changes < 2 ^ 63 }
+        requires new { find same_tag g self.old.groups ≡ None }
+        requires sound { IsSoundGroup group }
+        ensures { PutsGroup spot g group self.old result self.new }
+    {
+        let Some(i) = place_of(&self.groups, spot) else {
+            return Err((Refusal::NoSuchGroup, group));
+        };
+        let own = group.identity();
+        if self.identities.get(&own).is_some() {
+            return Err((Refusal::GroupTwice, group));
+        }
+        if let Err(back) = put_at(
+            &mut self.groups,
+            &mut self.identities,
+            &mut self.names,
+            i,
+            g,
+            group,
+        ) {
+            return Err((Refusal::OutOfMemory, back));
+        }
+        self.changes += 1;
+        Ok(())
+    }
+
+    /// Takes a group out, and answers it and the tag of its next neighbour. What names the group stays.
+    ///
+    /// Refused, and then all stays: `NoSuchGroup`. `OutOfMemory` may stand in place of any answer.
+    pub fn take_group(&mut self, g: Tag) -> Result<(Group, Option<Tag>), Refusal>
+        requires count { self.old.changes < 2 ^ 63 }
+        ensures does { Does (DropGroup g) self.old result self.new }
+        ensures taken { IfOk result (λ r. ((noted (DropGroup g) self.old.groups).group ≡ Some r.0) × ((noted (DropGroup g) self.old.groups).before ≡ r.1)) }
+        ensures sound { IfOk result (λ r. IsSoundGroup r.0) }
+    {
+        let alloc = *self.groups.allocator();
+        let Some(group) = self.groups.get(&g) else {
+            return Err(Refusal::NoSuchGroup);
+        };
+        let own = group.identity();
+        let links = match links_in(alloc, g, group) {
+            Ok(links) => links,
+            Err(fault) => return Err(fault),
+        };
+        forget_first(&mut self.names, &links, links.len());
+        let _ = self.identities.remove(&own);
+        let (i, _, group) = self.groups.shift_remove_full(&g).unwrap();
+        let before = tag_at(&self.groups, i);
+        self.changes += 1;
+        Ok((group, before))
+    }
+}
+
+// The tag of the group at a place.
+fn tag_at(groups: &IndexMap<Tag, Group>, i: usize) -> Option<Tag>
+    ensures { result ≡ option_map (λ p. p.0) (slice_get groups.now.entries i) }
+{
+    match groups.get_index(i) {
+        Some((tag, _)) => Some(*tag),
+        None => None,
+    }
+}

@@ -12,7 +12,8 @@ use Rattle.balise_plan.specs.Links.{Keeps}
 use Rattle.balise_plan.specs.PacketLinks.{Adds, Forgets}
 use Rattle.balise_plan.specs.Spots.{put_in, put_refusal}
 use Rattle.balise_plan.proofs.LinkSteps.{taken-back}
-use Rattle.balise_plan.proofs.PacketPut.{held-keeps, lacking, few-put, lacks-put, put-failed, put-done}
+use Rattle.balise_plan.proofs.PacketPut.{held-keeps, lacking, few-put, lacks-put, put-failed, put-done, at}
+use Rattle.balise_plan.proofs.Kept.{changed, kept-as}
 use Rattle.balise_plan.proofs.plan.Plan.put_packet.Goals as goal
 
 pub invariant_of-self-in_default-country : goal.invariant_of-self-in_default-country
@@ -20,7 +21,7 @@ invariant_of-self-in_default-country c =
     let plan = c.self.inside.groups.entries in
     let n : find same_tag c.args.g plan ≡ Some c.in-Some.group.now = sym c.in-Some.ensures.value in
     let w = (c.get_mut.follows.holds c.in-Some.group.now).0 ∙ set_value_same (same_tag c.args.g) plan c.in-Some.group.now n in
-    subst (IsHeld c.self.inside.identities c.self.inside.names) (sym w) c.self.invariant
+    kept-as c.self.invariant w (subst (IsHeld c.self.inside.identities c.self.inside.names) (sym w) c.self.invariant.held)
 
 pub returns-in_default-country : goal.returns-in_default-country
 returns-in_default-country c =
@@ -29,7 +30,7 @@ returns-in_default-country c =
     let w = (c.get_mut.follows.holds c.in-Some.group.now).0 ∙ set_value_same (same_tag c.args.g) plan c.in-Some.group.now n in
     let fresh : (y : Telegram) → telegram_at c.args.g c.args.t plan ≡ Some y → find same_tag c.args.p y.packets ≡ None = subst (λ q. (y : Telegram) → telegram_at c.args.g c.args.t q.groups ≡ Some y → find same_tag c.args.p y.packets ≡ None) (sym c.self.view_is) c.requires.new in
     let spelt : (y : Telegram) → telegram_at c.args.g c.args.t plan ≡ Some y → IsSpelt (version_of y) c.args.packet = subst (λ q. (y : Telegram) → telegram_at c.args.g c.args.t q.groups ≡ Some y → IsSpelt (version_of y) c.args.packet) (sym c.self.view_is) c.requires.spelt in
-    let r = lacking plan c.self.inside.identities c.self.inside.names c.self.invariant c.args.g c.args.t c.args.spot c.args.p c.args.packet c.in-Some.group.now n fresh spelt c.in_default-country.ensures in
+    let r = lacking plan c.self.inside.identities c.self.inside.names c.self.invariant.held c.args.g c.args.t c.args.spot c.args.p c.args.packet c.in-Some.group.now n fresh spelt c.in_default-country.ensures in
     (inr (subst (λ q. put_refusal c.args.g c.args.t c.args.spot c.args.packet q.groups ≡ Some NoSuchTelegram) c.self.view_is r), refl, ap (λ gs. record { groups = gs; changes = c.self.inside.changes }) w ∙ c.self.view_is)
 
 pub invariant_of-self-in_default-links : goal.invariant_of-self-in_default-links
@@ -37,7 +38,7 @@ invariant_of-self-in_default-links c =
     let plan = c.self.inside.groups.entries in
     let n : find same_tag c.args.g plan ≡ Some c.in-Some.group.now = sym c.in-Some.ensures.value in
     let w = (c.get_mut.follows.holds c.in-Some.group.now).0 ∙ set_value_same (same_tag c.args.g) plan c.in-Some.group.now n in
-    subst (IsHeld c.self.inside.identities c.self.inside.names) (sym w) c.self.invariant
+    kept-as c.self.invariant w (subst (IsHeld c.self.inside.identities c.self.inside.names) (sym w) c.self.invariant.held)
 
 pub returns-in_default-links : goal.returns-in_default-links
 returns-in_default-links c =
@@ -52,7 +53,15 @@ count-n-requires c =
     let n : find same_tag c.args.g plan ≡ Some c.in-Some.group.now = sym c.in-Some.ensures.value in
     let fresh : (y : Telegram) → telegram_at c.args.g c.args.t plan ≡ Some y → find same_tag c.args.p y.packets ≡ None = subst (λ q. (y : Telegram) → telegram_at c.args.g c.args.t q.groups ≡ Some y → find same_tag c.args.p y.packets ≡ None) (sym c.self.view_is) c.requires.new in
     let spelt : (y : Telegram) → telegram_at c.args.g c.args.t plan ≡ Some y → IsSpelt (version_of y) c.args.packet = subst (λ q. (y : Telegram) → telegram_at c.args.g c.args.t q.groups ≡ Some y → IsSpelt (version_of y) c.args.packet) (sym c.self.view_is) c.requires.spelt in
-    few-put plan c.self.inside.identities c.self.inside.names c.self.invariant c.args.g c.args.t c.args.spot c.args.p c.args.packet c.in-Some.group.now n fresh spelt c.in-Some-country.country c.in-Some-country.ensures c.in-Ok.links.items c.in-Ok.ensures.ok
+    few-put plan c.self.inside.identities c.self.inside.names c.self.invariant.held c.args.g c.args.t c.args.spot c.args.p c.args.packet c.in-Some.group.now n fresh spelt c.in-Some-country.country c.in-Some-country.ensures c.in-Ok.links.items c.in-Ok.ensures.ok
+
+pub add_links-requires-clause-none : goal.add_links-requires-clause-none
+add_links-requires-clause-none c =
+    let plan = c.self.inside.groups.entries in
+    let n : find same_tag c.args.g plan ≡ Some c.in-Some.group.now = sym c.in-Some.ensures.value in
+    let fresh : (y : Telegram) → telegram_at c.args.g c.args.t plan ≡ Some y → find same_tag c.args.p y.packets ≡ None = subst (λ q. (y : Telegram) → telegram_at c.args.g c.args.t q.groups ≡ Some y → find same_tag c.args.p y.packets ≡ None) (sym c.self.view_is) c.requires.new in
+    let spelt : (y : Telegram) → telegram_at c.args.g c.args.t plan ≡ Some y → IsSpelt (version_of y) c.args.packet = subst (λ q. (y : Telegram) → telegram_at c.args.g c.args.t q.groups ≡ Some y → IsSpelt (version_of y) c.args.packet) (sym c.self.view_is) c.requires.spelt in
+    lacks-put plan c.self.inside.identities c.self.inside.names c.self.invariant.held c.args.g c.args.t c.args.spot c.args.p c.args.packet c.in-Some.group.now n fresh spelt c.in-Some-country.country c.in-Some-country.ensures
 
 pub invariant_of-self-then-is_err : goal.invariant_of-self-then-is_err
 invariant_of-self-then-is_err c =
@@ -60,7 +69,7 @@ invariant_of-self-then-is_err c =
     let n : find same_tag c.args.g plan ≡ Some c.in-Some.group.now = sym c.in-Some.ensures.value in
     let w = (c.get_mut.follows.holds c.in-Some.group.now).0 ∙ set_value_same (same_tag c.args.g) plan c.in-Some.group.now n in
     let kept : Keeps c.self.inside.names c.add_links.new.names = search rules in
-    subst (IsHeld c.self.inside.identities c.add_links.new.names) (sym w) (held-keeps c.self.inside.identities c.self.inside.names c.add_links.new.names plan c.self.invariant (c.add_links.ensures.full c.self.invariant.full) kept)
+    kept-as c.self.invariant w (subst (IsHeld c.self.inside.identities c.add_links.new.names) (sym w) (held-keeps c.self.inside.identities c.self.inside.names c.add_links.new.names plan c.self.invariant.held (c.add_links.ensures.full c.self.invariant.held.full) kept))
 
 pub returns-then-is_err : goal.returns-then-is_err
 returns-then-is_err c =
@@ -68,6 +77,14 @@ returns-then-is_err c =
     let n : find same_tag c.args.g plan ≡ Some c.in-Some.group.now = sym c.in-Some.ensures.value in
     let w = (c.get_mut.follows.holds c.in-Some.group.now).0 ∙ set_value_same (same_tag c.args.g) plan c.in-Some.group.now n in
     (inl refl, refl, ap (λ gs. record { groups = gs; changes = c.self.inside.changes }) w ∙ c.self.view_is)
+
+pub put_packet-requires : goal.put_packet-requires
+put_packet-requires c =
+    let plan = c.self.inside.groups.entries in
+    let n : find same_tag c.args.g plan ≡ Some c.in-Some.group.now = sym c.in-Some.ensures.value in
+    let fresh : (y : Telegram) → telegram_at c.args.g c.args.t plan ≡ Some y → find same_tag c.args.p y.packets ≡ None = subst (λ q. (y : Telegram) → telegram_at c.args.g c.args.t q.groups ≡ Some y → find same_tag c.args.p y.packets ≡ None) (sym c.self.view_is) c.requires.new in
+    let spelt : (y : Telegram) → telegram_at c.args.g c.args.t plan ≡ Some y → IsSpelt (version_of y) c.args.packet = subst (λ q. (y : Telegram) → telegram_at c.args.g c.args.t q.groups ≡ Some y → IsSpelt (version_of y) c.args.packet) (sym c.self.view_is) c.requires.spelt in
+    λ y e. fresh y (at plan c.self.inside.identities c.self.inside.names c.self.invariant.held c.args.g c.args.t c.args.spot c.args.p c.args.packet c.in-Some.group.now n fresh spelt (Some y) e)
 
 pub invariant_of-self-in-Err : goal.invariant_of-self-in-Err
 invariant_of-self-in-Err c =
@@ -78,10 +95,10 @@ invariant_of-self-in-Err c =
     let v = (c.get_mut.follows.holds c.put_packet.new.self).0 in
     let adds : Adds c.args.g c.args.t c.args.p c.in-Ok.links.items c.count-n.result c.self.inside.names c.add_links.new.names = search rules in
     let forgets : Forgets c.args.g c.args.t c.args.p c.in-Ok.links.items c.count-n.result c.add_links.new.names c.forget_links.new.names = c.forget_links.ensures.forgotten in
-    let kept = taken-back c.args.g c.args.t c.args.p c.in-Ok.links.items c.count-n.result c.self.inside.names c.add_links.new.names c.forget_links.new.names (lacks-put plan c.self.inside.identities c.self.inside.names c.self.invariant c.args.g c.args.t c.args.spot c.args.p c.args.packet c.in-Some.group.now n fresh spelt c.in-Some-country.country c.in-Some-country.ensures) adds forgets in
-    let full = c.forget_links.ensures.full (c.add_links.ensures.full c.self.invariant.full) in
-    let r = put-failed plan c.self.inside.identities c.self.inside.names c.self.invariant c.args.g c.args.t c.args.spot c.args.p c.args.packet c.in-Some.group.now n fresh spelt c.in-Some-country.country c.in-Some-country.ensures c.put_packet.new.self c.in-Err.back c.in-Err.ensures in
-    subst (IsHeld c.self.inside.identities c.forget_links.new.names) (sym (v ∙ r.is)) (held-keeps c.self.inside.identities c.self.inside.names c.forget_links.new.names plan c.self.invariant full kept)
+    let kept = taken-back c.args.g c.args.t c.args.p c.in-Ok.links.items c.count-n.result c.self.inside.names c.add_links.new.names c.forget_links.new.names (lacks-put plan c.self.inside.identities c.self.inside.names c.self.invariant.held c.args.g c.args.t c.args.spot c.args.p c.args.packet c.in-Some.group.now n fresh spelt c.in-Some-country.country c.in-Some-country.ensures) adds forgets in
+    let full = c.forget_links.ensures.full (c.add_links.ensures.full c.self.invariant.held.full) in
+    let r = put-failed plan c.self.inside.identities c.self.inside.names c.self.invariant.held c.args.g c.args.t c.args.spot c.args.p c.args.packet c.in-Some.group.now n fresh spelt c.in-Some-country.country c.in-Some-country.ensures c.put_packet.new.self c.in-Err.back c.in-Err.ensures in
+    kept-as c.self.invariant (v ∙ r.is) (subst (IsHeld c.self.inside.identities c.forget_links.new.names) (sym (v ∙ r.is)) (held-keeps c.self.inside.identities c.self.inside.names c.forget_links.new.names plan c.self.invariant.held full kept))
 
 pub returns-in-Err : goal.returns-in-Err
 returns-in-Err c =
@@ -90,7 +107,7 @@ returns-in-Err c =
     let fresh : (y : Telegram) → telegram_at c.args.g c.args.t plan ≡ Some y → find same_tag c.args.p y.packets ≡ None = subst (λ q. (y : Telegram) → telegram_at c.args.g c.args.t q.groups ≡ Some y → find same_tag c.args.p y.packets ≡ None) (sym c.self.view_is) c.requires.new in
     let spelt : (y : Telegram) → telegram_at c.args.g c.args.t plan ≡ Some y → IsSpelt (version_of y) c.args.packet = subst (λ q. (y : Telegram) → telegram_at c.args.g c.args.t q.groups ≡ Some y → IsSpelt (version_of y) c.args.packet) (sym c.self.view_is) c.requires.spelt in
     let v = (c.get_mut.follows.holds c.put_packet.new.self).0 in
-    let r = put-failed plan c.self.inside.identities c.self.inside.names c.self.invariant c.args.g c.args.t c.args.spot c.args.p c.args.packet c.in-Some.group.now n fresh spelt c.in-Some-country.country c.in-Some-country.ensures c.put_packet.new.self c.in-Err.back c.in-Err.ensures in
+    let r = put-failed plan c.self.inside.identities c.self.inside.names c.self.invariant.held c.args.g c.args.t c.args.spot c.args.p c.args.packet c.in-Some.group.now n fresh spelt c.in-Some-country.country c.in-Some-country.ensures c.put_packet.new.self c.in-Err.back c.in-Err.ensures in
     (subst (λ q. (c.in-Err.back.0 ≡ OutOfMemory) ⊎ (put_refusal c.args.g c.args.t c.args.spot c.args.packet q.groups ≡ Some c.in-Err.back.0)) c.self.view_is r.why, r.back, ap (λ gs. record { groups = gs; changes = c.self.inside.changes }) (v ∙ r.is) ∙ c.self.view_is)
 
 pub invariant_of-self-2 : goal.invariant_of-self-2
@@ -102,8 +119,8 @@ invariant_of-self-2 c =
     let v = (c.get_mut.follows.holds c.put_packet.new.self).0 in
     let adds : Adds c.args.g c.args.t c.args.p c.in-Ok.links.items c.count-n.result c.self.inside.names c.add_links.new.names = search rules in
     let all : Adds c.args.g c.args.t c.args.p c.in-Ok.links.items (length c.in-Ok.links.items) c.self.inside.names c.add_links.new.names = subst (λ k. Adds c.args.g c.args.t c.args.p c.in-Ok.links.items k c.self.inside.names c.add_links.new.names) c.count-n.ensures adds in
-    let r = put-done plan c.self.inside.identities c.self.inside.names c.self.invariant c.args.g c.args.t c.args.spot c.args.p c.args.packet c.in-Some.group.now n fresh spelt c.in-Some-country.country c.in-Some-country.ensures c.put_packet.new.self c.in_default-put_packet.field-0 c.in_default-put_packet.ensures c.in-Ok.links.items c.in-Ok.ensures.ok c.add_links.new.names (c.add_links.ensures.full c.self.invariant.full) all in
-    subst (IsHeld c.self.inside.identities c.add_links.new.names) (sym v) r.held
+    let r = put-done plan c.self.inside.identities c.self.inside.names c.self.invariant.held c.args.g c.args.t c.args.spot c.args.p c.args.packet c.in-Some.group.now n fresh spelt c.in-Some-country.country c.in-Some-country.ensures c.put_packet.new.self c.in_default-put_packet.field-0 c.in_default-put_packet.ensures c.in-Ok.links.items c.in-Ok.ensures.ok c.add_links.new.names (c.add_links.ensures.full c.self.invariant.held.full) all in
+    changed c.self.inside.changes (subst (IsHeld c.self.inside.identities c.add_links.new.names) (sym v) r.held)
 
 pub returns : goal.returns
 returns c =
@@ -114,7 +131,7 @@ returns c =
     let v = (c.get_mut.follows.holds c.put_packet.new.self).0 in
     let adds : Adds c.args.g c.args.t c.args.p c.in-Ok.links.items c.count-n.result c.self.inside.names c.add_links.new.names = search rules in
     let all : Adds c.args.g c.args.t c.args.p c.in-Ok.links.items (length c.in-Ok.links.items) c.self.inside.names c.add_links.new.names = subst (λ k. Adds c.args.g c.args.t c.args.p c.in-Ok.links.items k c.self.inside.names c.add_links.new.names) c.count-n.ensures adds in
-    let r = put-done plan c.self.inside.identities c.self.inside.names c.self.invariant c.args.g c.args.t c.args.spot c.args.p c.args.packet c.in-Some.group.now n fresh spelt c.in-Some-country.country c.in-Some-country.ensures c.put_packet.new.self c.in_default-put_packet.field-0 c.in_default-put_packet.ensures c.in-Ok.links.items c.in-Ok.ensures.ok c.add_links.new.names (c.add_links.ensures.full c.self.invariant.full) all in (
+    let r = put-done plan c.self.inside.identities c.self.inside.names c.self.invariant.held c.args.g c.args.t c.args.spot c.args.p c.args.packet c.in-Some.group.now n fresh spelt c.in-Some-country.country c.in-Some-country.ensures c.put_packet.new.self c.in_default-put_packet.field-0 c.in_default-put_packet.ensures c.in-Ok.links.items c.in-Ok.ensures.ok c.add_links.new.names (c.add_links.ensures.full c.self.invariant.held.full) all in (
       subst (λ q. put_refusal c.args.g c.args.t c.args.spot c.args.packet q.groups ≡ None) c.self.view_is r.accepted,
       ap (λ gs. record { groups = gs; changes = c.self.inside.changes + 1 }) (v ∙ r.is) ∙ ap (λ (q : Plan). record { groups = in_packets c.args.g c.args.t (put_in c.args.spot (c.args.p, c.args.packet)) q.groups; changes = q.changes + 1 }) c.self.view_is,
     )

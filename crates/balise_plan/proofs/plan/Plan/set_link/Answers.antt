@@ -8,6 +8,7 @@ use Rattle.balise_rules.specs.Tagged.{find}
 use Rattle.balise_rules.specs.Tags.{same_tag}
 use Rattle.balise_rules.specs.Edits.{SetVar}
 use Rattle.balise_rules.specs.Doing.{refusal}
+use Rattle.balise_rules.specs.Notes.{noted}
 use Rattle.balise_plan.specs.Held.{edited, IsHeld}
 use Rattle.balise_plan.specs.Links.{Keeps}
 use Rattle.balise_plan.specs.Relinking.{AddsReal, ForgetsOther, element_at}
@@ -15,6 +16,7 @@ use Rattle.balise_plan.proofs.LinkSet.{untold, kept, linked}
 use Rattle.balise_plan.proofs.PacketPut.{held-keeps}
 use Rattle.balise_plan.proofs.Placing.{left}
 use Rattle.balise_plan.proofs.Walking.{place}
+use Rattle.balise_plan.proofs.Kept.{changed, kept-as}
 use Rattle.balise_plan.proofs.plan.Plan.set_link.Goals as goal
 
 pub invariant_of-self-in-Err : goal.invariant_of-self-in-Err
@@ -22,14 +24,14 @@ invariant_of-self-in-Err c =
     let plan = c.self.inside.groups.entries in
     let n : find same_tag c.args.g plan ≡ Some c.in-Some.group.now = sym c.in-Some.ensures.value in
     let w = (c.get_mut.follows.holds c.in-Some.group.now).0 ∙ set_value_same (same_tag c.args.g) plan c.in-Some.group.now n in
-    subst (IsHeld c.self.inside.identities c.self.inside.names) (sym w) c.self.invariant
+    kept-as c.self.invariant w (subst (IsHeld c.self.inside.identities c.self.inside.names) (sym w) c.self.invariant.held)
 
 pub returns-in-Err-clause-does : goal.returns-in-Err-clause-does
 returns-in-Err-clause-does c =
     let plan = c.self.inside.groups.entries in
     let n : find same_tag c.args.g plan ≡ Some c.in-Some.group.now = sym c.in-Some.ensures.value in
     let w = (c.get_mut.follows.holds c.in-Some.group.now).0 ∙ set_value_same (same_tag c.args.g) plan c.in-Some.group.now n in
-    let r = untold plan c.self.inside.identities c.self.inside.names c.self.invariant c.args.g c.args.t c.args.p c.args.k c.args.value c.in-Some.group.now n c.in-Err.fault c.in-Err.ensures.fault in
+    let r = untold plan c.self.inside.identities c.self.inside.names c.self.invariant.held c.args.g c.args.t c.args.p c.args.k c.args.value c.in-Some.group.now n c.in-Err.fault c.in-Err.ensures.fault in
     (subst (λ q. (c.in-Err.fault ≡ OutOfMemory) ⊎ (refusal (SetVar c.args.g c.args.t c.args.p NidBg c.args.k c.args.value) q.groups ≡ Some c.in-Err.fault)) c.self.view_is r, ap (λ gs. record { groups = gs; changes = c.self.inside.changes }) w ∙ c.self.view_is)
 
 pub invariant_of-self-then-is_err : goal.invariant_of-self-then-is_err
@@ -38,7 +40,7 @@ invariant_of-self-then-is_err c =
     let n : find same_tag c.args.g plan ≡ Some c.in-Some.group.now = sym c.in-Some.ensures.value in
     let w = (c.get_mut.follows.holds c.in-Some.group.now).0 ∙ set_value_same (same_tag c.args.g) plan c.in-Some.group.now n in
     let same : Keeps c.self.inside.names c.add_real.new.names = search rules in
-    subst (IsHeld c.self.inside.identities c.add_real.new.names) (sym w) (held-keeps c.self.inside.identities c.self.inside.names c.add_real.new.names plan c.self.invariant (c.add_real.ensures.full c.self.invariant.full) same)
+    kept-as c.self.invariant w (subst (IsHeld c.self.inside.identities c.add_real.new.names) (sym w) (held-keeps c.self.inside.identities c.self.inside.names c.add_real.new.names plan c.self.invariant.held (c.add_real.ensures.full c.self.invariant.held.full) same))
 
 pub returns-then-is_err-clause-does : goal.returns-then-is_err-clause-does
 returns-then-is_err-clause-does c =
@@ -55,18 +57,18 @@ invariant_of-self-in-Err-set_field c =
     let adds : AddsReal c.self.inside.names c.add_real.new.names (record { country = c.element-from.result.country; number = c.args.value }) (place c.args.g c.args.t c.args.p c.args.k) = search rules in
     let added : AddsReal c.self.inside.names c.add_real.new.names (record { country = (element_at c.in-Ok.links.items c.args.k).country; number = c.args.value }) (place c.args.g c.args.t c.args.p c.args.k) = subst (λ (i : Id). AddsReal c.self.inside.names c.add_real.new.names (record { country = i.country; number = c.args.value }) (place c.args.g c.args.t c.args.p c.args.k)) c.element-from.ensures adds in
     let f : ForgetsOther c.add_real.new.names c.forget_other.new.names (element_at c.in-Ok.links.items c.args.k) (record { country = (element_at c.in-Ok.links.items c.args.k).country; number = c.args.value }) (place c.args.g c.args.t c.args.p c.args.k) = subst (λ (i : Id). ForgetsOther c.add_real.new.names c.forget_other.new.names i (record { country = i.country; number = c.args.value }) (place c.args.g c.args.t c.args.p c.args.k)) c.element-from.ensures c.forget_other.ensures.forgotten in
-    let same = kept plan c.self.inside.identities c.self.inside.names c.self.invariant c.args.g c.args.t c.args.p c.args.k c.args.value c.in-Some.group.now n c.in-Ok.links.items c.in-Ok.ensures.ok c.add_real.new.names c.forget_other.new.names added f in
-    let r = left c.args.g c.args.t c.args.p NidBg c.args.k c.args.value plan c.self.invariant.sound c.in-Some.group.now c.set_field.new.self n c.in-Err-set_field.fault c.in-Err-set_field.ensures in
+    let same = kept plan c.self.inside.identities c.self.inside.names c.self.invariant.held c.args.g c.args.t c.args.p c.args.k c.args.value c.in-Some.group.now n c.in-Ok.links.items c.in-Ok.ensures.ok c.add_real.new.names c.forget_other.new.names added f in
+    let r = left c.args.g c.args.t c.args.p NidBg c.args.k c.args.value plan c.self.invariant.held.sound c.in-Some.group.now c.set_field.new.self n c.in-Err-set_field.fault c.in-Err-set_field.ensures in
     let e = v ∙ ap (set_value (same_tag c.args.g) plan) r.1 ∙ set_value_same (same_tag c.args.g) plan c.in-Some.group.now n in
-    let full = c.forget_other.ensures.full (c.add_real.ensures.full c.self.invariant.full) in
-    subst (IsHeld c.self.inside.identities c.forget_other.new.names) (sym e) (held-keeps c.self.inside.identities c.self.inside.names c.forget_other.new.names plan c.self.invariant full same)
+    let full = c.forget_other.ensures.full (c.add_real.ensures.full c.self.invariant.held.full) in
+    kept-as c.self.invariant e (subst (IsHeld c.self.inside.identities c.forget_other.new.names) (sym e) (held-keeps c.self.inside.identities c.self.inside.names c.forget_other.new.names plan c.self.invariant.held full same))
 
 pub returns-in-Err-set_field-clause-does : goal.returns-in-Err-set_field-clause-does
 returns-in-Err-set_field-clause-does c =
     let plan = c.self.inside.groups.entries in
     let n : find same_tag c.args.g plan ≡ Some c.in-Some.group.now = sym c.in-Some.ensures.value in
     let v = (c.get_mut.follows.holds c.set_field.new.self).0 in
-    let r = left c.args.g c.args.t c.args.p NidBg c.args.k c.args.value plan c.self.invariant.sound c.in-Some.group.now c.set_field.new.self n c.in-Err-set_field.fault c.in-Err-set_field.ensures in
+    let r = left c.args.g c.args.t c.args.p NidBg c.args.k c.args.value plan c.self.invariant.held.sound c.in-Some.group.now c.set_field.new.self n c.in-Err-set_field.fault c.in-Err-set_field.ensures in
     let e = v ∙ ap (set_value (same_tag c.args.g) plan) r.1 ∙ set_value_same (same_tag c.args.g) plan c.in-Some.group.now n in
     (inr (subst (λ q. refusal (SetVar c.args.g c.args.t c.args.p NidBg c.args.k c.args.value) q.groups ≡ Some c.in-Err-set_field.fault) c.self.view_is r.0), ap (λ gs. record { groups = gs; changes = c.self.inside.changes }) e ∙ c.self.view_is)
 
@@ -78,9 +80,9 @@ invariant_of-self-2 c =
     let adds : AddsReal c.self.inside.names c.add_real.new.names (record { country = c.element-from.result.country; number = c.args.value }) (place c.args.g c.args.t c.args.p c.args.k) = search rules in
     let added : AddsReal c.self.inside.names c.add_real.new.names (record { country = (element_at c.in-Ok.links.items c.args.k).country; number = c.args.value }) (place c.args.g c.args.t c.args.p c.args.k) = subst (λ (i : Id). AddsReal c.self.inside.names c.add_real.new.names (record { country = i.country; number = c.args.value }) (place c.args.g c.args.t c.args.p c.args.k)) c.element-from.ensures adds in
     let f : ForgetsOther c.add_real.new.names c.forget_other-2.new.names (record { country = (element_at c.in-Ok.links.items c.args.k).country; number = c.args.value }) (element_at c.in-Ok.links.items c.args.k) (place c.args.g c.args.t c.args.p c.args.k) = subst (λ (i : Id). ForgetsOther c.add_real.new.names c.forget_other-2.new.names (record { country = i.country; number = c.args.value }) i (place c.args.g c.args.t c.args.p c.args.k)) c.element-from.ensures c.forget_other-2.ensures.forgotten in
-    let full = c.forget_other-2.ensures.full (c.add_real.ensures.full c.self.invariant.full) in
-    let r = linked plan c.self.inside.identities c.self.inside.names c.self.invariant c.args.g c.args.t c.args.p c.args.k c.args.value c.in-Some.group.now n c.in-Ok.links.items c.in-Ok.ensures.ok c.add_real.new.names c.forget_other-2.new.names added c.set_field.new.self c.in-Ok-set_field.old c.in-Ok-set_field.ensures full f in
-    subst (IsHeld c.self.inside.identities c.forget_other-2.new.names) (sym v) r.held
+    let full = c.forget_other-2.ensures.full (c.add_real.ensures.full c.self.invariant.held.full) in
+    let r = linked plan c.self.inside.identities c.self.inside.names c.self.invariant.held c.args.g c.args.t c.args.p c.args.k c.args.value c.in-Some.group.now n c.in-Ok.links.items c.in-Ok.ensures.ok c.add_real.new.names c.forget_other-2.new.names added c.set_field.new.self c.in-Ok-set_field.old c.in-Ok-set_field.ensures full f in
+    changed c.self.inside.changes (subst (IsHeld c.self.inside.identities c.forget_other-2.new.names) (sym v) r.0.held)
 
 pub returns-clause-does : goal.returns-clause-does
 returns-clause-does c =
@@ -90,6 +92,18 @@ returns-clause-does c =
     let adds : AddsReal c.self.inside.names c.add_real.new.names (record { country = c.element-from.result.country; number = c.args.value }) (place c.args.g c.args.t c.args.p c.args.k) = search rules in
     let added : AddsReal c.self.inside.names c.add_real.new.names (record { country = (element_at c.in-Ok.links.items c.args.k).country; number = c.args.value }) (place c.args.g c.args.t c.args.p c.args.k) = subst (λ (i : Id). AddsReal c.self.inside.names c.add_real.new.names (record { country = i.country; number = c.args.value }) (place c.args.g c.args.t c.args.p c.args.k)) c.element-from.ensures adds in
     let f : ForgetsOther c.add_real.new.names c.forget_other-2.new.names (record { country = (element_at c.in-Ok.links.items c.args.k).country; number = c.args.value }) (element_at c.in-Ok.links.items c.args.k) (place c.args.g c.args.t c.args.p c.args.k) = subst (λ (i : Id). ForgetsOther c.add_real.new.names c.forget_other-2.new.names (record { country = i.country; number = c.args.value }) i (place c.args.g c.args.t c.args.p c.args.k)) c.element-from.ensures c.forget_other-2.ensures.forgotten in
-    let full = c.forget_other-2.ensures.full (c.add_real.ensures.full c.self.invariant.full) in
-    let r = linked plan c.self.inside.identities c.self.inside.names c.self.invariant c.args.g c.args.t c.args.p c.args.k c.args.value c.in-Some.group.now n c.in-Ok.links.items c.in-Ok.ensures.ok c.add_real.new.names c.forget_other-2.new.names added c.set_field.new.self c.in-Ok-set_field.old c.in-Ok-set_field.ensures full f in
-    (subst (λ q. refusal (SetVar c.args.g c.args.t c.args.p NidBg c.args.k c.args.value) q.groups ≡ None) c.self.view_is r.accepted, ap (λ gs. record { groups = gs; changes = c.self.inside.changes + 1 }) (v ∙ r.is) ∙ ap (edited (SetVar c.args.g c.args.t c.args.p NidBg c.args.k c.args.value)) c.self.view_is)
+    let full = c.forget_other-2.ensures.full (c.add_real.ensures.full c.self.invariant.held.full) in
+    let r = linked plan c.self.inside.identities c.self.inside.names c.self.invariant.held c.args.g c.args.t c.args.p c.args.k c.args.value c.in-Some.group.now n c.in-Ok.links.items c.in-Ok.ensures.ok c.add_real.new.names c.forget_other-2.new.names added c.set_field.new.self c.in-Ok-set_field.old c.in-Ok-set_field.ensures full f in
+    (subst (λ q. refusal (SetVar c.args.g c.args.t c.args.p NidBg c.args.k c.args.value) q.groups ≡ None) c.self.view_is r.0.accepted, ap (λ gs. record { groups = gs; changes = c.self.inside.changes + 1 }) (v ∙ r.0.is) ∙ ap (edited (SetVar c.args.g c.args.t c.args.p NidBg c.args.k c.args.value)) c.self.view_is)
+
+pub returns-clause-old : goal.returns-clause-old
+returns-clause-old c =
+    let plan = c.self.inside.groups.entries in
+    let n : find same_tag c.args.g plan ≡ Some c.in-Some.group.now = sym c.in-Some.ensures.value in
+    let v = (c.get_mut.follows.holds c.set_field.new.self).0 in
+    let adds : AddsReal c.self.inside.names c.add_real.new.names (record { country = c.element-from.result.country; number = c.args.value }) (place c.args.g c.args.t c.args.p c.args.k) = search rules in
+    let added : AddsReal c.self.inside.names c.add_real.new.names (record { country = (element_at c.in-Ok.links.items c.args.k).country; number = c.args.value }) (place c.args.g c.args.t c.args.p c.args.k) = subst (λ (i : Id). AddsReal c.self.inside.names c.add_real.new.names (record { country = i.country; number = c.args.value }) (place c.args.g c.args.t c.args.p c.args.k)) c.element-from.ensures adds in
+    let f : ForgetsOther c.add_real.new.names c.forget_other-2.new.names (record { country = (element_at c.in-Ok.links.items c.args.k).country; number = c.args.value }) (element_at c.in-Ok.links.items c.args.k) (place c.args.g c.args.t c.args.p c.args.k) = subst (λ (i : Id). ForgetsOther c.add_real.new.names c.forget_other-2.new.names (record { country = i.country; number = c.args.value }) i (place c.args.g c.args.t c.args.p c.args.k)) c.element-from.ensures c.forget_other-2.ensures.forgotten in
+    let full = c.forget_other-2.ensures.full (c.add_real.ensures.full c.self.invariant.held.full) in
+    let r = linked plan c.self.inside.identities c.self.inside.names c.self.invariant.held c.args.g c.args.t c.args.p c.args.k c.args.value c.in-Some.group.now n c.in-Ok.links.items c.in-Ok.ensures.ok c.add_real.new.names c.forget_other-2.new.names added c.set_field.new.self c.in-Ok-set_field.old c.in-Ok-set_field.ensures full f in
+    r.1 ∙ ap (λ q. (noted (SetVar c.args.g c.args.t c.args.p NidBg c.args.k c.args.value) q.groups).old) c.self.view_is

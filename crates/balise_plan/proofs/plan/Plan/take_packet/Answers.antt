@@ -5,10 +5,12 @@ use Rattle.balise_rules.specs.Tagged.{find}
 use Rattle.balise_rules.specs.Tags.{same_tag}
 use Rattle.balise_rules.specs.Edits.{DeletePacket}
 use Rattle.balise_rules.specs.Doing.{refusal}
+use Rattle.balise_rules.specs.Notes.{noted}
 use Rattle.balise_plan.specs.Held.{edited, IsHeld}
 use Rattle.balise_plan.specs.PacketLinks.{Forgets}
 use Rattle.balise_plan.proofs.PacketTaken.{untold, untaken, taken}
 use Rattle.balise_plan.proofs.LinksAll.{few-in}
+use Rattle.balise_plan.proofs.Kept.{changed, kept-as}
 use Rattle.balise_plan.proofs.plan.Plan.take_packet.Goals as goal
 
 pub invariant_of-self-in-Err : goal.invariant_of-self-in-Err
@@ -16,14 +18,14 @@ invariant_of-self-in-Err c =
     let plan = c.self.inside.groups.entries in
     let n : find same_tag c.args.g plan ≡ Some c.in-Some.group.now = sym c.in-Some.ensures.value in
     let w = (c.get_mut.follows.holds c.in-Some.group.now).0 ∙ set_value_same (same_tag c.args.g) plan c.in-Some.group.now n in
-    subst (IsHeld c.self.inside.identities c.self.inside.names) (sym w) c.self.invariant
+    kept-as c.self.invariant w (subst (IsHeld c.self.inside.identities c.self.inside.names) (sym w) c.self.invariant.held)
 
 pub returns-in-Err-clause-does : goal.returns-in-Err-clause-does
 returns-in-Err-clause-does c =
     let plan = c.self.inside.groups.entries in
     let n : find same_tag c.args.g plan ≡ Some c.in-Some.group.now = sym c.in-Some.ensures.value in
     let w = (c.get_mut.follows.holds c.in-Some.group.now).0 ∙ set_value_same (same_tag c.args.g) plan c.in-Some.group.now n in
-    let r = untold plan c.self.inside.identities c.self.inside.names c.self.invariant c.args.g c.args.t c.args.p c.in-Some.group.now n c.in-Err.fault c.in-Err.ensures.fault in
+    let r = untold plan c.self.inside.identities c.self.inside.names c.self.invariant.held c.args.g c.args.t c.args.p c.in-Some.group.now n c.in-Err.fault c.in-Err.ensures.fault in
     (subst (λ q. (c.in-Err.fault ≡ OutOfMemory) ⊎ (refusal (DeletePacket c.args.g c.args.t c.args.p) q.groups ≡ Some c.in-Err.fault)) c.self.view_is r, ap (λ gs. record { groups = gs; changes = c.self.inside.changes }) w ∙ c.self.view_is)
 
 pub invariant_of-self-in-Err-take_packet : goal.invariant_of-self-in-Err-take_packet
@@ -31,22 +33,22 @@ invariant_of-self-in-Err-take_packet c =
     let plan = c.self.inside.groups.entries in
     let n : find same_tag c.args.g plan ≡ Some c.in-Some.group.now = sym c.in-Some.ensures.value in
     let w = (c.get_mut.follows.holds c.take_packet.new.self).0 in
-    let r = untaken plan c.self.inside.identities c.self.inside.names c.self.invariant c.args.g c.args.t c.args.p c.in-Some.group.now n c.take_packet.new.self c.in-Err-take_packet.fault c.in-Err-take_packet.ensures in
-    subst (IsHeld c.self.inside.identities c.self.inside.names) (sym (w ∙ r.is)) c.self.invariant
+    let r = untaken plan c.self.inside.identities c.self.inside.names c.self.invariant.held c.args.g c.args.t c.args.p c.in-Some.group.now n c.take_packet.new.self c.in-Err-take_packet.fault c.in-Err-take_packet.ensures in
+    kept-as c.self.invariant (w ∙ r.is) (subst (IsHeld c.self.inside.identities c.self.inside.names) (sym (w ∙ r.is)) c.self.invariant.held)
 
 pub returns-in-Err-take_packet-clause-does : goal.returns-in-Err-take_packet-clause-does
 returns-in-Err-take_packet-clause-does c =
     let plan = c.self.inside.groups.entries in
     let n : find same_tag c.args.g plan ≡ Some c.in-Some.group.now = sym c.in-Some.ensures.value in
     let w = (c.get_mut.follows.holds c.take_packet.new.self).0 in
-    let r = untaken plan c.self.inside.identities c.self.inside.names c.self.invariant c.args.g c.args.t c.args.p c.in-Some.group.now n c.take_packet.new.self c.in-Err-take_packet.fault c.in-Err-take_packet.ensures in
+    let r = untaken plan c.self.inside.identities c.self.inside.names c.self.invariant.held c.args.g c.args.t c.args.p c.in-Some.group.now n c.take_packet.new.self c.in-Err-take_packet.fault c.in-Err-take_packet.ensures in
     (subst (λ q. (c.in-Err-take_packet.fault ≡ OutOfMemory) ⊎ (refusal (DeletePacket c.args.g c.args.t c.args.p) q.groups ≡ Some c.in-Err-take_packet.fault)) c.self.view_is r.why, ap (λ gs. record { groups = gs; changes = c.self.inside.changes }) (w ∙ r.is) ∙ c.self.view_is)
 
 pub count-requires : goal.count-requires
 count-requires c =
     let plan = c.self.inside.groups.entries in
     let n : find same_tag c.args.g plan ≡ Some c.in-Some.group.now = sym c.in-Some.ensures.value in
-    few-in c.args.g c.args.t plan c.self.invariant.sound c.in-Some.group.now n c.args.p c.in-Ok.links.items c.in-Ok.ensures.ok
+    few-in c.args.g c.args.t plan c.self.invariant.held.sound c.in-Some.group.now n c.args.p c.in-Ok.links.items c.in-Ok.ensures.ok
 
 pub invariant_of-self-2 : goal.invariant_of-self-2
 invariant_of-self-2 c =
@@ -54,8 +56,8 @@ invariant_of-self-2 c =
     let n : find same_tag c.args.g plan ≡ Some c.in-Some.group.now = sym c.in-Some.ensures.value in
     let w = (c.get_mut.follows.holds c.take_packet.new.self).0 in
     let f : Forgets c.args.g c.args.t c.args.p c.in-Ok.links.items (length c.in-Ok.links.items) c.self.inside.names c.forget_links.new.names = subst (λ k. Forgets c.args.g c.args.t c.args.p c.in-Ok.links.items k c.self.inside.names c.forget_links.new.names) c.count.ensures c.forget_links.ensures.forgotten in
-    let r = taken plan c.self.inside.identities c.self.inside.names c.self.invariant c.args.g c.args.t c.args.p c.in-Some.group.now n c.take_packet.new.self c.in-Ok-take_packet.taken c.in-Ok-take_packet.ensures c.in-Ok.links.items c.in-Ok.ensures.ok c.forget_links.new.names (c.forget_links.ensures.full c.self.invariant.full) f in
-    subst (IsHeld c.self.inside.identities c.forget_links.new.names) (sym w) r.held
+    let r = taken plan c.self.inside.identities c.self.inside.names c.self.invariant.held c.args.g c.args.t c.args.p c.in-Some.group.now n c.take_packet.new.self c.in-Ok-take_packet.taken c.in-Ok-take_packet.ensures c.in-Ok.links.items c.in-Ok.ensures.ok c.forget_links.new.names (c.forget_links.ensures.full c.self.invariant.held.full) f in
+    changed c.self.inside.changes (subst (IsHeld c.self.inside.identities c.forget_links.new.names) (sym w) r.0.held)
 
 pub returns-clause-does : goal.returns-clause-does
 returns-clause-does c =
@@ -63,5 +65,14 @@ returns-clause-does c =
     let n : find same_tag c.args.g plan ≡ Some c.in-Some.group.now = sym c.in-Some.ensures.value in
     let w = (c.get_mut.follows.holds c.take_packet.new.self).0 in
     let f : Forgets c.args.g c.args.t c.args.p c.in-Ok.links.items (length c.in-Ok.links.items) c.self.inside.names c.forget_links.new.names = subst (λ k. Forgets c.args.g c.args.t c.args.p c.in-Ok.links.items k c.self.inside.names c.forget_links.new.names) c.count.ensures c.forget_links.ensures.forgotten in
-    let r = taken plan c.self.inside.identities c.self.inside.names c.self.invariant c.args.g c.args.t c.args.p c.in-Some.group.now n c.take_packet.new.self c.in-Ok-take_packet.taken c.in-Ok-take_packet.ensures c.in-Ok.links.items c.in-Ok.ensures.ok c.forget_links.new.names (c.forget_links.ensures.full c.self.invariant.full) f in
-    (subst (λ q. refusal (DeletePacket c.args.g c.args.t c.args.p) q.groups ≡ None) c.self.view_is r.accepted, ap (λ gs. record { groups = gs; changes = c.self.inside.changes + 1 }) (w ∙ r.is) ∙ ap (edited (DeletePacket c.args.g c.args.t c.args.p)) c.self.view_is)
+    let r = taken plan c.self.inside.identities c.self.inside.names c.self.invariant.held c.args.g c.args.t c.args.p c.in-Some.group.now n c.take_packet.new.self c.in-Ok-take_packet.taken c.in-Ok-take_packet.ensures c.in-Ok.links.items c.in-Ok.ensures.ok c.forget_links.new.names (c.forget_links.ensures.full c.self.invariant.held.full) f in
+    (subst (λ q. refusal (DeletePacket c.args.g c.args.t c.args.p) q.groups ≡ None) c.self.view_is r.0.accepted, ap (λ gs. record { groups = gs; changes = c.self.inside.changes + 1 }) (w ∙ r.0.is) ∙ ap (edited (DeletePacket c.args.g c.args.t c.args.p)) c.self.view_is)
+
+pub returns-clause-taken : goal.returns-clause-taken
+returns-clause-taken c =
+    let plan = c.self.inside.groups.entries in
+    let n : find same_tag c.args.g plan ≡ Some c.in-Some.group.now = sym c.in-Some.ensures.value in
+    let w = (c.get_mut.follows.holds c.take_packet.new.self).0 in
+    let f : Forgets c.args.g c.args.t c.args.p c.in-Ok.links.items (length c.in-Ok.links.items) c.self.inside.names c.forget_links.new.names = subst (λ k. Forgets c.args.g c.args.t c.args.p c.in-Ok.links.items k c.self.inside.names c.forget_links.new.names) c.count.ensures c.forget_links.ensures.forgotten in
+    let r = taken plan c.self.inside.identities c.self.inside.names c.self.invariant.held c.args.g c.args.t c.args.p c.in-Some.group.now n c.take_packet.new.self c.in-Ok-take_packet.taken c.in-Ok-take_packet.ensures c.in-Ok.links.items c.in-Ok.ensures.ok c.forget_links.new.names (c.forget_links.ensures.full c.self.invariant.held.full) f in
+    (sym (ap (λ q. (noted (DeletePacket c.args.g c.args.t c.args.p) q.groups).packet) c.self.view_is) ∙ r.1, sym (ap (λ q. (noted (DeletePacket c.args.g c.args.t c.args.p) q.groups).before) c.self.view_is) ∙ r.2)

@@ -1,0 +1,80 @@
+//! A plan read group by group.
+
+ghost use Rattle.std.specs.Prelude.{◌≡◌, ◌≢◌, IfErr, IfOk, Ok, Err, map, []};
+ghost use Rattle.balise_rules.specs.Plan.{read_plan};
+ghost use Rattle.balise_plan.specs.Spots.{Pushes};
+
+use crate::group::Group;
+use crate::group_places::put_at;
+use crate::plan::Plan;
+use balise_bits::Bits;
+use balise_rules::{Refusal, Tag};
+use indexmap::IndexMap;
+use std::alloc::Global;
+use std::collections::BTreeMap;
+
+impl Plan {
+    /// A plan with no group and no change. Takes no memory.
+    pub fn empty(alloc: Global) -> Plan
+        ensures groups { result.groups ≡ [] }
+        ensures changes { result.changes ≡ 0 }
+    {
+        Plan {
+            groups: IndexMap::new(alloc),
+            identities: BTreeMap::new(alloc),
+            names: BTreeMap::new(alloc),
+            changes: 0,
+        }
+    }
+
+    /// Puts the group of these telegrams in at the end, under the tag of its place, which counts as no change.
+    ///
+    /// Refused as `Group::read` does, then `GroupTwice` where a group has its identity, and then all stays. `OutOfMemory`
+    /// may stand in place of any answer.
+    pub fn push(&mut self, telegrams: Vec<Bits>) -> Result<(), Refusal>
+        requires { self.old.changes ≡ 0 }
+        ensures { Pushes telegrams.items self.old result self.new }
+    {
+        let alloc = *self.groups.allocator();
+        let group = match Group::read(alloc, telegrams) {
+            Ok(group) => group,
+            Err(fault) => return Err(fault),
+        };
+        let own = group.identity();
+        if self.identities.get(&own).is_some() {
+            return Err(Refusal::GroupTwice);
+        }
+        let place = self.groups.len();
+        if place >= 4294967296 {
+            return Err(Refusal::OutOfMemory);
+        }
+        let tag = Tag::Base(place as u32);
+        if let Err(_back) = put_at(
+            &mut self.groups,
+            &mut self.identities,
+            &mut self.names,
+            place,
+            tag,
+            group,
+        ) {
+            return Err(Refusal::OutOfMemory);
+        }
+        Ok(())
+    }
+
+    /// The plan of these groups, each as its telegrams.
+    ///
+    /// Refused with the first refusal of `push`. `OutOfMemory` may stand in place of any answer.
+    pub fn read(alloc: Global, groups: Vec<Vec<Bits>>) -> Result<Plan, Refusal>
+        ensures ok { IfOk result (λ p. (read_plan (map (λ g. g.items) groups.items) ≡ Ok p.groups) × (p.changes ≡ 0)) }
+        ensures fault { IfErr result (λ e. e ≢ Refusal.OutOfMemory → read_plan (map (λ g. g.items) groups.items) ≡ Err e) }
+    {
+        let mut plan = Plan::empty(alloc);
+        for telegrams in groups {
+            if let Err(fault) = plan.push(telegrams) {
+                return Err(fault);
+            }
+        }
+        Ok(plan)
+    }
+}

@@ -7,6 +7,7 @@ use Rattle.std.specs.Map.{lookup}
 use Rattle.std.specs.Ordering.{is_eq}
 use Rattle.std.specs.Option.{IfSome}
 use Rattle.std.proofs.lemmas.List.{take_all}
+use Rattle.balise_plan.proofs.Kept.{kept-as}
 use Rattle.balise_plan.specs.Held.{IsHeld}
 use Rattle.balise_plan.specs.Links.{compare_id, in_links}
 use Rattle.indexmap.specs.IndexMap.{insert_entry}
@@ -21,7 +22,7 @@ loop-i-preserved c =
     let step = c.in_ok-insert.ensures.entries
     ∙ ap (λ gs. insert_entry same_tag gs c.in-Some.tag.now c.in_ok-copy.field-0) c.loop-i.invariant
     ∙ ap (insert_entry same_tag (take c.loop-i.i plan) c.in-Some.tag.now) c.in_ok-copy.ensures.ok
-    ∙ appended tag_test plan c.loop-i.i c.in-Some.tag.now c.in-Some.group.now c.self.invariant.sound.tags (sym c.in-Some.ensures.entry) in step
+    ∙ appended tag_test plan c.loop-i.i c.in-Some.tag.now c.in-Some.group.now c.self.invariant.held.sound.tags (sym c.in-Some.ensures.entry) in step
 
 -- clones of keys and of what they lead to
 pairs : {A B : Type 0} (x y : A × B) → x.0 ≡ y.0 → x.1 ≡ y.1 → x ≡ y
@@ -39,11 +40,11 @@ invariant_of-result-2 c =
     let plan = c.self.inside.groups.entries in
     let ids = same_get c.self.inside.identities c.in_ok-clone.field-0 (cloned _ (λ x y z. pairs x y (sym z.0) (sym z.1)) c.self.inside.identities.entries c.in_ok-clone.field-0.entries c.in_ok-clone.ensures.cases) in
     let names = same_get c.self.inside.names c.in_ok-clone-2.field-0 (cloned _ (λ x y z. pairs x y (sym z.0) (same_set x.1 y.1 (cloned _ (λ a b w. sym w) x.1.keys y.1.keys z.1))) c.self.inside.names.entries c.in_ok-clone-2.field-0.entries c.in_ok-clone-2.ensures.cases) in
-    let h = c.self.invariant in
+    let h = c.self.invariant.held in
     let all : c.groups-2.inside.columns.entries ≡ plan = ap (λ gs. gs.entries) c.groups-2.view_is ∙ c.loop-i.invariant ∙ take_all c.loop-i.i plan (omega (arith, c.loop-i-test.false, c.len-i-end.ensures.len)) in
-    subst (IsHeld c.in_ok-clone.field-0 c.in_ok-clone-2.field-0) (sym all) (record {
+    kept-as c.self.invariant all (subst (IsHeld c.in_ok-clone.field-0 c.in_ok-clone-2.field-0) (sym all) (record {
       sound = h.sound;
       tags = λ i. sym (ids i) ∙ h.tags i;
       named = λ q w. ap (λ o. in_links o w) (sym (names q)) ∙ h.named q w;
       full = λ r. subst (λ o. IfSome o (λ s. 0 < set.btree_set_len s)) (names r) (h.full r);
-    })
+    }))

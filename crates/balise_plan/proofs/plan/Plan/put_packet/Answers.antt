@@ -7,13 +7,13 @@ use Rattle.balise_rules.specs.Back.{in_packets}
 use Rattle.balise_rules.specs.Packet.{IsSpelt}
 use Rattle.balise_rules.specs.Plan.{telegram_at}
 use Rattle.balise_rules.specs.Telegram.{Telegram, version_of}
+use Rattle.balise_plan.proofs.Kept.{changed, kept-as}
 use Rattle.balise_plan.specs.Held.{IsHeld, Plan}
 use Rattle.balise_plan.specs.Links.{Keeps}
 use Rattle.balise_plan.specs.PacketLinks.{Adds, Forgets}
 use Rattle.balise_plan.specs.Spots.{put_in, put_refusal}
 use Rattle.balise_plan.proofs.LinkSteps.{taken-back}
-use Rattle.balise_plan.proofs.PacketPut.{held-keeps, lacking, few-put, lacks-put, put-failed, put-done, at}
-use Rattle.balise_plan.proofs.Kept.{changed, kept-as}
+use Rattle.balise_plan.proofs.PacketPut.{held-keeps, lacking, few-put, lacks-put, put-failed, put-done}
 use Rattle.balise_plan.proofs.plan.Plan.put_packet.Goals as goal
 
 pub invariant_of-self-in_default-country : goal.invariant_of-self-in_default-country
@@ -55,14 +55,6 @@ count-n-requires c =
     let spelt : (y : Telegram) → telegram_at c.args.g c.args.t plan ≡ Some y → IsSpelt (version_of y) c.args.packet = subst (λ q. (y : Telegram) → telegram_at c.args.g c.args.t q.groups ≡ Some y → IsSpelt (version_of y) c.args.packet) (sym c.self.view_is) c.requires.spelt in
     few-put plan c.self.inside.identities c.self.inside.names c.self.invariant.held c.args.g c.args.t c.args.spot c.args.p c.args.packet c.in-Some.group.now n fresh spelt c.in-Some-country.country c.in-Some-country.ensures c.in-Ok.links.items c.in-Ok.ensures.ok
 
-pub add_links-requires-clause-none : goal.add_links-requires-clause-none
-add_links-requires-clause-none c =
-    let plan = c.self.inside.groups.entries in
-    let n : find same_tag c.args.g plan ≡ Some c.in-Some.group.now = sym c.in-Some.ensures.value in
-    let fresh : (y : Telegram) → telegram_at c.args.g c.args.t plan ≡ Some y → find same_tag c.args.p y.packets ≡ None = subst (λ q. (y : Telegram) → telegram_at c.args.g c.args.t q.groups ≡ Some y → find same_tag c.args.p y.packets ≡ None) (sym c.self.view_is) c.requires.new in
-    let spelt : (y : Telegram) → telegram_at c.args.g c.args.t plan ≡ Some y → IsSpelt (version_of y) c.args.packet = subst (λ q. (y : Telegram) → telegram_at c.args.g c.args.t q.groups ≡ Some y → IsSpelt (version_of y) c.args.packet) (sym c.self.view_is) c.requires.spelt in
-    lacks-put plan c.self.inside.identities c.self.inside.names c.self.invariant.held c.args.g c.args.t c.args.spot c.args.p c.args.packet c.in-Some.group.now n fresh spelt c.in-Some-country.country c.in-Some-country.ensures
-
 pub invariant_of-self-then-is_err : goal.invariant_of-self-then-is_err
 invariant_of-self-then-is_err c =
     let plan = c.self.inside.groups.entries in
@@ -77,14 +69,6 @@ returns-then-is_err c =
     let n : find same_tag c.args.g plan ≡ Some c.in-Some.group.now = sym c.in-Some.ensures.value in
     let w = (c.get_mut.follows.holds c.in-Some.group.now).0 ∙ set_value_same (same_tag c.args.g) plan c.in-Some.group.now n in
     (inl refl, refl, ap (λ gs. record { groups = gs; changes = c.self.inside.changes }) w ∙ c.self.view_is)
-
-pub put_packet-requires : goal.put_packet-requires
-put_packet-requires c =
-    let plan = c.self.inside.groups.entries in
-    let n : find same_tag c.args.g plan ≡ Some c.in-Some.group.now = sym c.in-Some.ensures.value in
-    let fresh : (y : Telegram) → telegram_at c.args.g c.args.t plan ≡ Some y → find same_tag c.args.p y.packets ≡ None = subst (λ q. (y : Telegram) → telegram_at c.args.g c.args.t q.groups ≡ Some y → find same_tag c.args.p y.packets ≡ None) (sym c.self.view_is) c.requires.new in
-    let spelt : (y : Telegram) → telegram_at c.args.g c.args.t plan ≡ Some y → IsSpelt (version_of y) c.args.packet = subst (λ q. (y : Telegram) → telegram_at c.args.g c.args.t q.groups ≡ Some y → IsSpelt (version_of y) c.args.packet) (sym c.self.view_is) c.requires.spelt in
-    λ y e. fresh y (at plan c.self.inside.identities c.self.inside.names c.self.invariant.held c.args.g c.args.t c.args.spot c.args.p c.args.packet c.in-Some.group.now n fresh spelt (Some y) e)
 
 pub invariant_of-self-in-Err : goal.invariant_of-self-in-Err
 invariant_of-self-in-Err c =

@@ -3,10 +3,9 @@ use Rattle.balise_rules.specs.Tagged.{find}
 use Rattle.balise_rules.specs.Tags.{same_tag}
 use Rattle.balise_rules.specs.Edits.{SetHead}
 use Rattle.balise_rules.specs.Doing.{refusal}
-use Rattle.balise_rules.specs.Notes.{noted}
+use Rattle.balise_plan.proofs.Kept.{changed, kept-as}
 use Rattle.balise_plan.specs.Held.{edited, IsHeld}
 use Rattle.balise_plan.proofs.HeadSet.{refused, answered}
-use Rattle.balise_plan.proofs.Kept.{changed, kept-as}
 use Rattle.balise_plan.proofs.plan.Plan.set_head.Goals as goal
 
 pub invariant_of-self-in-Err : goal.invariant_of-self-in-Err
@@ -31,7 +30,7 @@ invariant_of-self-2 c =
     let n : find same_tag c.args.g plan ≡ Some c.in-Some.group.now = sym c.in-Some.ensures.value in
     let w = (c.get_mut.follows.holds c.set_head.new.self).0 in
     let r = answered plan c.self.inside.identities c.self.inside.names c.self.invariant.held c.args.g c.args.t c.args.var c.args.value c.in-Some.group.now c.set_head.new.self n c.in-Ok.old c.in-Ok.ensures in
-    changed c.self.inside.changes (subst (IsHeld c.self.inside.identities c.self.inside.names) (sym w) r.0.held)
+    changed c.self.inside.changes (subst (IsHeld c.self.inside.identities c.self.inside.names) (sym w) r.held)
 
 pub returns-clause-does : goal.returns-clause-does
 returns-clause-does c =
@@ -39,12 +38,4 @@ returns-clause-does c =
     let n : find same_tag c.args.g plan ≡ Some c.in-Some.group.now = sym c.in-Some.ensures.value in
     let w = (c.get_mut.follows.holds c.set_head.new.self).0 in
     let r = answered plan c.self.inside.identities c.self.inside.names c.self.invariant.held c.args.g c.args.t c.args.var c.args.value c.in-Some.group.now c.set_head.new.self n c.in-Ok.old c.in-Ok.ensures in
-    (subst (λ q. refusal (SetHead c.args.g c.args.t c.args.var c.args.value) q.groups ≡ None) c.self.view_is r.0.accepted, ap (λ gs. record { groups = gs; changes = c.self.inside.changes + 1 }) (w ∙ r.0.is) ∙ ap (edited (SetHead c.args.g c.args.t c.args.var c.args.value)) c.self.view_is)
-
-pub returns-clause-old : goal.returns-clause-old
-returns-clause-old c =
-    let plan = c.self.inside.groups.entries in
-    let n : find same_tag c.args.g plan ≡ Some c.in-Some.group.now = sym c.in-Some.ensures.value in
-    let w = (c.get_mut.follows.holds c.set_head.new.self).0 in
-    let r = answered plan c.self.inside.identities c.self.inside.names c.self.invariant.held c.args.g c.args.t c.args.var c.args.value c.in-Some.group.now c.set_head.new.self n c.in-Ok.old c.in-Ok.ensures in
-    r.1 ∙ ap (λ q. (noted (SetHead c.args.g c.args.t c.args.var c.args.value) q.groups).old) c.self.view_is
+    (subst (λ q. refusal (SetHead c.args.g c.args.t c.args.var c.args.value) q.groups ≡ None) c.self.view_is r.accepted, ap (λ gs. record { groups = gs; changes = c.self.inside.changes + 1 }) (w ∙ r.is) ∙ ap (edited (SetHead c.args.g c.args.t c.args.var c.args.value)) c.self.view_is)

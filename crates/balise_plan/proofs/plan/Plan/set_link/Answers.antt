@@ -8,7 +8,7 @@ use Rattle.balise_rules.specs.Tagged.{find}
 use Rattle.balise_rules.specs.Tags.{same_tag}
 use Rattle.balise_rules.specs.Edits.{SetVar}
 use Rattle.balise_rules.specs.Doing.{refusal}
-use Rattle.balise_rules.specs.Notes.{noted}
+use Rattle.balise_plan.proofs.Kept.{changed, kept-as}
 use Rattle.balise_plan.specs.Held.{edited, IsHeld}
 use Rattle.balise_plan.specs.Links.{Keeps}
 use Rattle.balise_plan.specs.Relinking.{AddsReal, ForgetsOther, element_at}
@@ -16,7 +16,6 @@ use Rattle.balise_plan.proofs.LinkSet.{untold, kept, linked}
 use Rattle.balise_plan.proofs.PacketPut.{held-keeps}
 use Rattle.balise_plan.proofs.Placing.{left}
 use Rattle.balise_plan.proofs.Walking.{place}
-use Rattle.balise_plan.proofs.Kept.{changed, kept-as}
 use Rattle.balise_plan.proofs.plan.Plan.set_link.Goals as goal
 
 pub invariant_of-self-in-Err : goal.invariant_of-self-in-Err
@@ -82,7 +81,7 @@ invariant_of-self-2 c =
     let f : ForgetsOther c.add_real.new.names c.forget_other-2.new.names (record { country = (element_at c.in-Ok.links.items c.args.k).country; number = c.args.value }) (element_at c.in-Ok.links.items c.args.k) (place c.args.g c.args.t c.args.p c.args.k) = subst (λ (i : Id). ForgetsOther c.add_real.new.names c.forget_other-2.new.names (record { country = i.country; number = c.args.value }) i (place c.args.g c.args.t c.args.p c.args.k)) c.element-from.ensures c.forget_other-2.ensures.forgotten in
     let full = c.forget_other-2.ensures.full (c.add_real.ensures.full c.self.invariant.held.full) in
     let r = linked plan c.self.inside.identities c.self.inside.names c.self.invariant.held c.args.g c.args.t c.args.p c.args.k c.args.value c.in-Some.group.now n c.in-Ok.links.items c.in-Ok.ensures.ok c.add_real.new.names c.forget_other-2.new.names added c.set_field.new.self c.in-Ok-set_field.old c.in-Ok-set_field.ensures full f in
-    changed c.self.inside.changes (subst (IsHeld c.self.inside.identities c.forget_other-2.new.names) (sym v) r.0.held)
+    changed c.self.inside.changes (subst (IsHeld c.self.inside.identities c.forget_other-2.new.names) (sym v) r.held)
 
 pub returns-clause-does : goal.returns-clause-does
 returns-clause-does c =
@@ -94,16 +93,4 @@ returns-clause-does c =
     let f : ForgetsOther c.add_real.new.names c.forget_other-2.new.names (record { country = (element_at c.in-Ok.links.items c.args.k).country; number = c.args.value }) (element_at c.in-Ok.links.items c.args.k) (place c.args.g c.args.t c.args.p c.args.k) = subst (λ (i : Id). ForgetsOther c.add_real.new.names c.forget_other-2.new.names (record { country = i.country; number = c.args.value }) i (place c.args.g c.args.t c.args.p c.args.k)) c.element-from.ensures c.forget_other-2.ensures.forgotten in
     let full = c.forget_other-2.ensures.full (c.add_real.ensures.full c.self.invariant.held.full) in
     let r = linked plan c.self.inside.identities c.self.inside.names c.self.invariant.held c.args.g c.args.t c.args.p c.args.k c.args.value c.in-Some.group.now n c.in-Ok.links.items c.in-Ok.ensures.ok c.add_real.new.names c.forget_other-2.new.names added c.set_field.new.self c.in-Ok-set_field.old c.in-Ok-set_field.ensures full f in
-    (subst (λ q. refusal (SetVar c.args.g c.args.t c.args.p NidBg c.args.k c.args.value) q.groups ≡ None) c.self.view_is r.0.accepted, ap (λ gs. record { groups = gs; changes = c.self.inside.changes + 1 }) (v ∙ r.0.is) ∙ ap (edited (SetVar c.args.g c.args.t c.args.p NidBg c.args.k c.args.value)) c.self.view_is)
-
-pub returns-clause-old : goal.returns-clause-old
-returns-clause-old c =
-    let plan = c.self.inside.groups.entries in
-    let n : find same_tag c.args.g plan ≡ Some c.in-Some.group.now = sym c.in-Some.ensures.value in
-    let v = (c.get_mut.follows.holds c.set_field.new.self).0 in
-    let adds : AddsReal c.self.inside.names c.add_real.new.names (record { country = c.element-from.result.country; number = c.args.value }) (place c.args.g c.args.t c.args.p c.args.k) = search rules in
-    let added : AddsReal c.self.inside.names c.add_real.new.names (record { country = (element_at c.in-Ok.links.items c.args.k).country; number = c.args.value }) (place c.args.g c.args.t c.args.p c.args.k) = subst (λ (i : Id). AddsReal c.self.inside.names c.add_real.new.names (record { country = i.country; number = c.args.value }) (place c.args.g c.args.t c.args.p c.args.k)) c.element-from.ensures adds in
-    let f : ForgetsOther c.add_real.new.names c.forget_other-2.new.names (record { country = (element_at c.in-Ok.links.items c.args.k).country; number = c.args.value }) (element_at c.in-Ok.links.items c.args.k) (place c.args.g c.args.t c.args.p c.args.k) = subst (λ (i : Id). ForgetsOther c.add_real.new.names c.forget_other-2.new.names (record { country = i.country; number = c.args.value }) i (place c.args.g c.args.t c.args.p c.args.k)) c.element-from.ensures c.forget_other-2.ensures.forgotten in
-    let full = c.forget_other-2.ensures.full (c.add_real.ensures.full c.self.invariant.held.full) in
-    let r = linked plan c.self.inside.identities c.self.inside.names c.self.invariant.held c.args.g c.args.t c.args.p c.args.k c.args.value c.in-Some.group.now n c.in-Ok.links.items c.in-Ok.ensures.ok c.add_real.new.names c.forget_other-2.new.names added c.set_field.new.self c.in-Ok-set_field.old c.in-Ok-set_field.ensures full f in
-    r.1 ∙ ap (λ q. (noted (SetVar c.args.g c.args.t c.args.p NidBg c.args.k c.args.value) q.groups).old) c.self.view_is
+    (subst (λ q. refusal (SetVar c.args.g c.args.t c.args.p NidBg c.args.k c.args.value) q.groups ≡ None) c.self.view_is r.accepted, ap (λ gs. record { groups = gs; changes = c.self.inside.changes + 1 }) (v ∙ r.is) ∙ ap (edited (SetVar c.args.g c.args.t c.args.p NidBg c.args.k c.args.value)) c.self.view_is)

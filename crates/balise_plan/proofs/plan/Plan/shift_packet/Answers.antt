@@ -4,10 +4,9 @@ use Rattle.balise_rules.specs.Tagged.{find}
 use Rattle.balise_rules.specs.Tags.{same_tag}
 use Rattle.balise_rules.specs.Edits.{MovePacket}
 use Rattle.balise_rules.specs.Doing.{refusal}
-use Rattle.balise_rules.specs.Notes.{noted}
+use Rattle.balise_plan.proofs.Kept.{changed, kept-as}
 use Rattle.balise_plan.specs.Held.{edited, IsHeld}
 use Rattle.balise_plan.proofs.PacketTaken.{unmoved, moved}
-use Rattle.balise_plan.proofs.Kept.{changed, kept-as}
 use Rattle.balise_plan.proofs.plan.Plan.shift_packet.Goals as goal
 
 pub invariant_of-self-in-Err : goal.invariant_of-self-in-Err
@@ -32,7 +31,7 @@ invariant_of-self-2 c =
     let n : find same_tag c.args.g plan ≡ Some c.in-Some.group.now = sym c.in-Some.ensures.value in
     let w = (c.get_mut.follows.holds c.shift_packet.new.self).0 in
     let r = moved plan c.self.inside.identities c.self.inside.names c.self.invariant.held c.args.g c.args.t c.args.p c.args.anchor c.in-Some.group.now c.shift_packet.new.self n c.in-Ok.next c.in-Ok.ensures in
-    changed c.self.inside.changes (subst (IsHeld c.self.inside.identities c.self.inside.names) (sym w) r.0.held)
+    changed c.self.inside.changes (subst (IsHeld c.self.inside.identities c.self.inside.names) (sym w) r.held)
 
 pub returns-clause-does : goal.returns-clause-does
 returns-clause-does c =
@@ -40,12 +39,4 @@ returns-clause-does c =
     let n : find same_tag c.args.g plan ≡ Some c.in-Some.group.now = sym c.in-Some.ensures.value in
     let w = (c.get_mut.follows.holds c.shift_packet.new.self).0 in
     let r = moved plan c.self.inside.identities c.self.inside.names c.self.invariant.held c.args.g c.args.t c.args.p c.args.anchor c.in-Some.group.now c.shift_packet.new.self n c.in-Ok.next c.in-Ok.ensures in
-    (subst (λ q. refusal (MovePacket c.args.g c.args.t c.args.p c.args.anchor) q.groups ≡ None) c.self.view_is r.0.accepted, ap (λ gs. record { groups = gs; changes = c.self.inside.changes + 1 }) (w ∙ r.0.is) ∙ ap (edited (MovePacket c.args.g c.args.t c.args.p c.args.anchor)) c.self.view_is)
-
-pub returns-clause-next : goal.returns-clause-next
-returns-clause-next c =
-    let plan = c.self.inside.groups.entries in
-    let n : find same_tag c.args.g plan ≡ Some c.in-Some.group.now = sym c.in-Some.ensures.value in
-    let w = (c.get_mut.follows.holds c.shift_packet.new.self).0 in
-    let r = moved plan c.self.inside.identities c.self.inside.names c.self.invariant.held c.args.g c.args.t c.args.p c.args.anchor c.in-Some.group.now c.shift_packet.new.self n c.in-Ok.next c.in-Ok.ensures in
-    sym (ap (λ q. (noted (MovePacket c.args.g c.args.t c.args.p c.args.anchor) q.groups).before) c.self.view_is) ∙ r.1
+    (subst (λ q. refusal (MovePacket c.args.g c.args.t c.args.p c.args.anchor) q.groups ≡ None) c.self.view_is r.accepted, ap (λ gs. record { groups = gs; changes = c.self.inside.changes + 1 }) (w ∙ r.is) ∙ ap (edited (MovePacket c.args.g c.args.t c.args.p c.args.anchor)) c.self.view_is)

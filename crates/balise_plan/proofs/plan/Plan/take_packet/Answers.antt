@@ -5,12 +5,11 @@ use Rattle.balise_rules.specs.Tagged.{find}
 use Rattle.balise_rules.specs.Tags.{same_tag}
 use Rattle.balise_rules.specs.Edits.{DeletePacket}
 use Rattle.balise_rules.specs.Doing.{refusal}
-use Rattle.balise_rules.specs.Notes.{noted}
+use Rattle.balise_plan.proofs.Kept.{changed, kept-as}
 use Rattle.balise_plan.specs.Held.{edited, IsHeld}
 use Rattle.balise_plan.specs.PacketLinks.{Forgets}
 use Rattle.balise_plan.proofs.PacketTaken.{untold, untaken, taken}
 use Rattle.balise_plan.proofs.LinksAll.{few-in}
-use Rattle.balise_plan.proofs.Kept.{changed, kept-as}
 use Rattle.balise_plan.proofs.plan.Plan.take_packet.Goals as goal
 
 pub invariant_of-self-in-Err : goal.invariant_of-self-in-Err
@@ -57,7 +56,7 @@ invariant_of-self-2 c =
     let w = (c.get_mut.follows.holds c.take_packet.new.self).0 in
     let f : Forgets c.args.g c.args.t c.args.p c.in-Ok.links.items (length c.in-Ok.links.items) c.self.inside.names c.forget_links.new.names = subst (λ k. Forgets c.args.g c.args.t c.args.p c.in-Ok.links.items k c.self.inside.names c.forget_links.new.names) c.count.ensures c.forget_links.ensures.forgotten in
     let r = taken plan c.self.inside.identities c.self.inside.names c.self.invariant.held c.args.g c.args.t c.args.p c.in-Some.group.now n c.take_packet.new.self c.in-Ok-take_packet.taken c.in-Ok-take_packet.ensures c.in-Ok.links.items c.in-Ok.ensures.ok c.forget_links.new.names (c.forget_links.ensures.full c.self.invariant.held.full) f in
-    changed c.self.inside.changes (subst (IsHeld c.self.inside.identities c.forget_links.new.names) (sym w) r.0.held)
+    changed c.self.inside.changes (subst (IsHeld c.self.inside.identities c.forget_links.new.names) (sym w) r.held)
 
 pub returns-clause-does : goal.returns-clause-does
 returns-clause-does c =
@@ -66,13 +65,4 @@ returns-clause-does c =
     let w = (c.get_mut.follows.holds c.take_packet.new.self).0 in
     let f : Forgets c.args.g c.args.t c.args.p c.in-Ok.links.items (length c.in-Ok.links.items) c.self.inside.names c.forget_links.new.names = subst (λ k. Forgets c.args.g c.args.t c.args.p c.in-Ok.links.items k c.self.inside.names c.forget_links.new.names) c.count.ensures c.forget_links.ensures.forgotten in
     let r = taken plan c.self.inside.identities c.self.inside.names c.self.invariant.held c.args.g c.args.t c.args.p c.in-Some.group.now n c.take_packet.new.self c.in-Ok-take_packet.taken c.in-Ok-take_packet.ensures c.in-Ok.links.items c.in-Ok.ensures.ok c.forget_links.new.names (c.forget_links.ensures.full c.self.invariant.held.full) f in
-    (subst (λ q. refusal (DeletePacket c.args.g c.args.t c.args.p) q.groups ≡ None) c.self.view_is r.0.accepted, ap (λ gs. record { groups = gs; changes = c.self.inside.changes + 1 }) (w ∙ r.0.is) ∙ ap (edited (DeletePacket c.args.g c.args.t c.args.p)) c.self.view_is)
-
-pub returns-clause-taken : goal.returns-clause-taken
-returns-clause-taken c =
-    let plan = c.self.inside.groups.entries in
-    let n : find same_tag c.args.g plan ≡ Some c.in-Some.group.now = sym c.in-Some.ensures.value in
-    let w = (c.get_mut.follows.holds c.take_packet.new.self).0 in
-    let f : Forgets c.args.g c.args.t c.args.p c.in-Ok.links.items (length c.in-Ok.links.items) c.self.inside.names c.forget_links.new.names = subst (λ k. Forgets c.args.g c.args.t c.args.p c.in-Ok.links.items k c.self.inside.names c.forget_links.new.names) c.count.ensures c.forget_links.ensures.forgotten in
-    let r = taken plan c.self.inside.identities c.self.inside.names c.self.invariant.held c.args.g c.args.t c.args.p c.in-Some.group.now n c.take_packet.new.self c.in-Ok-take_packet.taken c.in-Ok-take_packet.ensures c.in-Ok.links.items c.in-Ok.ensures.ok c.forget_links.new.names (c.forget_links.ensures.full c.self.invariant.held.full) f in
-    (sym (ap (λ q. (noted (DeletePacket c.args.g c.args.t c.args.p) q.groups).packet) c.self.view_is) ∙ r.1, sym (ap (λ q. (noted (DeletePacket c.args.g c.args.t c.args.p) q.groups).before) c.self.view_is) ∙ r.2)
+    (subst (λ q. refusal (DeletePacket c.args.g c.args.t c.args.p) q.groups ≡ None) c.self.view_is r.accepted, ap (λ gs. record { groups = gs; changes = c.self.inside.changes + 1 }) (w ∙ r.is) ∙ ap (edited (DeletePacket c.args.g c.args.t c.args.p)) c.self.view_is)

@@ -11,6 +11,8 @@ mod names;
 mod plan;
 mod relink;
 mod spot;
+#[cfg(test)]
+mod tests;
 mod walk;
 
 pub use balise_bits::Bits;

@@ -17,7 +17,9 @@ mod walk;
 
 pub use balise_bits::Bits;
 pub use balise_layout::{Id, Packet, Var};
-pub use balise_rules::{Refusal, Refusal as PlanFault, Tag, Tag as GroupTag};
+pub use balise_rules::{
+    Address, Place, Refusal, Refusal as PlanFault, Tag, Tag as GroupTag, Tag as PacketTag,
+};
 pub use balise_telegram::{Balise, Telegram};
 pub use group::Group;
 pub use links::LinkPlace;

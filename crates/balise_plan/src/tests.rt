@@ -1,5 +1,6 @@
 //! Plans of known digits.
 
+mod calls;
 mod groups;
 
 use crate::{Bits, Plan, Refusal};

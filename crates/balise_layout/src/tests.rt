@@ -51,7 +51,8 @@ fn check_digits<R: Abort>(
     let text = bits.to_hex()?;
     assert_eq!(rt; text.as_str(), digits);
     let mut over = Bits::new(alloc);
-    over.push_zeros(3 + packet.width())?;
+    over.push_zeros(3)?;
+    over.push_zeros(packet.width())?;
     packet.put_over(&mut over, 3);
     assert!(rt; over.slice(3, packet.width())? == bits);
     Ok(())

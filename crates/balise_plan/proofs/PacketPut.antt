@@ -71,7 +71,7 @@ refused-or None r e = inl e
 refused-or (Some q) r e = inr (ap Some (sym e))
 
 -- a telegram with one packet more
-kept : (s : Spot Tag) (p : Tag) (x : Packet) (o : Id) (last m : ℕ) (y : Telegram) → IsSoundTelegram o last m y → spot_stands s y.packets ≡ true → nat_lt (room y) (width x) ≡ false → find same_tag p y.packets ≡ None → IsSpelt (version_of y) x →
+pub kept : (s : Spot Tag) (p : Tag) (x : Packet) (o : Id) (last m : ℕ) (y : Telegram) → IsSoundTelegram o last m y → spot_stands s y.packets ≡ true → nat_lt (room y) (width x) ≡ false → find same_tag p y.packets ≡ None → IsSpelt (version_of y) x →
     IsSoundTelegram o last m (with_packets y (put_in s (p, x) y.packets))
 kept s p x o last m y d there roomy absent word =
     let r = ltb-false (room y) (width x) roomy in

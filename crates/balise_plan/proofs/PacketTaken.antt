@@ -1,4 +1,4 @@
--- What taking a packet out, or moving one, makes of a plan and of its indexes.
+-- What taking a packet out makes of a plan and of its indexes.
 use Rattle.std.proofs.Common.{◌≡◌, ◌⊎◌, inl, inr, ℕ, eqb, List, length, Option, Some, None, Ok, Err, sym, ap, subst, ◌∙◌}
 use Rattle.std.specs.Map.{set_value}
 use Rattle.std.specs.Prelude.{is_none}
@@ -8,27 +8,23 @@ use Rattle.balise_rules.specs.declared.tag.Tag.{Tag}
 use Rattle.balise_rules.specs.declared.identity.Id.{Id}
 use Rattle.balise_rules.specs.declared.refusal.Refusal.{Refusal}
 use Rattle.balise_rules.specs.declared.refusal.Refusal.TheVariants as refusals
-use Rattle.balise_rules.specs.Tagged.{find, move}
+use Rattle.balise_rules.specs.Tagged.{find}
 use Rattle.balise_rules.specs.Tags.{same_tag}
 use Rattle.balise_rules.specs.Packet.{Packet}
 use Rattle.balise_rules.specs.Telegram.{Telegram}
 use Rattle.balise_rules.specs.Plan.{Group, telegram_at, country_of}
 use Rattle.balise_rules.specs.Plan as rules
-use Rattle.balise_rules.specs.Accepting.{Accepted, AcceptedAt, AcceptedIn}
 use Rattle.balise_rules.specs.Doing.{refusal, when}
 use Rattle.balise_rules.specs.Notes.{noted}
-use Rattle.balise_rules.specs.Edits.{DeletePacket, MovePacket, telegram_after}
-use Rattle.balise_rules.proofs.Tests.{split_keys, tag_test}
+use Rattle.balise_rules.specs.Edits.{DeletePacket, telegram_after}
+use Rattle.balise_rules.proofs.Tests.{tag_test}
 use Rattle.balise_rules.proofs.Cases.{unsome}
 use Rattle.balise_rules.proofs.Lists.{find-without, find-without_same}
-use Rattle.balise_rules.proofs.Moved.{find-move}
-use Rattle.balise_rules.proofs.Anchors.{find-move_same}
-use Rattle.balise_edit_laws.proofs.Refusing.{refused_exactly}
 use Rattle.balise_edit_laws.proofs.GroupsKept.{telegram_kept}
 use Rattle.balise_telegram.specs.declared.fault.TelegramFault.TheVariants as faults
 use Rattle.balise_telegram.specs.Faults.{refusal_of}
 use Rattle.balise_telegram.specs.Balise.{OrWants}
-use Rattle.balise_telegram.specs.Moving.{TakesOut, Shifts}
+use Rattle.balise_telegram.specs.Moving.{TakesOut}
 use Rattle.balise_telegram.specs.Packed.{links_at, links_found}
 use Rattle.balise_plan.specs.declared.links.LinkPlace.{LinkPlace}
 use Rattle.balise_plan.specs.Links.{AreFull}
@@ -36,9 +32,9 @@ use Rattle.balise_plan.specs.PacketLinks.{Forgets}
 use Rattle.balise_plan.specs.LinksIn.{LinksIn, NoLinks}
 use Rattle.balise_plan.specs.Within.{Within, Passed, no_telegram}
 use Rattle.balise_plan.specs.Held.{IsHeld}
-use Rattle.balise_plan.proofs.Replaced.{Replaces, held-kept, held-put}
+use Rattle.balise_plan.proofs.Replaced.{Replaces, held-put}
 use Rattle.balise_plan.proofs.Answered.{Outcome, Failed, Ill, well, ill, by-telegram, at-group}
-use Rattle.balise_plan.proofs.TelegramEdits.{delete-at, delete-other, delete-refused, delete-lacking, move-at, move-other, move-refused, move-lacking}
+use Rattle.balise_plan.proofs.TelegramEdits.{delete-at, delete-other, delete-refused, delete-lacking}
 use Rattle.balise_plan.proofs.LinksAll.{forgotten}
 
 module _ (plan : rules.Plan) (ids : map.BTreeMap Id Tag) (names : map.BTreeMap Id (set.BTreeSet LinkPlace)) (held_is : IsHeld ids names plan) (g : Tag) (t : ℕ) (p : Tag) (ys : Group) (here : find same_tag g plan ≡ Some ys) where
@@ -82,34 +78,3 @@ module _ (plan : rules.Plan) (ids : map.BTreeMap Id Tag) (names : map.BTreeMap I
                 (λ r d. ap (λ (y : Telegram). find same_tag r y.packets) l.call.2 ∙ find-without tag_test r p d l.old.packets) after full
                 (forgotten g t p plan held_is.sound l.old l.stands names after held_is.named a.0 ls all l.call.0 f));
           }
-
-module _ (plan : rules.Plan) (ids : map.BTreeMap Id Tag) (names : map.BTreeMap Id (set.BTreeSet LinkPlace)) (held_is : IsHeld ids names plan) (g : Tag) (t : ℕ) (p : Tag) (b : Option Tag) (ys zs : Group) (here : find same_tag g plan ≡ Some ys) where
-  pub unmoved : (e : Refusal) → Within eqb t no_telegram (Passed (OrWants (Shifts p b))) ys (Err e) zs → Failed (MovePacket g t p b) plan (set_value (same_tag g) plan zs) e
-  unmoved e w =
-      ill g t plan held_is.sound ys zs here (OrWants (Shifts p b)) e w
-      (λ l. record { why = inr (move-lacking g t plan ys here p b l.none ∙ ap Some (sym l.fault)); is = l.is })
-      (λ l. by l l.call)
-    where
-      by : (l : Ill g t (OrWants (Shifts p b)) plan e (set_value (same_tag g) plan zs)) → ((l.cause ≡ faults.OutOfMemory) × (l.next ≡ l.old)) ⊎ Shifts p b l.old (Err l.cause) l.next → Failed (MovePacket g t p b) plan (set_value (same_tag g) plan zs) e
-      by l (inl q) = record { why = inl (l.fault ∙ ap refusal_of q.0); is = l.is q.1 }
-      by l (inr q) = record { why = inr (move-refused g t plan ys here p b l.old l.stands ∙ q.0 ∙ ap Some (sym l.fault)); is = l.is q.1 }
-
-  pub moved : (a : Option Tag) → Within eqb t no_telegram (Passed (OrWants (Shifts p b))) ys (Ok a) zs → Outcome (MovePacket g t p b) ids names plan (set_value (same_tag g) plan zs)
-  moved a w =
-      let l = well g t plan held_is.sound ys zs here (OrWants (Shifts p b)) a w in
-      let own = (noted (MovePacket g t p b) plan).own in
-      let ok : refusal (MovePacket g t p b) plan ≡ None = move-refused g t plan ys here p b l.old l.stands ∙ l.call.0 in
-      let accepted : Accepted (MovePacket g t p b) plan = (refused_exactly (MovePacket g t p b) plan held_is.sound).0 ok in
-      let inside : AcceptedIn (MovePacket g t p b) l.old = subst (AcceptedAt (MovePacket g t p b)) l.stands accepted.1 in
-      let at : l.next ≡ telegram_after (0, MovePacket g t p b) own g t l.old = l.call.2 ∙ move-at own g t p b l.old in
-      let replaces : Replaces l.old l.next = λ i last m s. subst (rules.IsSoundTelegram i last m) (sym at) (telegram_kept (0, MovePacket g t p b) tt i own last m g t l.old s tt) in
-      let same : (r : Tag) → find same_tag r l.next.packets ≡ find same_tag r l.old.packets = λ r.
-      ap (λ (y : Telegram). find same_tag r y.packets) l.call.2
-      ∙ split_keys tag_test r p
-      (λ d q. ap (λ u. find same_tag u (move same_tag p b l.old.packets)) q ∙ find-move_same p b inside.0.0 l.old.packets inside.0.1 inside.1 inside.2 ∙ sym (ap (λ u. find same_tag u l.old.packets) q ∙ inside.0.1))
-      (λ d. find-move tag_test r p b d l.old.packets) in
-      record {
-        accepted = ok;
-        is = l.is ∙ by-telegram (telegram_after (0, MovePacket g t p b) own) g t plan held_is.sound l.old l.next l.stands at (move-other own g t p b);
-        held = subst (IsHeld ids names) (sym l.is) (held-kept plan held_is.sound g t l.old l.next l.stands replaces ids names held_is same);
-      }

@@ -20,9 +20,10 @@ use Rattle.balise_rules.specs.Edits.{SetVar, SetHead, DeletePacket, MovePacket, 
 use Rattle.balise_rules.proofs.Tests.{split_on, tag_test, nat_test}
 use Rattle.balise_rules.proofs.Each.{each-id, each-same}
 use Rattle.balise_telegram.specs.Setting.{head_refusal, with_field, with_head}
-use Rattle.balise_telegram.specs.Moving.{shift_refusal, insert_refusal}
+use Rattle.balise_telegram.specs.Moving.{shift_refusal, shift_before_refusal, same_place_before, insert_refusal}
 use Rattle.balise_plan.specs.declared.spot.Spot.{Spot}
-use Rattle.balise_plan.specs.Spots.{put_refusal, spot_stands}
+use Rattle.balise_plan.specs.declared.spot.Spot.TheVariants.{Before}
+use Rattle.balise_plan.specs.Spots.{put_refusal, spot_stands, shift_refusal as plan_shift_refusal}
 use Rattle.balise_plan.proofs.Placing.{set-packet}
 use Rattle.balise_plan.proofs.Walking.{parts}
 use Rattle.balise_plan.proofs.Walking as walking
@@ -90,6 +91,10 @@ abbrev puts : Spot Tag → Packet → Bool → Option Telegram → Option Refusa
 puts s x none o = first_of (when none NoSuchGroup ∷ when (is_none o) NoSuchTelegram ∷ when (in_telegram o (λ y. not (spot_stands s y.packets))) NoSuchPacket
     ∷ when (in_telegram o (λ y. nat_lt (room y) (width x))) NoRoom ∷ [])
 
+abbrev moves-before : Tag → Option Tag → Bool → Option Telegram → Option Refusal
+moves-before p n none o = first_of (when none NoSuchGroup ∷ when (is_none o) NoSuchTelegram ∷ when (is_none (option_and_then (λ (y : Telegram). find same_tag p y.packets) o)) NoSuchPacket
+    ∷ when (in_telegram o (λ y. not (stands same_tag n y.packets))) NoSuchPacket ∷ when (in_telegram o (same_place_before p n)) SamePlace ∷ [])
+
 module _ (g : Tag) (t : ℕ) (plan : Plan) (ys : Group) (group : find same_tag g plan ≡ Some ys) where
   by-telegram-of : (r : Bool → Option Telegram → Option Refusal) (o : Option Telegram) → telegram_at g t plan ≡ o → r (is_none (find same_tag g plan)) (telegram_at g t plan) ≡ r false o
   by-telegram-of r o e = ap (λ b. r b (telegram_at g t plan)) (ap is_none group) ∙ ap (r false) e
@@ -115,6 +120,12 @@ module _ (g : Tag) (t : ℕ) (plan : Plan) (ys : Group) (group : find same_tag g
 
   pub move-lacking : (p : Tag) (a : Option Tag) → telegram_at g t plan ≡ None → refusal (MovePacket g t p a) plan ≡ Some NoSuchTelegram
   move-lacking p a e = by-telegram-of (moves p a) None e
+
+  pub before-refused : (p : Tag) (n : Option Tag) (y : Telegram) → telegram_at g t plan ≡ Some y → plan_shift_refusal g t p (Before n) plan ≡ shift_before_refusal p n y
+  before-refused p n y e = by-telegram-of (moves-before p n) (Some y) e
+
+  pub before-lacking : (p : Tag) (n : Option Tag) → telegram_at g t plan ≡ None → plan_shift_refusal g t p (Before n) plan ≡ Some NoSuchTelegram
+  before-lacking p n e = by-telegram-of (moves-before p n) None e
 
   pub put-refused : (s : Spot Tag) (x : Packet) (y : Telegram) → telegram_at g t plan ≡ Some y → put_refusal g t s x plan ≡ insert_refusal (spot_stands s y.packets) x y
   put-refused s x y e = by-telegram-of (puts s x) (Some y) e

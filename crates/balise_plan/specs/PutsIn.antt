@@ -1,5 +1,5 @@
--- A packet put into one telegram: what it answers and leaves.
-use Rattle.std.specs.Prelude.{◌≡◌, Result, Ok, Err}
+-- A packet put into one telegram, or moved there: what it answers and leaves.
+use Rattle.std.specs.Prelude.{◌≡◌, Option, Result, Ok, Err}
 use Rattle.balise_rules.specs.declared.tag.Tag.{Tag}
 use Rattle.balise_rules.specs.declared.refusal.Refusal.{Refusal}
 use Rattle.balise_rules.specs.declared.refusal.Refusal.TheVariants.{NoSuchTelegram}
@@ -8,7 +8,9 @@ use Rattle.balise_rules.specs.Telegram.{Telegram}
 use Rattle.balise_telegram.specs.declared.fault.TelegramFault.{TelegramFault}
 use Rattle.balise_telegram.specs.Faults.{refusal_of}
 use Rattle.balise_telegram.specs.Balise.{InsertsOrWants}
+use Rattle.balise_telegram.specs.Moving.{Shifts, ShiftsBefore}
 use Rattle.balise_plan.specs.declared.spot.Spot.{Spot}
+use Rattle.balise_plan.specs.declared.spot.Spot.TheVariants.{After, Before}
 use Rattle.balise_plan.specs.Spots.{put_in, spot_stands}
 
 abbrev pub no_telegram : Packet → Result Unit (Refusal × Packet)
@@ -24,3 +26,8 @@ pub record PutsIn (s : Spot Tag) (p : Tag) (x : Packet) (old : Telegram) (result
   pub answer : Result Unit (TelegramFault × Packet)
   pub call : InsertsOrWants (spot_stands s old.packets) x (put_in s (p, x) old.packets) old answer new
   pub is : result ≡ passed answer
+
+-- a packet moved to a spot of its telegram
+abbrev pub ShiftsIn : Spot Tag → Tag → Telegram → Result (Option Tag) TelegramFault → Telegram → Type 0
+ShiftsIn (After a) p = Shifts p a
+ShiftsIn (Before n) p = ShiftsBefore p n

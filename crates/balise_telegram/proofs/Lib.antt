@@ -10,6 +10,7 @@ pub mod HeaderForms
 pub mod Passing
 pub mod Placing
 pub mod Shifting
+pub mod ShiftingBefore
 pub mod Changing
 pub mod PackedPlaces
 pub mod PackedChanges

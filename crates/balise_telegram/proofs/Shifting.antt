@@ -29,7 +29,7 @@ tag_at ps j = option_map (λ (q : Tag × Packet). q.0) (slice_get ps j)
 
 -- ---- which packet stands at a place
 
-tag_here : (tag : Tag) (ps : Packets) (i : ℕ) (x : Tag × Packet) → StandsAt tag ps i x → same_spot same_tag (tag_at ps i) (Some tag) ≡ true
+pub tag_here : (tag : Tag) (ps : Packets) (i : ℕ) (x : Tag × Packet) → StandsAt tag ps i x → same_spot same_tag (tag_at ps i) (Some tag) ≡ true
 tag_here tag [] i x s = absurd (omega (arith, s.within))
 tag_here tag (y ∷ ys) zero x s = flip_yes tag_test tag y.0 s.tagged
 tag_here tag (y ∷ ys) (suc i) x s = tag_here tag ys i x (stands_behind tag y ys i x s)
@@ -41,7 +41,7 @@ no_tag_here tag (y ∷ ys) (suc j) n =
     split_on (same_tag tag y.0) (λ e. absurd (let h = simp e at n in cc))
     (λ e. let h : find same_tag tag ys ≡ None = simp e at n in no_tag_here tag ys j h)
 
-tag_elsewhere : (tag : Tag) (ps : Packets) (i j : ℕ) (x : Tag × Packet) → Distinct same_tag ps → StandsAt tag ps i x → (j ≡ i → ⊥) → same_spot same_tag (tag_at ps j) (Some tag) ≡ false
+pub tag_elsewhere : (tag : Tag) (ps : Packets) (i j : ℕ) (x : Tag × Packet) → Distinct same_tag ps → StandsAt tag ps i x → (j ≡ i → ⊥) → same_spot same_tag (tag_at ps j) (Some tag) ≡ false
 tag_elsewhere tag [] i j x u s n = absurd (omega (arith, s.within))
 tag_elsewhere tag (y ∷ ys) zero zero x u s n = absurd (n refl)
 tag_elsewhere tag (y ∷ ys) zero (suc j) x u s n =
@@ -82,7 +82,7 @@ near : (a : Option Tag) (ps : Packets) (k : ℕ) → Anchored ps k a → next sa
 near None ps k h = first_got ps ∙ ap (tag_at ps) (sym h)
 near (Some b) ps k h = neighbour b ps h.at h.item h.stands ∙ ap (tag_at ps) (sym h.is)
 
-one_tag : (b tag : Tag) (o : Option Tag) → same_spot same_tag o (Some b) ≡ true → same_spot same_tag o (Some tag) ≡ true → same_tag b tag ≡ true
+pub one_tag : (b tag : Tag) (o : Option Tag) → same_spot same_tag o (Some b) ≡ true → same_spot same_tag o (Some tag) ≡ true → same_tag b tag ≡ true
 one_tag b tag None e d = absurd (true≢false (sym e))
 one_tag b tag (Some t) e d = ap (λ (r : Tag). same_tag r tag) (sym (tag_test.one t b e)) ∙ d
 
@@ -104,19 +104,19 @@ another tag (Some b) ps i k x u s h n =
     )))
     (λ e. e)
 
-either : (p q : Bool) → (p ≡ true) ⊎ (q ≡ true) → (p || q) ≡ true
+pub either : (p q : Bool) → (p ≡ true) ⊎ (q ≡ true) → (p || q) ≡ true
 either true q h = refl
 either false true h = refl
 either false false (inl h) = h
 either false false (inr h) = h
 
-neither : (p q : Bool) → p ≡ false → q ≡ false → (p || q) ≡ false
+pub neither : (p q : Bool) → p ≡ false → q ≡ false → (p || q) ≡ false
 neither p q h g = rw (h, g) refl
 
 -- ---- refusals
 
 -- the table of refusals, from what it tests
-refusing : Option Packet → Bool → Bool → Option Refusal
+unfoldable pub refusing : Option Packet → Bool → Bool → Option Refusal
 refusing o there same = first_of (when (is_none o) NoSuchPacket ∷ when (not there) NoSuchPacket ∷ when same SamePlace ∷ [])
 
 refuses : (tag : Tag) (a : Option Tag) (y : Telegram) → shift_refusal tag a y ≡ refusing (find same_tag tag y.packets) (stands same_tag a y.packets) (same_place tag a y)
@@ -132,9 +132,17 @@ pub no_packet : (tag : Tag) (a : Option Tag) (y : Telegram) → None ≡ positio
 unfolding refusing
 no_packet tag a y e = refuses tag a y ∙ ap (λ (o : Option Packet). refusing o (stands same_tag a y.packets) (same_place tag a y)) (not_found tag y.packets e)
 
-pub no_anchor : (tag : Tag) (a : Option Tag) (y : Telegram) (i : ℕ) → Some i ≡ position (is_tagged tag) y.packets → false ≡ stands same_tag a y.packets → shift_refusal tag a y ≡ Some NoSuchPacket
+lacks : (b : Tag) (ps : Packets) (o : Option ℕ) → o ≡ position (is_tagged b) ps → None ≡ option_map (λ (i : ℕ). i + 1) o → stands same_tag (Some b) ps ≡ false
+lacks b ps None e p = ap is_some (not_found b ps e)
+lacks b ps (Some i) e p = absurd cc
+
+absent : (a : Option Tag) (ps : Packets) → None ≡ place_after a ps → stands same_tag a ps ≡ false
+absent None ps e = absurd cc
+absent (Some b) ps e = lacks b ps (position (is_tagged b) ps) refl e
+
+pub no_anchor : (tag : Tag) (a : Option Tag) (y : Telegram) (i : ℕ) → Some i ≡ position (is_tagged tag) y.packets → None ≡ place_after a y.packets → shift_refusal tag a y ≡ Some NoSuchPacket
 unfolding refusing
-no_anchor tag a y i e n = let q = looked tag y.packets i e in known tag a y q.0.1 false (same_place tag a y) (found tag y.packets i q.0 q.1) (sym n) refl
+no_anchor tag a y i e p = let q = looked tag y.packets i e in known tag a y q.0.1 false (same_place tag a y) (found tag y.packets i q.0 q.1) (absent a y.packets p) refl
 
 pub same_spots : (tag : Tag) (a : Option Tag) (y : Telegram) (i k : ℕ) → Some i ≡ position (is_tagged tag) y.packets → Some k ≡ place_after a y.packets → (k ≡ i) ⊎ (k ≡ suc i) → shift_refusal tag a y ≡ Some SamePlace
 unfolding refusing
@@ -158,7 +166,7 @@ accepted tag a y i k x u s h n m =
 
 -- ---- the packets moved
 
-below_gone : (b : Tag) (ps : Packets) (i j : ℕ) (w : Tag × Packet) → i < length ps → j < i → StandsAt b ps j w → StandsAt b (remove ps i) j w
+pub below_gone : (b : Tag) (ps : Packets) (i j : ℕ) (w : Tag × Packet) → i < length ps → j < i → StandsAt b ps j w → StandsAt b (remove ps i) j w
 below_gone b ps i j w l h s =
     let size = length-remove ps i l in record {
       within = omega (arith, size, h, l);
@@ -167,7 +175,7 @@ below_gone b ps i j w l h s =
       first = λ m g. ap (λ (q : Tag × Packet). same_tag b q.0) (get_or-remove_below ps i w m (omega (arith, g, h)) l) ∙ s.first m g;
     }
 
-above_gone : (b : Tag) (ps : Packets) (i j : ℕ) (w : Tag × Packet) → i < length ps → i ≤ j → StandsAt b ps (suc j) w → StandsAt b (remove ps i) j w
+pub above_gone : (b : Tag) (ps : Packets) (i j : ℕ) (w : Tag × Packet) → i < length ps → i ≤ j → StandsAt b ps (suc j) w → StandsAt b (remove ps i) j w
 above_gone b ps i j w l h s =
     let size = length-remove ps i l in
     let got : get_or (remove ps i) j w ≡ get_or ps (suc j) w = get_or-remove_above ps i w j h l ∙ ap (λ (m : ℕ). get_or ps m w) (add-one j) in
@@ -200,7 +208,7 @@ put_once (Some b) ps i k m z l h n (inr o) =
     ap (λ (j : ℕ). insert (remove ps i) j z) (sym o.1 ∙ d)
     ∙ put_after_place b (remove ps i) h.at h.item z (below_gone b ps i h.at h.item l (omega (arith, d, p)) h.stands)
 
-own_tag : (tag : Tag) (ps : Packets) (i : ℕ) (x : Tag × Packet) → StandsAt tag ps i x → tag ≡ x.0
+pub own_tag : (tag : Tag) (ps : Packets) (i : ℕ) (x : Tag × Packet) → StandsAt tag ps i x → tag ≡ x.0
 own_tag tag ps i x s = tag_test.one tag x.0 (ap (λ (q : Tag × Packet). same_tag tag q.0) s.is ∙ s.tagged)
 
 moved_is : (tag : Tag) (a : Option Tag) (ps : Packets) (i k m : ℕ) (x : Tag × Packet) → Distinct same_tag ps → StandsAt tag ps i x → Anchored ps k a → (k ≡ suc i → ⊥) → Once i k m → insert (remove ps i) m x ≡ move same_tag tag a ps

@@ -6,7 +6,7 @@ ghost use Rattle.std.specs.Prelude.{eqb, ◌≡◌, ◌<◌, ◌^◌, IfOk, IfEr
 ghost use Rattle.balise_plan.specs.LinksIn.{LinksIn, NoLinks};
 ghost use Rattle.balise_telegram.specs.Setting.{SetsField, SetsHead};
 ghost use Rattle.balise_telegram.specs.Balise.{OrWants};
-ghost use Rattle.balise_telegram.specs.Moving.{TakesOut, Shifts};
+ghost use Rattle.balise_telegram.specs.Moving.{TakesOut};
 
 use crate::change::Change;
 use crate::group::{Group, find};
@@ -82,26 +82,6 @@ impl Group {
             Err(fault) => return Err(fault.refusal()),
         };
         Ok(taken)
-    }
-
-    /// Moves a packet within one telegram.
-    pub fn shift_packet(
-        &mut self,
-        t: u32,
-        p: Tag,
-        anchor: Option<Tag>,
-    ) -> Result<Option<Tag>, Refusal>
-        ensures { Within eqb t no_telegram (Passed (OrWants (Shifts p anchor))) self.old result self.new }
-    {
-        let Some(i) = find(&self.telegrams, t) else {
-            return Err(Refusal::NoSuchTelegram);
-        };
-        let telegram = &mut self.telegrams[i].1;
-        let next = match telegram.shift_after(p, anchor) {
-            Ok(next) => next,
-            Err(fault) => return Err(fault.refusal()),
-        };
-        Ok(next)
     }
 
     /// Changes one element. Takes no memory.

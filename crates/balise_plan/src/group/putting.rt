@@ -1,18 +1,19 @@
-//! A packet put into one telegram of a group.
+//! A packet put into one telegram of a group, or moved in it.
 
 ghost use Rattle.std.specs.Prelude.{◌≡◌, None, Some, eqb, option_map};
 ghost use Rattle.balise_rules.specs.Plan.{country_of};
 ghost use Rattle.balise_rules.specs.Tagged.{find as under};
 ghost use Rattle.balise_rules.specs.Tags.{same_tag};
 ghost use Rattle.balise_rules.specs.Telegram.{Telegram};
-ghost use Rattle.balise_plan.specs.PutsIn.{PutsIn, no_telegram};
-ghost use Rattle.balise_plan.specs.Within.{Within};
+ghost use Rattle.balise_plan.specs.PutsIn.{PutsIn, ShiftsIn, no_telegram};
+ghost use Rattle.balise_plan.specs.Within.{Within, Passed, no_telegram as lacking};
+ghost use Rattle.balise_telegram.specs.Balise.{OrWants};
 
 use crate::group::{Group, find};
 use crate::spot::Spot;
 use balise_layout::Packet;
 use balise_rules::{Refusal, Tag, Var};
-use balise_telegram::Balise;
+use balise_telegram::{Balise, TelegramFault};
 
 impl Group {
     /// NID_C of one telegram, of 10 bits.
@@ -43,6 +44,21 @@ impl Group {
         let telegram = &mut self.telegrams[i].1;
         put(telegram, spot, p, packet)
     }
+
+    /// Moves a packet within one telegram.
+    pub fn shift_packet(&mut self, t: u32, p: Tag, spot: Spot<Tag>) -> Result<Option<Tag>, Refusal>
+        ensures { Within eqb t lacking (Passed (OrWants (ShiftsIn spot p))) self.old result self.new }
+    {
+        let Some(i) = find(&self.telegrams, t) else {
+            return Err(Refusal::NoSuchTelegram);
+        };
+        let telegram = &mut self.telegrams[i].1;
+        let next = match shift(telegram, p, spot) {
+            Ok(next) => next,
+            Err(fault) => return Err(fault.refusal()),
+        };
+        Ok(next)
+    }
 }
 
 fn put(
@@ -61,5 +77,14 @@ fn put(
     match answer {
         Ok(()) => Ok(()),
         Err((fault, packet)) => Err((fault.refusal(), packet)),
+    }
+}
+
+fn shift(telegram: &mut Balise, p: Tag, spot: Spot<Tag>) -> Result<Option<Tag>, TelegramFault>
+    ensures { OrWants (ShiftsIn spot p) telegram.old result telegram.new }
+{
+    match spot {
+        Spot::After(anchor) => telegram.shift_after(p, anchor),
+        Spot::Before(next) => telegram.shift_before(p, next),
     }
 }

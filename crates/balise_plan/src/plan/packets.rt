@@ -9,7 +9,7 @@ ghost use Rattle.balise_rules.specs.Tagged.{find};
 ghost use Rattle.balise_rules.specs.Tags.{same_tag};
 ghost use Rattle.balise_rules.specs.Telegram.{Telegram, version_of};
 ghost use Rattle.balise_plan.specs.Held.{Does};
-ghost use Rattle.balise_plan.specs.Spots.{PutsPacket};
+ghost use Rattle.balise_plan.specs.Spots.{PutsPacket, ShiftsPacket};
 
 use crate::links_of::{add_links, count, forget_links};
 use crate::plan::Plan;
@@ -83,26 +83,25 @@ impl Plan {
         Ok(taken)
     }
 
-    /// Moves a packet within its telegram directly after the anchor, or to the first place, and answers the tag of its
-    /// old next neighbour.
+    /// Moves a packet within its telegram to a spot, and answers the tag of its old next neighbour.
     ///
     /// Refused in this order, and then all stays: `NoSuchGroup`, `NoSuchTelegram`, `NoSuchPacket` where it or the
-    /// anchor doesn't stand, `SamePlace` where it stands there. `OutOfMemory` may stand in place of any answer.
+    /// spot's neighbour doesn't stand, `SamePlace` where it stands there. `OutOfMemory` may stand in place of any answer.
     pub fn shift_packet(
         &mut self,
         g: Tag,
         t: u32,
         p: Tag,
-        anchor: Option<Tag>,
+        spot: Spot<Tag>,
     ) -> Result<Option<Tag>, Refusal>
         requires count { self.old.changes < 2 ^ 63 }
-        ensures does { Does (MovePacket g t p anchor) self.old result self.new }
-        ensures next { IfOk result (λ n. (noted (MovePacket g t p anchor) self.old.groups).before ≡ n) }
+        ensures shifts { ShiftsPacket g t p spot self.old result self.new }
+        ensures next { IfOk result (λ n. (noted (MovePacket g t p None) self.old.groups).before ≡ n) }
     {
         let Some(group) = self.groups.get_mut(&g) else {
             return Err(Refusal::NoSuchGroup);
         };
-        let next = match group.shift_packet(t, p, anchor) {
+        let next = match group.shift_packet(t, p, spot) {
             Ok(next) => next,
             Err(fault) => return Err(fault),
         };

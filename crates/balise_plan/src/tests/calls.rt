@@ -1,7 +1,7 @@
 //! Each call on a plan once, and what it prints then.
 
 use crate::tests::{LINKING, RESTRICTIONS, read};
-use crate::{Address, GroupTag, Id, PacketTag, Place, Plan, Refusal, Var};
+use crate::{Address, GroupTag, Id, PacketTag, Place, Plan, Refusal, Spot, Var};
 use std::alloc::Global;
 use std::process::Abort;
 
@@ -100,8 +100,19 @@ fn moves_and_takes_packets(rt: HostRuntime) {
     let mut plan = both(&rt, alloc);
     let first = GroupTag::Base(0);
     assert!(rt; plan.changes() < 1000);
-    let next = plan.shift_packet(first, 0, PacketTag::Base(1), None);
+    let next = plan.shift_packet(first, 0, PacketTag::Base(1), Spot::After(None));
     assert!(rt; next == Ok(None));
+    assert!(rt; plan.changes() < 1000);
+    let back = plan.shift_packet(first, 0, PacketTag::Base(1), Spot::Before(None));
+    assert!(rt; back == Ok(Some(PacketTag::Base(0))));
+    assert!(rt; plan.changes() < 1000);
+    let again = plan.shift_packet(
+        first,
+        0,
+        PacketTag::Base(1),
+        Spot::Before(Some(PacketTag::Base(0))),
+    );
+    assert!(rt; again == Ok(None));
     assert!(rt; plan.changes() < 1000);
     match plan.take_packet(first, 0, PacketTag::Base(1)) {
         Ok((packet, next)) => {

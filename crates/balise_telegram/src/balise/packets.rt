@@ -4,7 +4,7 @@ ghost use Rattle.std.specs.Prelude.{◌≡◌, None};
 ghost use Rattle.balise_rules.specs.Tagged.{find, put, put_before, stands};
 ghost use Rattle.balise_rules.specs.Tags.{same_tag};
 ghost use Rattle.balise_telegram.specs.Balise.{InsertsOrWants, OrWants};
-ghost use Rattle.balise_telegram.specs.Moving.{Shifts, TakesOut};
+ghost use Rattle.balise_telegram.specs.Moving.{Shifts, ShiftsBefore, TakesOut};
 
 use crate::PacketTag;
 use crate::balise::{Balise, Held, opened};
@@ -102,6 +102,29 @@ impl Balise {
                 let next = telegram.shift_after(tag, anchor)?;
                 self.held = Held::Open(telegram);
                 Ok(next)
+            }
+        }
+    }
+
+    /// Moves the packet with this tag directly before the neighbour, or to the last place, and answers the tag of its old next neighbour.
+    ///
+    /// Refused in this order, and then all stays: `NoSuchPacket` where it or the neighbour doesn't stand, `SamePlace`
+    /// where the neighbour is itself or its right neighbour, or there is none and it is the last. `OutOfMemory` may
+    /// stand in place of any answer.
+    pub fn shift_before(
+        &mut self,
+        tag: PacketTag,
+        next: Option<PacketTag>,
+    ) -> Result<Option<PacketTag>, TelegramFault>
+        ensures { OrWants (ShiftsBefore tag next) self.old result self.new }
+    {
+        match &mut self.held {
+            Held::Open(telegram) => telegram.shift_before(tag, next),
+            Held::Packed(packed) => {
+                let mut telegram = opened(packed)?;
+                let was = telegram.shift_before(tag, next)?;
+                self.held = Held::Open(telegram);
+                Ok(was)
             }
         }
     }

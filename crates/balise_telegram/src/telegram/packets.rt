@@ -1,11 +1,11 @@
 //! Packets taken out and put in. Header and padding stay.
 
-ghost use Rattle.std.specs.Prelude.{◌≡◌, ◌≤◌, IfSome, is_some, length, None, option_map, slice_get};
+ghost use Rattle.std.specs.Prelude.{◌≡◌, ◌≤◌, IfSome, is_some, length, Option, None, option_map, slice_get};
 ghost use Rattle.balise_rules.specs.Packet.{Packet};
 ghost use Rattle.balise_rules.specs.Tagged.{find, put, put_before, stands};
 ghost use Rattle.balise_rules.specs.Tags.{same_tag};
 ghost use Rattle.balise_rules.specs.declared.tag.Tag.{Tag};
-ghost use Rattle.balise_telegram.specs.Moving.{place_after, inserted, Inserts, Shifts, TakesOut};
+ghost use Rattle.balise_telegram.specs.Moving.{place_after, place_before, inserted, Inserts, Shifts, ShiftsBefore, TakesOut};
 
 use crate::PacketTag;
 use crate::fault::TelegramFault;
@@ -72,10 +72,39 @@ impl Telegram {
     ) -> Result<Option<PacketTag>, TelegramFault>
         ensures { Shifts tag anchor self.old result self.new }
     {
+        let to = self.place_after(anchor);
+        self.shift_to(tag, to)
+    }
+
+    /// Moves the packet with this tag directly before the neighbour, or to the last place, and answers the tag of its old next neighbour. Takes no memory.
+    ///
+    /// Refused in this order, and then all stays: `NoSuchPacket` where it or the neighbour doesn't stand, `SamePlace`
+    /// where the neighbour is itself or its right neighbour, or there is none and it is the last.
+    pub fn shift_before(
+        &mut self,
+        tag: PacketTag,
+        next: Option<PacketTag>,
+    ) -> Result<Option<PacketTag>, TelegramFault>
+        ensures { ShiftsBefore tag next self.old result self.new }
+    {
+        let to = self.place_before(next);
+        self.shift_to(tag, to)
+    }
+
+    // Moves a packet to a place, where there is one: the place is counted before it goes.
+    fn shift_to(
+        &mut self,
+        tag: PacketTag,
+        place: Option<usize>,
+    ) -> Result<Option<PacketTag>, TelegramFault>
+        requires within { IfSome place (λ i. i ≤ length self.old.packets) }
+        ensures after { (a : Option Tag) → place ≡ place_after a self.old.packets → Shifts tag a self.old result self.new }
+        ensures before { (n : Option Tag) → place ≡ place_before n self.old.packets → ShiftsBefore tag n self.old result self.new }
+    {
         let Some(from) = self.place_of(tag) else {
             return Err(TelegramFault::NoSuchPacket);
         };
-        let Some(to) = self.place_after(anchor) else {
+        let Some(to) = place else {
             return Err(TelegramFault::NoSuchPacket);
         };
         if to == from || to == from + 1 {
@@ -130,6 +159,7 @@ impl Telegram {
 
     // The place directly before the neighbour, or the last.
     fn place_before(&self, next: Option<PacketTag>) -> Option<usize>
+        ensures place { result ≡ place_before next self.now.packets }
         ensures there { is_some result ≡ stands same_tag next self.now.packets }
         ensures within { IfSome result (λ i. i ≤ length self.now.packets) }
         ensures put { (z : Tag × Packet) → inserted result z self.now.packets ≡ put_before same_tag next z self.now.packets }

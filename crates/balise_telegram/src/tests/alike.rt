@@ -190,6 +190,9 @@ fn tells_and_changes_the_same_once_open(rt: HostRuntime) {
         let moved = balise.shift_after(first, Some(second));
         assert!(rt; moved == telegram.shift_after(first, Some(second)));
         check_alike(&rt, &balise, &telegram);
+        let back = balise.shift_before(first, Some(second));
+        assert!(rt; back == telegram.shift_before(first, Some(second)));
+        check_alike(&rt, &balise, &telegram);
         check_changes(&rt, &mut balise, &mut telegram);
         let (_, next) = balise.take(second).expect(&rt, "a packet");
         assert!(rt; next == telegram.take(second).expect(&rt, "a packet").1);

@@ -101,6 +101,10 @@ fn moves_among_33_packets(rt: HostRuntime) {
     let before = PacketTag::Base(31);
     assert!(rt; telegram.shift_after(last, Some(before)) == Ok(Some(first)));
     assert!(rt; shows(&rt, alloc, &telegram, FULL));
+    assert!(rt; telegram.shift_before(last, Some(first)) == Ok(None));
+    assert!(rt; shows(&rt, alloc, &telegram, LAST_FIRST));
+    assert!(rt; telegram.shift_before(last, None) == Ok(Some(first)));
+    assert!(rt; shows(&rt, alloc, &telegram, FULL));
 }
 
 #[test]

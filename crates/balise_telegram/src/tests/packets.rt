@@ -180,6 +180,41 @@ fn moves_a_packet(rt: HostRuntime) {
 }
 
 #[test]
+fn moves_a_packet_before_a_neighbour(rt: HostRuntime) {
+    let alloc = rt.alloc();
+    let mut telegram = telegram(&rt, alloc, TWO_PACKETS);
+    let (first, second) = (PacketTag::Base(0), PacketTag::Base(1));
+    assert!(rt; telegram.shift_before(second, Some(first)) == Ok(None));
+    assert!(rt; shows(&rt, alloc, &telegram, EXCHANGED));
+    assert!(rt; telegram.shift_before(second, None) == Ok(Some(first)));
+    assert!(rt; shows(&rt, alloc, &telegram, TWO_PACKETS));
+    let third = PacketTag::Fresh(1);
+    let nine = packet(&rt, alloc, NINE);
+    assert!(rt; put_before(&rt, &mut telegram, None, third, nine).is_ok());
+    assert!(rt; telegram.shift_before(first, Some(third)) == Ok(Some(second)));
+    assert!(rt; has(&telegram, &[7, 5, 9]));
+    assert!(rt; telegram.shift_before(third, Some(first)) == Ok(None));
+    assert!(rt; has(&telegram, &[7, 9, 5]));
+}
+
+#[test]
+fn says_why_a_packet_is_not_moved_before(rt: HostRuntime) {
+    let alloc = rt.alloc();
+    let mut telegram = telegram(&rt, alloc, TWO_PACKETS);
+    let (first, second, lacking) = (PacketTag::Base(0), PacketTag::Base(1), PacketTag::Base(2));
+    for (tag, next, fault) in [
+        (lacking, Some(lacking), TelegramFault::NoSuchPacket),
+        (first, Some(lacking), TelegramFault::NoSuchPacket),
+        (second, None, TelegramFault::SamePlace),
+        (first, Some(second), TelegramFault::SamePlace),
+        (second, Some(second), TelegramFault::SamePlace),
+    ] {
+        assert!(rt; telegram.shift_before(tag, next) == Err(fault));
+        assert!(rt; shows(&rt, alloc, &telegram, TWO_PACKETS));
+    }
+}
+
+#[test]
 fn says_why_a_packet_is_not_moved(rt: HostRuntime) {
     let alloc = rt.alloc();
     let mut telegram = telegram(&rt, alloc, TWO_PACKETS);

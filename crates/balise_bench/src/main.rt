@@ -3,6 +3,7 @@
 
 mod digits;
 mod packets;
+mod plans;
 mod telegrams;
 
 use anyhow::{Result, bail};
@@ -12,11 +13,12 @@ fn main(rt: HostRuntime) -> Result<()> {
     let mut words = env::args(&rt)?;
     let _program = words.next();
     let Some(mode) = words.next() else {
-        bail!("which layer? digits, packets, telegrams");
+        bail!("which layer? digits, packets, plans, telegrams");
     };
     match mode.as_str() {
         "digits" => digits::run(&rt),
         "packets" => packets::run(&rt),
+        "plans" => plans::run(&rt),
         "telegrams" => match words.next() {
             Some(form) => telegrams::run(&rt, form.as_str()),
             None => bail!("which form? packed, open"),

@@ -25,3 +25,8 @@ pub mod Witnesses
 pub mod DoneExactly
 pub mod ContentAside
 pub mod LinesReady
+pub mod NextApart
+pub mod PacketsReady
+pub mod FieldsReady
+pub mod GroupsReady
+pub mod GoingBack

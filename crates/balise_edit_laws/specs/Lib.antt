@@ -1,4 +1,5 @@
 pub mod TakenBack
+pub mod GoesBack
 pub mod Refused
 pub mod Kept
 pub mod ReadSound

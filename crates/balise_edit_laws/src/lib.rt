@@ -6,6 +6,7 @@ ghost use Rattle.balise_edit_laws.specs.Along.{KeptAlong, TakenBackAlong};
 ghost use Rattle.balise_edit_laws.specs.Commands.{CommandsReady};
 ghost use Rattle.balise_edit_laws.specs.Content.{ContentAside};
 ghost use Rattle.balise_edit_laws.specs.Done.{DoneAlong, DoneExactly};
+ghost use Rattle.balise_edit_laws.specs.GoesBack.{GoesBack};
 ghost use Rattle.balise_edit_laws.specs.Kept.{Kept, SpeltKept};
 ghost use Rattle.balise_edit_laws.specs.Lines.{LinesReady};
 ghost use Rattle.balise_edit_laws.specs.ReadSound.{ReadSound};
@@ -16,6 +17,11 @@ ghost use Rattle.balise_edit_laws.specs.Witness.{Witnessed};
 /// Each of the nine edits, taken back, leaves the plan as it was, and done again makes what it made.
 pub fn taken_back()
     ensures { TakenBack }
+{}
+
+/// Taking back asks nothing that doesn't hold of the plan that the edit made, so it is never refused.
+pub fn goes_back()
+    ensures { GoesBack }
 {}
 
 /// An accepted edit leaves a sound plan sound, and a serial that tags nothing still tags nothing.

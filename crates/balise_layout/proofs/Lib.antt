@@ -9,4 +9,6 @@ pub mod Counts
 pub mod Searches
 pub mod Elements
 pub mod Refused
+pub mod Nameless
+pub mod GoingOver
 pub mod Values

@@ -1,6 +1,8 @@
 -- The layout of a packet: that of one number, or of the packets that are kept bit for bit, which has no number of its own.
-use Rattle.std.specs.Prelude.{◌≡◌, ◌↔◌, ℕ, ◌==◌, ◌||◌, Bool, not, List, Option, Some, None, is_some, if◌then◌else◌}
-use Rattle.balise_rules.specs.Forms.{Form, done, never, Fields, Matches}
+use Rattle.std.specs.Prelude.{◌≡◌, ◌↔◌, ℕ, ◌==◌, ◌||◌, Bool, false, not, List, Option, Some, None, is_some, if◌then◌else◌}
+use Rattle.balise_rules.specs.declared.variable.Var.TheVariants.{NidBg}
+use Rattle.balise_rules.specs.Tags.{same_var}
+use Rattle.balise_rules.specs.Forms.{Form, done, shut, never, valued, Fields, Matches}
 use Rattle.balise_rules.specs.Packets.{is_known, known_body, body}
 
 -- what follows the first three fields
@@ -24,3 +26,10 @@ layout_in version n = if is_known version n then Some n else None
 -- The version spells what has this layout exactly where it knows the number or, of a packet kept bit for bit, where it doesn't.
 abbrev pub SpeltWhere : Option ℕ → Type 0
 SpeltWhere own = (version n : ℕ) (fs : Fields) (rest : List Bool) → Matches (next_of own n) fs rest → (Matches (body version n) fs rest ↔ (is_known version n ≡ is_some own))
+
+-- no field of the form is the number of a group
+abbrev pub Nameless : Form → Type 0
+Nameless done = Unit {0}
+Nameless shut = Unit {0}
+Nameless never = Unit {0}
+Nameless (valued v next) = (same_var NidBg v ≡ false) × ((n : ℕ) → Nameless (next n))

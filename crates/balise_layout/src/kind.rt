@@ -1,10 +1,10 @@
 //! The kinds of packets: the known ones, and those that are kept bit for bit.
 
-ghost use Rattle.std.specs.Prelude.{◌≡◌, is_some};
+ghost use Rattle.std.specs.Prelude.{◌≡◌, false, is_some};
 ghost use Rattle.balise_rules.specs.Packets.{is_known};
 ghost use Rattle.balise_layout.specs.Reading.{Ends};
 ghost use Rattle.balise_layout.specs.Held.{headed};
-ghost use Rattle.balise_layout.specs.Layouts.{layout_in, next_of};
+ghost use Rattle.balise_layout.specs.Layouts.{form_of, layout_in, next_of, Nameless};
 ghost use Rattle.balise_layout.specs.Kinds.{number_of};
 
 use crate::fault::LayoutFault;
@@ -61,6 +61,14 @@ impl Kind {
         ensures { result ≡ is_some (number_of self) }
     {
         !matches!(self, Kind::Opaque)
+    }
+
+    /// Whether its packets have elements, which name identities: those of packets 5 and 136 do.
+    #[tactic(auto, using(crate::proofs::Nameless::nameless_21, crate::proofs::Nameless::nameless_27, crate::proofs::Nameless::nameless_41, crate::proofs::Nameless::nameless_65, crate::proofs::Nameless::nameless_66, crate::proofs::Nameless::nameless_kept))]
+    pub(crate) fn has_elements(self) -> bool
+        ensures { result ≡ false → Nameless (form_of (number_of self)) }
+    {
+        matches!(self, Kind::Linking | Kind::InfillLocation)
     }
 
     /// Goes over a whole packet of this kind.

@@ -13,7 +13,7 @@ ghost use Rattle.balise_layout.specs.Collected.{all_keyed};
 ghost use Rattle.balise_layout.specs.First.{field_place, links_read, LiesAt, ReadsFirst, StandsAt};
 ghost use Rattle.balise_layout.specs.Held.{before, with_field, Holds};
 ghost use Rattle.balise_layout.specs.Layouts.{next_of};
-ghost use Rattle.balise_layout.specs.Kinds.{number_of, Finds};
+ghost use Rattle.balise_layout.specs.Kinds.{number_of, Begins, Finds, GoesOver};
 ghost use Rattle.balise_layout.specs.Setting.{flipped, renamed, turned, Sets};
 
 use crate::bounds::bounds;
@@ -74,15 +74,13 @@ impl Packet {
     pub fn place_in(bits: &Bits, at: usize, version: u32, var: Var, k: u32) -> Option<usize>
         ensures { result ≡ field_place at (var, k) (read_first version (drop at bits.now)) }
     {
-        let Ok((kind, end)) = Packet::find(bits, at, version) else {
+        let Ok((kind, end)) = Packet::begin(bits, at, version) else {
             return None;
         };
-        let mut walker = Walker::new(Search::new(var, k), bits, at, end);
-        match kind.walk(&mut walker) {
-            Ok(()) => {}
-            Err(_) => return None,
-        }
-        match walker.into_visitor().found {
+        let Ok(search) = Packet::go_over(kind, bits, at, end, Search::new(var, k)) else {
+            return None;
+        };
+        match search.found {
             Some(left) => Some(end - left),
             None => None,
         }
@@ -100,12 +98,17 @@ impl Packet {
         ensures fault { IsOkUnless result LayoutFault.OutOfMemory }
     {
         let alloc = bits.allocator();
-        let Ok((kind, end)) = Packet::find(bits, at, version) else {
+        let Ok((kind, end)) = Packet::begin(bits, at, version) else {
             return Ok(Vec::new(alloc));
         };
-        let mut walker = Walker::new(Links::new(alloc, country), bits, at, end);
-        kind.walk(&mut walker)?;
-        Ok(walker.into_visitor().into_identities())
+        if !kind.has_elements() {
+            return Ok(Vec::new(alloc));
+        }
+        match Packet::go_over(kind, bits, at, end, Links::new(alloc, country)) {
+            Ok(links) => Ok(links.into_identities()),
+            Err(LayoutFault::OutOfMemory) => Err(LayoutFault::OutOfMemory),
+            Err(_) => Ok(Vec::new(alloc)),
+        }
     }
 
     // The kind of the packet at a place and the place behind it, or the first fault. Takes no memory.
@@ -113,11 +116,35 @@ impl Packet {
         ensures found { Finds version bits.now at result }
         ensures fault { IfErr result (λ e. e ≢ LayoutFault.OutOfMemory) }
     {
-        let (number, end) = bounds(bits, at)?;
-        let kind = Kind::of(version, number);
-        let mut walker = Walker::new(Nothing, bits, at, end);
-        kind.walk(&mut walker)?;
+        let (kind, end) = Packet::begin(bits, at, version)?;
+        Packet::go_over(kind, bits, at, end, Nothing)?;
         Ok((kind, end))
+    }
+
+    // What the first 23 bits say of the packet at a place: its kind and the place behind it, or the first fault.
+    fn begin(bits: &Bits, at: usize, version: u32) -> Result<(Kind, usize), LayoutFault>
+        ensures begins { Begins version bits.now at result }
+        ensures fault { IfErr result (λ e. e ≢ LayoutFault.OutOfMemory) }
+    {
+        let (number, end) = bounds(bits, at)?;
+        Ok((Kind::of(version, number), end))
+    }
+
+    // Shows each field of the packet of this kind between two places to a visitor.
+    fn go_over<V: Visit + Drop>(
+        kind: Kind,
+        bits: &Bits,
+        at: usize,
+        end: usize,
+        visitor: V,
+    ) -> Result<V, LayoutFault>
+        requires ordered { at ≤ end }
+        requires within { end ≤ length bits.now }
+        ensures { (version : ℕ) → Begins version bits.now at (Ok (kind, end)) → GoesOver V.allocates V.step version kind bits.now at end visitor result }
+    {
+        let mut walker = Walker::new(visitor, bits, at, end);
+        kind.walk(&mut walker)?;
+        Ok(walker.into_visitor())
     }
 
     /// What kind of packet it is.
@@ -189,6 +216,9 @@ impl Packet {
         ensures fault { IsOkUnless result LayoutFault.OutOfMemory }
     {
         let alloc = self.bits().allocator();
+        if !self.kind().has_elements() {
+            return Ok(Vec::new(alloc));
+        }
         Ok(self.visit(Links::new(alloc, country))?.into_identities())
     }
 

@@ -6,9 +6,8 @@ use balise_lines::{Counted, Lines, Next, put};
 use balise_plan::Plan;
 use balise_telegram::Bits;
 use std::alloc::Global;
-use std::io;
 use std::io::{BufWriter, Read, Write};
-use std::mem;
+use std::{io, mem};
 
 /// The groups of all lines: a line 'group' begins one, and lines that have as many digits as a telegram belong to it.
 fn read<R: Read>(alloc: Global, reader: &mut Counted<R>) -> Result<Plan> {

@@ -40,13 +40,16 @@ add_ready s a bs plan r = (tt, (group_of bs, find-put_same a (Fresh s, group_of 
 pub drop_ready : (s : ℕ) → (g : Tag) → (plan : Plan) → IsReady (s, DropGroup g) plan → (ys : Group) × ((noted (DropGroup g) plan).group ≡ Some ys) × LacksGroup g ys (noted (DropGroup g) plan).before (done (s, DropGroup g) plan)
 drop_ready s g plan r =
     let ys = r.accepted.1.0 in
-    let note = ap (note_drop (behind same_tag g plan)) r.accepted.1.1 in
-    (ys, ap (λ (m : Note). m.group) note, record {
-      gone = find-without_same same_tag g plan;
-      neighbour = subst (λ b. Stands b (without same_tag g plan)) (sym (ap (λ (m : Note). m.before) note)) (neighbour_without g plan r.sound.tags);
-      free = free ys r.accepted.1.1;
-      sound = group_sound plan r.sound g ys r.accepted.1.1;
-    })
+    let note = ap (note_drop (behind same_tag g plan)) r.accepted.1.1 in (
+      ys,
+      ap (λ (m : Note). m.group) note,
+      record {
+        gone = find-without_same same_tag g plan;
+        neighbour = subst (λ b. Stands b (without same_tag g plan)) (sym (ap (λ (m : Note). m.before) note)) (neighbour_without g plan r.sound.tags);
+        free = free ys r.accepted.1.1;
+        sound = group_sound plan r.sound g ys r.accepted.1.1;
+      },
+    )
   where
     free : (ys : Group) → find same_tag g plan ≡ Some ys → NoGroup (identity_of ys) (without same_tag g plan)
     free ys here h zs q =
@@ -92,11 +95,15 @@ renumber_ready s g n plan r =
     let sound = group_sound plan r.sound g ys r.accepted.1.1 in
     let now : identity_of (f g ys) ≡ named (identity_of ys) n = identity_then g ys r.accepted.1.1 ∙ own_case (tag_test.itself g) in
     let target : renumbered (Some (f g ys)) (identity_of ys).number ≡ identity_of ys = ap (λ i. named i (identity_of ys).number) now in
-    subst (λ m. Accepted (Renumber g m) (done (s, Renumber g n) plan)) (sym old_is)
-    ((number_fits ys sound, sound.number),
-     (f g ys, find-each tag_test f g plan ∙ ap (option_map (f g)) r.accepted.1.1,
-      subst (λ i. NoGroup i (done (s, Renumber g n) plan)) (sym target) no_group,
-      subst (λ i. NoName i (done (s, Renumber g n) plan)) (sym target) no_name))
+    subst (λ m. Accepted (Renumber g m) (done (s, Renumber g n) plan)) (sym old_is) (
+      (number_fits ys sound, sound.number),
+      (
+        f g ys,
+        find-each tag_test f g plan ∙ ap (option_map (f g)) r.accepted.1.1,
+        subst (λ i. NoGroup i (done (s, Renumber g n) plan)) (sym target) no_group,
+        subst (λ i. NoName i (done (s, Renumber g n) plan)) (sym target) no_name,
+      ),
+    )
   where
     identity_then : (h : Tag) → (zs : Group) → find same_tag h plan ≡ Some zs → identity_of (group_after (s, Renumber g n) (noted (Renumber g n) plan).own h zs) ≡ cond (same_tag g h) (named (identity_of zs) n) (identity_of zs)
     identity_then h zs q = (groups_kept (s, Renumber g n) (noted (Renumber g n) plan).own plan r.sound r.accepted (λ g1 t1 y k. tt) h zs q).identity
@@ -135,9 +142,9 @@ renumber_ready s g n plan r =
         (λ x a b. let c = country_of y.telegram in
         let h1 = field_after (Renumber g n) own h t c p x.fields in
         let country : country_at c k x.fields ≡ i.country =
-            sym (country_stays (Renumber g n) r.accepted.0 own h t c p k x.fields)
-            ∙ ap (λ (u : Packet). country_at c k u.fields) (sym b)
-            ∙ ap (λ u. country_at u k w.packet.fields) (sym c_is)
-            ∙ w.country in
+        sym (country_stays (Renumber g n) r.accepted.0 own h t c p k x.fields)
+        ∙ ap (λ (u : Packet). country_at c k u.fields) (sym b)
+        ∙ ap (λ u. country_at u k w.packet.fields) (sym c_is)
+        ∙ w.country in
         some_is (find same_key (NidBg, k) x.fields) (h1 (NidBg, k)) i.number (sym (find-each key_test h1 (NidBg, k) x.fields) ∙ ap (λ (u : Packet). find same_key (NidBg, k) u.fields) (sym b) ∙ w.number)
         (λ m d number. old_named i n (country_at c k x.fields) m country (ap (λ j. cond (same_id (record { country = country_at c k x.fields; number = m }) j) n m) (sym own_is) ∙ sym number) other)))

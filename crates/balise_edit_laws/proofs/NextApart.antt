@@ -73,7 +73,7 @@ pub moved_away : {A : Type 0} → (a : Option Tag) → (p : Tag) → (xs : List 
 moved_away a p xs u s h n m =
     let rest = without same_tag p xs in
     let now : behind same_tag p (move same_tag p a xs) ≡ next same_tag a xs =
-        ap (behind same_tag p) (move_is same_tag p a h.0 xs h.1)
-        ∙ behind-put_in a (p, h.0) rest (stands-without a p xs n s) (find-without_same same_tag p xs)
-        ∙ next-without tag_test a p n xs (flip_spot tag_test (next same_tag a xs) (Some p) m) in
+    ap (behind same_tag p) (move_is same_tag p a h.0 xs h.1)
+    ∙ behind-put_in a (p, h.0) rest (stands-without a p xs n s) (find-without_same same_tag p xs)
+    ∙ next-without tag_test a p n xs (flip_spot tag_test (next same_tag a xs) (Some p) m) in
     ap (λ b. same_spot same_tag b (behind same_tag p xs)) now ∙ next_apart a p xs u s h n

@@ -50,7 +50,7 @@ insert_ready s g t a x plan r =
     let y = accepted_here (InsertPacket g t a x) (telegram_at g t plan) r.accepted.1 in
     let after = telegram_then e own plan g t y.0 (λ zs. refl) y.1 in
     let packets : find same_tag (Fresh s) (telegram_after e own g t y.0).packets ≡ Some x =
-        ap (find same_tag (Fresh s)) (changed_here g t (Put a (Fresh s, x)) y.0.packets) ∙ find-put_same a (Fresh s, x) y.0.packets y.2.0 (r.unused.packets g t y.0 y.1) in
+    ap (find same_tag (Fresh s)) (changed_here g t (Put a (Fresh s, x)) y.0.packets) ∙ find-put_same a (Fresh s, x) y.0.packets y.2.0 (r.unused.packets g t y.0 y.1) in
     (tt, accepted_at (DeletePacket g t (Fresh s)) (telegram_at g t (done e plan)) (telegram_after e own g t y.0) after (x, packets))
 
 pub delete_ready : (s : ℕ) → (g : Tag) → (t : ℕ) → (p : Tag) → (plan : Plan) → IsReady (s, DeletePacket g t p) plan → (x : Packet) × ((noted (DeletePacket g t p) plan).packet ≡ Some x) × HasGap g t p x (noted (DeletePacket g t p) plan).before (done (s, DeletePacket g t p) plan)
@@ -66,15 +66,18 @@ delete_ready s g t p plan r =
     let before : (noted e.1 plan).before ≡ behind same_tag p y.0.packets = ap (λ (m : Note). m.before) note in
     let sum = used-without_there p x y.0.packets w.tags y.2.1 in
     let fits = w.fits in
-    let total : used z.packets ≡ used (without same_tag p y.0.packets) = ap used packets in
-    (x, ap (λ (m : Note). m.packet) note ∙ y.2.1, record {
-      telegram = z;
-      stands = telegram_then e own plan g t y.0 (λ zs. refl) y.1;
-      gone = ap (find same_tag p) packets ∙ find-without_same same_tag p y.0.packets;
-      neighbour = subst (λ b. Stands b z.packets) (sym before) (subst (Stands (behind same_tag p y.0.packets)) (sym packets) (neighbour_without p y.0.packets w.tags));
-      room = subst (λ u. u + width x ≤ length y.0.padding) (sym total) (omega (arith, sum, fits));
-      spelt = subst (λ v. IsSpelt v x) (sym (fixed_kept e.1 tt MVersion version_fixed g t y.0.head)) (packet_spelt y.0 w p x y.2.1);
-    })
+    let total : used z.packets ≡ used (without same_tag p y.0.packets) = ap used packets in (
+      x,
+      ap (λ (m : Note). m.packet) note ∙ y.2.1,
+      record {
+        telegram = z;
+        stands = telegram_then e own plan g t y.0 (λ zs. refl) y.1;
+        gone = ap (find same_tag p) packets ∙ find-without_same same_tag p y.0.packets;
+        neighbour = subst (λ b. Stands b z.packets) (sym before) (subst (Stands (behind same_tag p y.0.packets)) (sym packets) (neighbour_without p y.0.packets w.tags));
+        room = subst (λ u. u + width x ≤ length y.0.padding) (sym total) (omega (arith, sum, fits));
+        spelt = subst (λ v. IsSpelt v x) (sym (fixed_kept e.1 tt MVersion version_fixed g t y.0.head)) (packet_spelt y.0 w p x y.2.1);
+      },
+    )
 
 pub move_ready : (s : ℕ) → (g : Tag) → (t : ℕ) → (p : Tag) → (a : Option Tag) → (plan : Plan) → IsReady (s, MovePacket g t p a) plan → IsAstray g t p (noted (MovePacket g t p a) plan).before (done (s, MovePacket g t p a) plan)
 move_ready s g t p a plan r =

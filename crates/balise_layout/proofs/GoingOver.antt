@@ -50,7 +50,7 @@ over_ends {A = A} allocates step version kind bits at end a after b walked =
     let whole : IsHeld next front = walked_held step next a front after walked (said ∙ sym long) in
     let p = held next front in
     let reads = bounded_reads version b.0 size (drop at bits) b.3
-        ∙ ap (read_packet (drop size (drop at bits))) (same_form version kind bits at end b ∙ held_read next front p whole refl)
-        ∙ ap (packet_and p) (drop-drop size at bits ∙ ap (λ (k : ℕ). drop k bits) far) in
+    ∙ ap (read_packet (drop size (drop at bits))) (same_form version kind bits at end b ∙ held_read next front p whole refl)
+    ∙ ap (packet_and p) (drop-drop size at bits ∙ ap (λ (k : ℕ). drop k bits) far) in
     let start : A × List Bool = (a, front) in
     ((b.1, b.2, whole, reads), seen_within step next a front start after whole refl walked)

@@ -8,6 +8,7 @@ mod turning;
 
 ghost use Rattle.std.specs.Prelude.{◌≡◌, eqb, length, option_map, slice_get, position};
 ghost use Rattle.balise_rules.specs.Plan.{Group as GroupValue, identity_of};
+ghost use Rattle.balise_rules.specs.Tagged.{find as under};
 
 use balise_rules::{Id, Var};
 use balise_telegram::Balise;
@@ -44,6 +45,16 @@ impl Group {
         ensures { result ≡ length self.now }
     {
         self.telegrams.len()
+    }
+
+    /// The telegram with this tag.
+    pub fn telegram(&self, t: u32) -> Option<&Balise>
+        ensures { option_map (λ b. b.now) result ≡ under eqb t self.now }
+    {
+        match find(&self.telegrams, t) {
+            Some(i) => Some(&self.telegrams[i].1),
+            None => None,
+        }
     }
 
     /// The telegram at a place, with its tag.

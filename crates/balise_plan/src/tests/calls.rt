@@ -1,154 +1,178 @@
-//! Each call on a plan once, and what it prints then.
+//! Each call on its happy path, in either form of a place.
 
-use crate::tests::{LINKING, RESTRICTIONS, read};
-use crate::{Address, GroupTag, Id, PacketTag, Place, Plan, Refusal, Spot, Var};
+use crate::tests::digits::{ABROAD, EMPTY, INFILL, LINKING, REVOCATIONS};
+use crate::tests::steps::{Answer, Step, follow};
+use crate::tests::{id, read};
+use crate::{GroupTag, Id, LinkPlace, PacketTag, Plan, Spot, Var};
 use std::alloc::Global;
-use std::process::Abort;
 
-const FIRST: Id = Id {
-    country: 5,
-    number: 100,
-};
+const FIRST: GroupTag = GroupTag::Base(0);
 
-const RENAMED: Id = Id {
-    country: 5,
-    number: 200,
-};
+const SECOND: GroupTag = GroupTag::Base(1);
 
-/// Whether the first telegram of the group at a place has these digits.
-fn prints(rt: &impl Abort, alloc: Global, plan: &Plan, i: usize, text: &str) -> bool {
-    let mut digits = Vec::new(alloc);
-    let Some((_, group)) = plan.at(i) else {
-        return false;
-    };
-    let Some((_, balise)) = group.at(0) else {
-        return false;
-    };
-    assert!(rt; balise.hex_into(&mut digits).is_ok());
-    digits.as_slice() == text.as_bytes()
-}
-
-fn both(rt: &impl Abort, alloc: Global) -> Plan {
-    read(rt, alloc, &[RESTRICTIONS, LINKING]).expect(rt, "a plan")
-}
+const NEW: GroupTag = GroupTag::Fresh(1);
 
 #[test]
-fn sets_fields(rt: HostRuntime) {
+fn changes_a_telegram(rt: HostRuntime) {
     let alloc = rt.alloc();
-    let mut plan = both(&rt, alloc);
-    let (first, packet) = (GroupTag::Base(0), PacketTag::Base(0));
-    assert!(rt; plan.changes() < 1000);
-    assert!(rt; plan.set_field(first, 0, packet, Var::NidTsr, 0, 9) == Ok(5));
-    assert!(rt; plan.changes() == 1);
-    assert!(rt;
-        prints(
+    let (five, seven) = (PacketTag::Base(0), PacketTag::Base(1));
+    let nine = "a1007f80a03250900f84a1201f07ffffffffffffffffffffffffc0";
+    let counted = "a1007f00a03250900f84a1201f07ffffffffffffffffffffffffc0";
+    let moved = "a1007f00a03250900f83a1201f09ffffffffffffffffffffffffc0";
+    let put = "a1007f00a03250900f83a1201f0642403e13ffffffffffffffffc0";
+    let moved_on = "a1007f00a03250900f83a1201f0942403e0dffffffffffffffffc0";
+    let taken = "a1007f00a03250900f83a1201f06ffffffffffffffffffffffffc0";
+    let mut plan = read(&rt, alloc, &[REVOCATIONS, LINKING]).expect(&rt, "a plan");
+    for (step, answer, text) in [
+        (
+            Step::Field(FIRST, 0, five, Var::NidTsr, 0, 9),
+            Answer::Old(5),
+            nine,
+        ),
+        (
+            Step::Head(FIRST, 0, Var::MMcount, 254),
+            Answer::Old(255),
+            counted,
+        ),
+        (
+            Step::Shift(FIRST, 0, seven, Spot::After(None)),
+            Answer::Next(None),
+            moved,
+        ),
+        (
+            Step::Put(FIRST, 0, Spot::Before(Some(five)), NEW, "42403e0c"),
+            Answer::Done,
+            put,
+        ),
+        (
+            Step::Shift(FIRST, 0, NEW, Spot::After(Some(five))),
+            Answer::Next(Some(five)),
+            moved_on,
+        ),
+        (
+            Step::Shift(FIRST, 0, NEW, Spot::Before(Some(five))),
+            Answer::Next(None),
+            put,
+        ),
+        (
+            Step::Shift(FIRST, 0, NEW, Spot::Before(None)),
+            Answer::Next(Some(five)),
+            moved_on,
+        ),
+        (Step::Take(FIRST, 0, five), Answer::Next(Some(NEW)), taken),
+        (
+            Step::Put(FIRST, 0, Spot::After(Some(NEW)), five, "42403e12"),
+            Answer::Done,
+            "a1007f00a03250900f83a1201f0642403e13ffffffffffffffffc0",
+        ),
+    ] {
+        follow(
             &rt,
             alloc,
-            &plan,
-            0,
-            "a1007f80a03250900f84a1201f07ffffffffffffffffffffffffc0"
-        )
-    );
-    assert!(rt; plan.set_head(first, 0, Var::MMcount, 254) == Ok(255));
-    assert!(rt; plan.changes() == 2);
-    assert!(rt; plan.set_field(GroupTag::Base(1), 0, packet, Var::NidBg, 0, 300) == Ok(100));
-    assert!(rt; plan.links_to(FIRST).is_none());
-    assert!(rt; plan.changes() == 3);
-    assert!(rt;
-        plan.set_head(GroupTag::Base(2), 0, Var::MMcount, 254) == Err(Refusal::NoSuchGroup)
-    );
-    assert!(rt; plan.changes() == 3);
-}
-
-#[test]
-fn renames_and_turns(rt: HostRuntime) {
-    let alloc = rt.alloc();
-    let mut plan = both(&rt, alloc);
-    let first = GroupTag::Base(0);
-    assert!(rt; plan.changes() < 1000);
-    assert!(rt; plan.rename(first, 200) == Ok(100));
-    assert!(rt; plan.tag_of(RENAMED) == Some(first));
-    assert!(rt; plan.tag_of(FIRST).is_none());
-    assert!(rt; plan.links_to(RENAMED).is_some());
-    assert!(rt;
-        prints(
-            &rt,
-            alloc,
-            &plan,
-            1,
-            "a1007f80a032c15022a07d00646301ffffffffffffffffffffffc0"
-        )
-    );
-    assert!(rt; plan.changes() < 1000);
-    assert!(rt; plan.rename(first, 100) == Ok(200));
-    assert!(rt; plan.changes() < 1000);
-    assert!(rt; plan.turn(first).is_ok());
-    assert!(rt;
-        prints(
-            &rt,
-            alloc,
-            &plan,
-            1,
-            "a1007f80a032c15022a07d00322301ffffffffffffffffffffffc0"
-        )
-    );
-}
-
-#[test]
-fn moves_and_takes_packets(rt: HostRuntime) {
-    let alloc = rt.alloc();
-    let mut plan = both(&rt, alloc);
-    let first = GroupTag::Base(0);
-    assert!(rt; plan.changes() < 1000);
-    let next = plan.shift_packet(first, 0, PacketTag::Base(1), Spot::After(None));
-    assert!(rt; next == Ok(None));
-    assert!(rt; plan.changes() < 1000);
-    let back = plan.shift_packet(first, 0, PacketTag::Base(1), Spot::Before(None));
-    assert!(rt; back == Ok(Some(PacketTag::Base(0))));
-    assert!(rt; plan.changes() < 1000);
-    let again = plan.shift_packet(
-        first,
-        0,
-        PacketTag::Base(1),
-        Spot::Before(Some(PacketTag::Base(0))),
-    );
-    assert!(rt; again == Ok(None));
-    assert!(rt; plan.changes() < 1000);
-    match plan.take_packet(first, 0, PacketTag::Base(1)) {
-        Ok((packet, next)) => {
-            assert!(rt; packet.number() == 66);
-            assert!(rt; next == Some(PacketTag::Base(0)));
-        }
-        Err(_) => assert!(rt; false),
+            &mut plan,
+            step,
+            Ok(answer),
+            [text, LINKING].as_slice(),
+        );
     }
-    assert!(rt;
-        prints(
+}
+
+#[test]
+fn puts_groups_anywhere(rt: HostRuntime) {
+    let alloc = rt.alloc();
+    let texts = [EMPTY, LINKING];
+    let mut plan = read(&rt, alloc, texts.as_slice()).expect(&rt, "a plan");
+    for (spot, text, next, with) in [
+        (
+            Spot::After(None),
+            ABROAD,
+            Some(FIRST),
+            [ABROAD, EMPTY, LINKING],
+        ),
+        (
+            Spot::Before(Some(FIRST)),
+            INFILL,
+            Some(FIRST),
+            [INFILL, EMPTY, LINKING],
+        ),
+        (
+            Spot::After(Some(FIRST)),
+            INFILL,
+            Some(SECOND),
+            [EMPTY, INFILL, LINKING],
+        ),
+        (Spot::Before(None), ABROAD, None, [EMPTY, LINKING, ABROAD]),
+        (
+            Spot::After(Some(SECOND)),
+            INFILL,
+            None,
+            [EMPTY, LINKING, INFILL],
+        ),
+    ] {
+        let step = Step::PutGroup(spot, NEW, text);
+        follow(
             &rt,
             alloc,
-            &plan,
-            0,
-            "a1007f80a03250900f82ffffffffffffffffffffffffffffffffc0"
-        )
+            &mut plan,
+            step,
+            Ok(Answer::Done),
+            with.as_slice(),
+        );
+        let step = Step::TakeGroup(NEW);
+        follow(
+            &rt,
+            alloc,
+            &mut plan,
+            step,
+            Ok(Answer::Next(next)),
+            texts.as_slice(),
+        );
+    }
+}
+
+/// The tag and the identity of the group at a place.
+fn at(plan: &Plan, i: usize) -> Option<(GroupTag, Id)> {
+    let (tag, group) = plan.at(i)?;
+    Some((tag, group.identity()))
+}
+
+#[test]
+fn answers_questions(rt: HostRuntime) {
+    let alloc = rt.alloc();
+    let plan = read(&rt, alloc, &[EMPTY, LINKING]).expect(&rt, "a plan");
+    let (first, second) = (id(5, 100), id(5, 101));
+    assert_eq!(rt; plan.count(), 2);
+    assert!(rt; at(&plan, 0) == Some((FIRST, first)));
+    assert!(rt; at(&plan, 1) == Some((SECOND, second)));
+    assert!(rt; at(&plan, 2).is_none());
+    assert!(rt; plan.tag_of(second) == Some(SECOND));
+    assert!(rt; plan.group(NEW).is_none());
+    let group = plan.group(SECOND).expect(&rt, "a group");
+    assert_eq!(rt; group.count(), 1);
+    assert_eq!(rt; group.country(0), Some(5));
+    assert!(rt; group.country(1).is_none());
+    assert!(rt; group.at(1).is_none());
+    assert!(rt; group.copy().expect(&rt, "memory").identity() == second);
+    let links = group.links(0, PacketTag::Base(0)).expect(&rt, "memory");
+    assert!(rt; links.as_slice() == [first].as_slice());
+    assert!(rt; plan.links_to(second).is_none());
+    let named = plan.links_to(first).expect(&rt, "a link");
+    assert!(rt;
+        named.contains(&LinkPlace {
+            group: SECOND,
+            telegram: 0,
+            packet: PacketTag::Base(0),
+            element: 0
+        })
     );
 }
 
 #[test]
-fn resolves_shows_and_copies(rt: HostRuntime) {
+fn tells_a_telegram(rt: HostRuntime) {
     let alloc = rt.alloc();
-    let plan = both(&rt, alloc);
-    let (first, packet) = (GroupTag::Base(0), PacketTag::Base(1));
-    let field = plan.resolve(Address::Field(FIRST, 0, 1, Var::NidTsr, 0));
-    assert!(rt; field == Ok(Place::Field(first, 0, packet, Var::NidTsr, 0)));
-    assert!(rt; plan.resolve(Address::Group(FIRST)) == Ok(Place::Group(first)));
-    assert!(rt; plan.resolve(Address::Group(RENAMED)) == Err(Refusal::NoSuchGroup));
-    assert!(rt; plan.resolve(Address::Telegram(FIRST, 1)) == Err(Refusal::NoSuchTelegram));
-    assert!(rt; plan.resolve(Address::Packet(FIRST, 0, 2)) == Err(Refusal::NoSuchPacket));
-    let head = plan.resolve(Address::Head(FIRST, 0, Var::NidTsr));
-    assert!(rt; head == Err(Refusal::NoSuchVariable));
-    let shown = plan.shown().expect(&rt, "bits");
-    assert!(rt; shown.len() == 2);
-    let copy = plan.copy().expect(&rt, "a copy");
-    assert!(rt; copy.count() == 2);
-    assert!(rt; prints(&rt, alloc, &copy, 0, RESTRICTIONS));
-    assert!(rt; prints(&rt, alloc, &copy, 1, LINKING));
+    let plan = read(&rt, alloc, &[EMPTY, LINKING]).expect(&rt, "a plan");
+    let balise = plan.telegram(SECOND, 0).expect(&rt, "a telegram");
+    assert_eq!(rt; balise.head(Var::NidBg), Some(101));
+    assert!(rt; plan.telegram(SECOND, 1).is_none());
+    assert!(rt; plan.telegram(NEW, 0).is_none());
 }

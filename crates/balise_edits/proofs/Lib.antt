@@ -1,0 +1,12 @@
+pub mod Steps
+pub mod Equal
+pub mod Meets
+pub mod Elsewhere
+pub mod Standing
+pub mod PutIn
+pub mod Free
+pub mod Oriented
+pub mod SetNames
+pub mod Bare
+pub mod Items
+pub mod Trying

@@ -1,0 +1,30 @@
+use Rattle.std.proofs.Common.{◌≡◌, ◌∙◌, None, Some, inl, inr, refl, ap, subst, sym}
+use Rattle.balise_rules.specs.Doing.{refusal}
+use Rattle.balise_rules.specs.Edits.{Renumber, effect}
+use Rattle.balise_rules.specs.Notes.{noted}
+use Rattle.balise_edits.specs.Standing.{changed_to, IsLast}
+use Rattle.balise_edits.proofs.Bare.{asks_of, back_of, bare_last}
+use Rattle.balise_edits.proofs.Standing.{last_free, numbered, own_renumbered}
+use Rattle.balise_edits.proofs.kinds.names.renumber_back.Goals as goal
+
+pub returns-in-Ok : goal.returns-in-Ok
+returns-in-Ok c =
+    let f = c.args.entry.now in
+    let groups = c.args.plan.now.groups in
+    let old : c.old-old.result ≡ f.1.old = c.old-old.ensures ∙ ap (λ m. m.old) c.note.ensures in
+    let n = c.requires.is.0 in
+    let l : IsLast ((f.0.0, Renumber c.args.g n), f.1) groups = subst (λ x. IsLast ((f.0.0, x), f.1) groups) c.requires.is.1 c.requires.last in
+    let own : (noted (Renumber c.args.g c.old-old.result) groups).own ≡ numbered f.1.own n = own_renumbered f.0.0 c.args.g n c.old-old.result f.1 groups l in (
+      bare_last f (Renumber c.args.g n) groups c.requires.is.1 refl c.requires.last,
+      c.in-Ok.ensures.does.1 ∙ ap (λ i. changed_to (effect (0, Renumber c.args.g c.old-old.result) i groups) c.args.plan.now) own
+          ∙ ap (λ o. changed_to (effect (0, Renumber c.args.g o) (numbered f.1.own n) groups) c.args.plan.now) old ∙ back_of f (Renumber c.args.g n) c.args.plan.now c.requires.is.1,
+    )
+
+pub returns-in-Err : goal.returns-in-Err
+returns-in-Err c =
+    let f = c.args.entry.now in
+    let groups = c.args.plan.now.groups in
+    let old : c.old-old.result ≡ f.1.old = c.old-old.ensures ∙ ap (λ m. m.old) c.note.ensures in
+    let asks = asks_of f (Renumber c.args.g c.requires.is.0) groups c.requires.is.1 c.requires.last in
+    let r : refusal (Renumber c.args.g c.old-old.result) groups ≡ None = subst (λ n. refusal (Renumber c.args.g n) groups ≡ None) (sym old) (last_free f (Renumber c.args.g f.1.old) groups c.requires.last asks) in
+    (elim c.in-Err.ensures.does.0 [ inl e ↦ e | inr e ↦ absurd (cc) ], refl, c.in-Err.ensures.does.1)

@@ -1,0 +1,34 @@
+use Rattle.std.proofs.Common.{◌≡◌, ◌∙◌, None, refl, ap, subst}
+use Rattle.balise_rules.specs.Doing.{refusal}
+use Rattle.balise_rules.specs.Edits.{TurnGroup, effect}
+use Rattle.balise_rules.specs.Notes.{noted}
+use Rattle.balise_edits.specs.Standing.{changed_to, IsLast}
+use Rattle.balise_edits.proofs.Bare.{asks_of, back_of, bare_last}
+use Rattle.balise_edits.proofs.Standing.{last_free, own_turned}
+use Rattle.balise_edits.proofs.kinds.turns.turn_back.Goals as goal
+
+pub returns-in-Ok-clause-back : goal.returns-in-Ok-clause-back
+returns-in-Ok-clause-back c =
+    let f = c.args.entry.now in
+    let groups = c.args.plan.now.groups in
+    let l : IsLast ((f.0.0, TurnGroup c.args.g), f.1) groups = subst (λ x. IsLast ((f.0.0, x), f.1) groups) c.requires.is c.requires.last in
+    let own : (noted (TurnGroup c.args.g) groups).own ≡ f.1.own = own_turned f.0.0 c.args.g f.1 groups l in (
+      bare_last f (TurnGroup c.args.g) groups c.requires.is refl c.requires.last,
+      c.in-Ok.ensures.1 ∙ ap (λ i. changed_to (effect (0, TurnGroup c.args.g) i groups) c.args.plan.now) own ∙ back_of f (TurnGroup c.args.g) c.args.plan.now c.requires.is,
+    )
+
+pub returns-in-Err-clause-back : goal.returns-in-Err-clause-back
+returns-in-Err-clause-back c =
+    let f = c.args.entry.now in
+    let groups = c.args.plan.now.groups in
+    let r : refusal (TurnGroup c.args.g) groups ≡ None = last_free f (TurnGroup c.args.g) groups c.requires.last (asks_of f (TurnGroup c.args.g) groups c.requires.is c.requires.last) in
+    let d = c.in-Err.ensures.0 in
+    absurd (cc)
+
+pub returns-in-Err-clause-ok : goal.returns-in-Err-clause-ok
+returns-in-Err-clause-ok c =
+    let f = c.args.entry.now in
+    let groups = c.args.plan.now.groups in
+    let r : refusal (TurnGroup c.args.g) groups ≡ None = last_free f (TurnGroup c.args.g) groups c.requires.last (asks_of f (TurnGroup c.args.g) groups c.requires.is c.requires.last) in
+    let d = c.in-Err.ensures.0 in
+    absurd (cc)

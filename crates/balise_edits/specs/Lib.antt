@@ -1,0 +1,8 @@
+pub mod Edits
+pub mod Notes
+pub mod Places
+pub mod Needs
+pub mod Homes
+pub mod Anchors
+pub mod Lines
+pub mod Standing

@@ -1,0 +1,38 @@
+//! Values once more.
+
+ghost use Rattle.std.specs.Prelude.{◌≡◌, IfOk, IsOkUnless};
+
+use balise_bits::Bits;
+use balise_layout::Packet;
+use balise_rules::{Id, Refusal};
+
+/// A packet once more.
+pub(crate) fn copy_packet(packet: &Packet) -> Result<Packet, Refusal>
+    ensures ok { IfOk result (λ copied. copied ≡ packet.now) }
+    ensures fault { IsOkUnless result Refusal.OutOfMemory }
+{
+    match packet.copy() {
+        Ok(copied) => Ok(copied),
+        Err(_) => Err(Refusal::OutOfMemory),
+    }
+}
+
+/// The telegrams of a group once more.
+pub(crate) fn copy_telegrams(telegrams: &Vec<Bits>) -> Result<Vec<Bits>, Refusal>
+    ensures ok { IfOk result (λ copies. copies.items ≡ telegrams.now.items) }
+    ensures fault { IsOkUnless result Refusal.OutOfMemory }
+{
+    let mut copies = Vec::with_capacity(*telegrams.allocator(), telegrams.len())?;
+    for telegram in telegrams {
+        copies.push(telegram.copy()?)?;
+    }
+    Ok(copies)
+}
+
+/// Identities once more.
+pub(crate) fn copy_names(names: &Vec<Id>) -> Result<Vec<Id>, Refusal>
+    ensures ok { IfOk result (λ copies. copies.items ≡ names.now.items) }
+    ensures fault { IsOkUnless result Refusal.OutOfMemory }
+{
+    Ok(Vec::from_slice(*names.allocator(), names)?)
+}

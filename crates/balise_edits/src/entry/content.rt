@@ -1,0 +1,53 @@
+//! What was taken out of the plan: in the entry while its edit stands, and in the plan once it is taken back.
+
+ghost use Rattle.std.specs.Prelude.{◌≡◌, None, Some};
+ghost use Rattle.balise_edits.specs.Notes.{kind_of, with_group, with_packet, OfDeletion, OfRemoval};
+
+use crate::entry::Entry;
+use crate::note::Note;
+use balise_layout::Packet;
+use balise_plan::Group;
+
+impl Entry {
+    /// The packet that was taken out, if the entry has one; it has none then.
+    pub(crate) fn take_packet(&mut self) -> Option<Packet>
+        ensures taken { result ≡ self.old.1.packet }
+        ensures left { self.new ≡ (self.old.0, with_packet None self.old.1) }
+    {
+        match &mut self.note {
+            Note::Deleted { packet, .. } => packet.take(),
+            _ => None,
+        }
+    }
+
+    /// Has the packet that a deletion took out.
+    pub(crate) fn keep_packet(&mut self, taken: Packet)
+        requires { kind_of self.old.0.1 ≡ OfDeletion }
+        ensures { self.new ≡ (self.old.0, with_packet (Some taken) self.old.1) }
+    {
+        if let Note::Deleted { packet, .. } = &mut self.note {
+            *packet = Some(taken);
+        }
+    }
+
+    /// The group that was taken out, if the entry has one; it has none then.
+    pub(crate) fn take_group(&mut self) -> Option<Group>
+        ensures taken { result ≡ self.old.1.group }
+        ensures left { self.new ≡ (self.old.0, with_group None self.old.1) }
+    {
+        match &mut self.note {
+            Note::Dropped { group, .. } => group.take(),
+            _ => None,
+        }
+    }
+
+    /// Has the group that a removal took out.
+    pub(crate) fn keep_group(&mut self, taken: Group)
+        requires { kind_of self.old.0.1 ≡ OfRemoval }
+        ensures { self.new ≡ (self.old.0, with_group (Some taken) self.old.1) }
+    {
+        if let Note::Dropped { group, .. } = &mut self.note {
+            *group = Some(taken);
+        }
+    }
+}

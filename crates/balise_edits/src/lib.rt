@@ -1,0 +1,30 @@
+//! Edits of a balise plan by tags, what each notes, its places, and which edits are independent.
+#![tactic(auto)]
+
+mod copying;
+mod doing;
+mod edit;
+mod entry;
+mod independence;
+mod kinds;
+pub mod laws;
+mod line;
+mod listing;
+mod meeting;
+mod naming;
+mod note;
+mod path;
+#[cfg(test)]
+mod tests;
+
+pub use balise_plan::{
+    Address, Balise, Bits, Group, GroupTag, Id, LinkPlace, Packet, PacketTag, Place, Plan, Refusal,
+    Refusal as EditFault, Spot, Tag, Telegram, Var,
+};
+pub use doing::{again, apply, take_back};
+pub use edit::Edit;
+pub use entry::Entry;
+pub use independence::{apart, independent, re_anchor, stands_behind};
+pub use line::{Line, LineEdit, Noted};
+pub use listing::{changed_places, needed_places};
+pub use path::{InGroup, InPacket, InTelegram, Path};

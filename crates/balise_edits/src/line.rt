@@ -1,0 +1,183 @@
+//! What a journal says of an entry.
+
+ghost use Rattle.std.specs.Prelude.{◌≡◌, IfOk, IsOkUnless};
+ghost use Rattle.balise_rules.specs.Journal.{line_edit, line_of, noted_of, whole_bytes};
+ghost use Rattle.balise_edits.specs.Edits.{edit_of};
+ghost use Rattle.balise_edits.specs.Lines.{line_edit_of, line_in, noted_in};
+
+use crate::copying::copy_telegrams;
+use crate::edit::Edit;
+use crate::entry::Entry;
+use balise_bits::Bits;
+use balise_layout::Packet;
+use balise_rules::{Refusal, Tag, Var};
+use std::alloc::Global;
+
+/// An edit as a line of a journal has it: the nine of `Edit`, but that an inserted packet is the bits of its digits.
+#[derive(Debug, Drop)]
+pub enum LineEdit {
+    SetVar {
+        g: Tag,
+        t: u32,
+        p: Tag,
+        var: Var,
+        k: u32,
+        value: u32,
+    },
+    SetHead {
+        g: Tag,
+        t: u32,
+        var: Var,
+        value: u32,
+    },
+    InsertPacket {
+        g: Tag,
+        t: u32,
+        after: Option<Tag>,
+        packet: Bits,
+    },
+    DeletePacket {
+        g: Tag,
+        t: u32,
+        p: Tag,
+    },
+    MovePacket {
+        g: Tag,
+        t: u32,
+        p: Tag,
+        after: Option<Tag>,
+    },
+    AddGroup {
+        after: Option<Tag>,
+        telegrams: Vec<Bits>,
+    },
+    DropGroup {
+        g: Tag,
+    },
+    Renumber {
+        g: Tag,
+        number: u32,
+    },
+    TurnGroup {
+        g: Tag,
+    },
+}
+
+/// What a line says of the plan before its edit. A neighbour of none is the end.
+#[derive(Clone, Copy, Debug, PartialEq, Eq)]
+pub enum Noted {
+    /// Nothing: of an insertion, an added group and a turn.
+    Nothing,
+    /// The old value of a field.
+    Value(u32),
+    /// The old number of a group.
+    Number(u32),
+    /// The old next neighbour of a packet.
+    BeforePacket(Option<Tag>),
+    /// The old next neighbour of a group.
+    BeforeGroup(Option<Tag>),
+}
+
+/// A line of a journal: an edit, its serial and what it noted.
+#[derive(Debug, Drop)]
+pub struct Line {
+    pub serial: u32,
+    pub edit: LineEdit,
+    pub noted: Noted,
+}
+
+// The bits of a packet, and zeros to a whole byte.
+fn whole_bytes(alloc: Global, packet: &Packet) -> Result<Bits, Refusal>
+    ensures ok { IfOk result (λ bits. bits ≡ whole_bytes packet.now) }
+    ensures fault { IsOkUnless result Refusal.OutOfMemory }
+{
+    let width = packet.width();
+    let mut bits = Bits::new(alloc);
+    if packet.write(&mut bits).is_err() {
+        return Err(Refusal::OutOfMemory);
+    }
+    bits.push_zeros((8 - width % 8) % 8)?;
+    Ok(bits)
+}
+
+impl Edit {
+    // The edit as a line has it.
+    fn line(&self, alloc: Global) -> Result<LineEdit, Refusal>
+        ensures ok { IfOk result (λ line. line_edit_of line ≡ line_edit (edit_of self.now)) }
+        ensures fault { IsOkUnless result Refusal.OutOfMemory }
+    {
+        match *self {
+            Edit::SetVar {
+                g,
+                t,
+                p,
+                var,
+                k,
+                value,
+            } => Ok(LineEdit::SetVar {
+                g,
+                t,
+                p,
+                var,
+                k,
+                value,
+            }),
+            Edit::SetHead { g, t, var, value } => Ok(LineEdit::SetHead { g, t, var, value }),
+            Edit::InsertPacket {
+                g,
+                t,
+                after,
+                ref packet,
+            } => Ok(LineEdit::InsertPacket {
+                g,
+                t,
+                after,
+                packet: whole_bytes(alloc, packet)?,
+            }),
+            Edit::DeletePacket { g, t, p } => Ok(LineEdit::DeletePacket { g, t, p }),
+            Edit::MovePacket { g, t, p, after } => Ok(LineEdit::MovePacket { g, t, p, after }),
+            Edit::AddGroup {
+                after,
+                ref telegrams,
+            } => Ok(LineEdit::AddGroup {
+                after,
+                telegrams: copy_telegrams(telegrams)?,
+            }),
+            Edit::DropGroup { g } => Ok(LineEdit::DropGroup { g }),
+            Edit::Renumber { g, number } => Ok(LineEdit::Renumber { g, number }),
+            Edit::TurnGroup { g } => Ok(LineEdit::TurnGroup { g }),
+        }
+    }
+}
+
+impl Entry {
+    /// What its line says of the plan before its edit. Takes no memory.
+    pub fn noted(&self) -> Noted
+        ensures { noted_in result ≡ noted_of self.now.0.1 self.now.1 }
+    {
+        let note = self.note();
+        match self.edit() {
+            Edit::SetVar { .. } => Noted::Value(note.old()),
+            Edit::SetHead { .. } => Noted::Value(note.old()),
+            Edit::DeletePacket { .. } => Noted::BeforePacket(note.before()),
+            Edit::MovePacket { .. } => Noted::BeforePacket(note.before()),
+            Edit::DropGroup { .. } => Noted::BeforeGroup(note.before()),
+            Edit::Renumber { .. } => Noted::Number(note.old()),
+            _ => Noted::Nothing,
+        }
+    }
+
+    /// Its line in a journal.
+    pub fn line(&self, alloc: Global) -> Result<Line, Refusal>
+        ensures ok { IfOk result (λ line. line_in line ≡ line_of self.now) }
+        ensures fault { IsOkUnless result Refusal.OutOfMemory }
+    {
+        let edit = self.edit().line(alloc)?;
+        let noted = self.noted();
+        Ok(Line {
+            serial: self.serial(),
+            edit,
+            noted,
+        })
+    }
+}

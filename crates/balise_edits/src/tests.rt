@@ -1,0 +1,391 @@
+//! Entries of a few edits: which are independent, which stand behind another, what they change and need, copies and
+//! lines.
+
+mod doing;
+mod rows;
+
+use crate::edit::Edit;
+use crate::entry::Entry;
+use crate::note::{Names, Note};
+use crate::{
+    InGroup, InPacket, InTelegram, LineEdit, Noted, Path, apart, changed_places, independent,
+    needed_places, re_anchor, stands_behind,
+};
+use balise_bits::Bits;
+use balise_layout::Packet;
+use balise_rules::{Id, Tag, Var};
+use std::alloc::Global;
+use std::process::Abort;
+
+// Packets 66 with NID_TSR 5 and 6.
+const REVOCATION: &str = "42403e0a";
+
+const OTHER: &str = "42403e0c";
+
+// A packet 5 that names 5.100.
+const LINK: &str = "05408a81f400c98c00";
+
+fn id(number: u32) -> Id {
+    Id { country: 5, number }
+}
+
+pub(crate) fn packet_of(rt: &impl Abort, alloc: Global, digits: &str) -> Packet {
+    let bits = Bits::digits(alloc, digits).expect(rt, "digits");
+    let (packet, _) = Packet::read(&bits, 0, 33).expect(rt, "a packet");
+    packet
+}
+
+fn listed(rt: &impl Abort, alloc: Global, named: Option<Id>) -> Vec<Id> {
+    let mut names = Vec::new(alloc);
+    if let Some(id) = named {
+        assert!(rt; names.push(id).is_ok());
+    }
+    names
+}
+
+// A packet put into the first telegram of the first group.
+fn inserted(
+    rt: &impl Abort,
+    alloc: Global,
+    serial: u32,
+    after: Option<Tag>,
+    digits: &str,
+    named: Option<Id>,
+) -> Entry {
+    let edit = Edit::InsertPacket {
+        g: Tag::Base(0),
+        t: 0,
+        after,
+        packet: packet_of(rt, alloc, digits),
+    };
+    let names = listed(rt, alloc, named);
+    Entry::new(serial, edit, Note::Inserted { names })
+}
+
+// A packet taken out there.
+fn deleted(alloc: Global, serial: u32, p: u32, before: Option<Tag>) -> Entry {
+    let edit = Edit::DeletePacket {
+        g: Tag::Base(0),
+        t: 0,
+        p: Tag::Base(p),
+    };
+    let note = Note::Deleted {
+        before,
+        names: Vec::new(alloc),
+        packet: None,
+    };
+    Entry::new(serial, edit, note)
+}
+
+// A packet moved there.
+fn moved(serial: u32, p: Tag, after: Option<Tag>, before: Option<Tag>) -> Entry {
+    let edit = Edit::MovePacket {
+        g: Tag::Base(0),
+        t: 0,
+        p,
+        after,
+    };
+    Entry::new(serial, edit, Note::Moved { before })
+}
+
+fn renumbered(serial: u32, g: u32, own: Id, number: u32) -> Entry {
+    let edit = Edit::Renumber {
+        g: Tag::Base(g),
+        number,
+    };
+    Entry::new(serial, edit, Note::Own(own))
+}
+
+fn turned(serial: u32, g: u32, own: Id) -> Entry {
+    Entry::new(serial, Edit::TurnGroup { g: Tag::Base(g) }, Note::Own(own))
+}
+
+// A field of the first packet of a group's first telegram set.
+fn set(serial: u32, g: u32, var: Var, value: u32, old: u32, names: Names) -> Entry {
+    let edit = Edit::SetVar {
+        g: Tag::Base(g),
+        t: 0,
+        p: Tag::Base(0),
+        var,
+        k: 0,
+        value,
+    };
+    Entry::new(serial, edit, Note::Field { old, names })
+}
+
+// A group of one telegram put in.
+fn added(rt: &impl Abort, alloc: Global, serial: u32, after: Option<Tag>, own: Id) -> Entry {
+    let mut telegrams = Vec::new(alloc);
+    let bits = Bits::digits(alloc, REVOCATION).expect(rt, "digits");
+    assert!(rt; telegrams.push(bits).is_ok());
+    let names = Vec::new(alloc);
+    Entry::new(
+        serial,
+        Edit::AddGroup { after, telegrams },
+        Note::Added { own, names },
+    )
+}
+
+// A group taken out that names an identity.
+fn dropped(
+    rt: &impl Abort,
+    alloc: Global,
+    serial: u32,
+    g: u32,
+    before: Option<Tag>,
+    own: Id,
+    named: Id,
+) -> Entry {
+    let note = Note::Dropped {
+        before,
+        own,
+        names: listed(rt, alloc, Some(named)),
+        group: None,
+    };
+    Entry::new(serial, Edit::DropGroup { g: Tag::Base(g) }, note)
+}
+
+// That a later entry is apart from an earlier one, and stands behind it, or not.
+fn check(rt: &impl Abort, entry: &Entry, later: &Entry, is_apart: bool, behind: bool) {
+    assert!(rt; apart(entry, later) == is_apart);
+    assert!(rt; stands_behind(entry, later) == behind);
+    assert!(rt; independent(entry, later) == (is_apart | behind));
+}
+
+#[test]
+fn moves_in_one_telegram(rt: HostRuntime) {
+    let alloc = rt.alloc();
+    // The third of four packets goes to the front; it stood before the fourth.
+    let first = moved(1, Tag::Base(2), None, Some(Tag::Base(3)));
+    // Now the second stands before the fourth, and is taken out.
+    let second = deleted(alloc, 2, 1, Some(Tag::Base(3)));
+    check(&rt, &first, &second, false, false);
+    // Or the first is taken out, which stands before the second.
+    let second = deleted(alloc, 2, 0, Some(Tag::Base(1)));
+    check(&rt, &first, &second, true, false);
+}
+
+#[test]
+fn moves_and_insertions(rt: HostRuntime) {
+    let alloc = rt.alloc();
+    let first = moved(1, Tag::Base(2), None, Some(Tag::Base(3)));
+    let second = inserted(&rt, alloc, 2, Some(Tag::Base(1)), "2c402e", None);
+    check(&rt, &first, &second, true, false);
+}
+
+#[test]
+fn room_of_a_deletion(rt: HostRuntime) {
+    let alloc = rt.alloc();
+    let first = deleted(alloc, 1, 0, None);
+    let second = inserted(&rt, alloc, 2, None, REVOCATION, None);
+    check(&rt, &first, &second, false, false);
+    check(&rt, &second, &first, false, false);
+}
+
+#[test]
+fn fields_and_numbers(rt: HostRuntime) {
+    let distance = set(1, 1, Var::DLink, 600, 500, Names::Neither([]));
+    let link = set(1, 1, Var::NidBg, 102, 100, Names::Both([id(100), id(102)]));
+    check(&rt, &distance, &renumbered(2, 1, id(101), 300), true, false);
+    check(&rt, &link, &renumbered(2, 1, id(101), 300), true, false);
+    check(&rt, &link, &renumbered(2, 0, id(100), 300), false, false);
+    check(&rt, &link, &renumbered(2, 2, id(7), 102), false, false);
+}
+
+#[test]
+fn fields_and_turns(rt: HostRuntime) {
+    let link = set(1, 1, Var::NidBg, 102, 100, Names::Both([id(100), id(102)]));
+    let way = set(1, 1, Var::QLinkorientation, 0, 1, Names::One([id(100)]));
+    let dir = set(1, 1, Var::QDir, 0, 1, Names::Neither([]));
+    check(&rt, &way, &link, false, false);
+    check(&rt, &way, &turned(2, 0, id(100)), false, false);
+    check(&rt, &dir, &turned(2, 1, id(101)), false, false);
+    check(&rt, &dir, &turned(2, 0, id(100)), true, false);
+}
+
+#[test]
+fn insertions_and_names(rt: HostRuntime) {
+    let alloc = rt.alloc();
+    let later = inserted(&rt, alloc, 3, None, LINK, Some(id(100)));
+    check(&rt, &turned(2, 0, id(100)), &later, false, false);
+    check(&rt, &renumbered(2, 1, id(101), 300), &later, true, false);
+    check(&rt, &renumbered(2, 1, id(101), 100), &later, false, false);
+}
+
+#[test]
+fn removals_and_names(rt: HostRuntime) {
+    let alloc = rt.alloc();
+    let gone = dropped(&rt, alloc, 2, 1, None, id(101), id(100));
+    check(&rt, &gone, &renumbered(3, 0, id(100), 300), false, false);
+    check(&rt, &gone, &renumbered(3, 0, id(102), 300), true, false);
+    let distance = set(1, 1, Var::DLink, 600, 500, Names::Neither([]));
+    check(&rt, &distance, &gone, false, false);
+}
+
+#[test]
+fn insertions_behind(rt: HostRuntime) {
+    let alloc = rt.alloc();
+    let first = inserted(&rt, alloc, 1, None, REVOCATION, None);
+    let second = inserted(&rt, alloc, 2, Some(Tag::Fresh(1)), OTHER, None);
+    check(&rt, &first, &second, false, true);
+    // Behind the second, so not behind the first.
+    let third = inserted(&rt, alloc, 3, Some(Tag::Fresh(2)), OTHER, None);
+    check(&rt, &first, &third, true, false);
+}
+
+#[test]
+fn anchored_anew(rt: HostRuntime) {
+    let alloc = rt.alloc();
+    let first = inserted(&rt, alloc, 1, None, REVOCATION, None);
+    let mut second = inserted(&rt, alloc, 2, Some(Tag::Fresh(1)), OTHER, None);
+    re_anchor(&mut second, &first, false);
+    assert!(rt; second.edit().anchor() == None);
+    check(&rt, &first, &second, false, false);
+    re_anchor(&mut second, &first, true);
+    assert!(rt; second.edit().anchor() == Some(Tag::Fresh(1)));
+}
+
+#[test]
+fn moves_behind(rt: HostRuntime) {
+    let alloc = rt.alloc();
+    let first = inserted(&rt, alloc, 1, None, REVOCATION, None);
+    let behind = Some(Tag::Fresh(1));
+    check(
+        &rt,
+        &first,
+        &moved(3, Tag::Base(0), behind, None),
+        false,
+        true,
+    );
+    // The packet that was moved stood before what was put in.
+    check(
+        &rt,
+        &first,
+        &moved(3, Tag::Base(0), behind, behind),
+        false,
+        false,
+    );
+}
+
+#[test]
+fn groups_behind(rt: HostRuntime) {
+    let alloc = rt.alloc();
+    let group = added(&rt, alloc, 1, Some(Tag::Base(0)), id(101));
+    let behind = Some(Tag::Fresh(1));
+    check(
+        &rt,
+        &group,
+        &added(&rt, alloc, 2, behind, id(102)),
+        false,
+        true,
+    );
+    check(
+        &rt,
+        &group,
+        &added(&rt, alloc, 2, behind, id(101)),
+        false,
+        false,
+    );
+    let elsewhere = Some(Tag::Base(1));
+    check(
+        &rt,
+        &group,
+        &added(&rt, alloc, 2, elsewhere, id(102)),
+        true,
+        false,
+    );
+}
+
+#[test]
+fn lists_changed_places(rt: HostRuntime) {
+    let alloc = rt.alloc();
+    let entry = inserted(&rt, alloc, 7, None, LINK, Some(id(100)));
+    let changed = changed_places(alloc, &entry).expect(&rt, "places");
+    let packet = InTelegram::Packet(Tag::Fresh(7), InPacket::Whole);
+    assert!(rt; changed.len() == 2);
+    assert!(rt; changed[0] == Path::Group(Tag::Base(0), InGroup::Telegram(0, packet)));
+}
+
+#[test]
+fn lists_needed_places(rt: HostRuntime) {
+    let alloc = rt.alloc();
+    let entry = inserted(&rt, alloc, 7, None, LINK, Some(id(100)));
+    let needed = needed_places(alloc, &entry).expect(&rt, "places");
+    assert!(rt; needed.len() == 2);
+    assert!(rt; needed[0] == Path::Group(Tag::Base(0), InGroup::Turn));
+    assert!(rt; needed[1].meets(&Path::Identity(id(100))));
+}
+
+#[test]
+fn lines_have_whole_bytes(rt: HostRuntime) {
+    let alloc = rt.alloc();
+    let entry = inserted(&rt, alloc, 7, None, LINK, Some(id(100)));
+    let line = entry.line(alloc).expect(&rt, "a line");
+    assert!(rt; line.serial == 7);
+    if let LineEdit::InsertPacket { packet, .. } = &line.edit {
+        let text = packet.to_hex().expect(&rt, "digits");
+        assert_eq!(rt; text.as_str(), LINK);
+    } else {
+        assert!(rt; false);
+    }
+}
+
+// That a copy of an entry and its line have what was noted.
+fn says(rt: &impl Abort, alloc: Global, entry: &Entry, noted: Noted) {
+    let copy = entry.copy().expect(rt, "a copy");
+    assert!(rt; copy.serial() == entry.serial());
+    assert!(rt; copy.edit().copy().is_ok());
+    assert!(rt; copy.noted() == noted);
+    let line = copy.line(alloc).expect(rt, "a line");
+    assert!(rt; line.noted == noted);
+}
+
+#[test]
+fn copies_of_fields_and_packets(rt: HostRuntime) {
+    let alloc = rt.alloc();
+    let (b, named) = (Some(Tag::Base(3)), Some(id(100)));
+    says(
+        &rt,
+        alloc,
+        &set(8, 1, Var::DLink, 600, 500, Names::Neither([])),
+        Noted::Value(500),
+    );
+    says(
+        &rt,
+        alloc,
+        &inserted(&rt, alloc, 7, None, LINK, named),
+        Noted::Nothing,
+    );
+    says(&rt, alloc, &deleted(alloc, 8, 1, b), Noted::BeforePacket(b));
+    says(
+        &rt,
+        alloc,
+        &moved(8, Tag::Base(2), None, None),
+        Noted::BeforePacket(None),
+    );
+}
+
+#[test]
+fn copies_of_groups(rt: HostRuntime) {
+    let alloc = rt.alloc();
+    let b = Some(Tag::Base(2));
+    says(
+        &rt,
+        alloc,
+        &added(&rt, alloc, 8, None, id(7)),
+        Noted::Nothing,
+    );
+    says(
+        &rt,
+        alloc,
+        &dropped(&rt, alloc, 8, 1, b, id(101), id(100)),
+        Noted::BeforeGroup(b),
+    );
+    says(
+        &rt,
+        alloc,
+        &renumbered(8, 1, id(101), 300),
+        Noted::Number(101),
+    );
+    says(&rt, alloc, &turned(8, 1, id(101)), Noted::Nothing);
+}

@@ -1,6 +1,7 @@
 //! A list of bits in packed bytes.
 
 ghost use Rattle.std.specs.Prelude.{◌≡◌, ◌≤◌, ◌==◌, [], length, IfOk, IsOkUnless};
+ghost use Rattle.balise_rules.specs.Bits.{zeros};
 
 mod digits;
 mod equal;
@@ -8,7 +9,7 @@ mod numbers;
 mod parts;
 
 use crate::fault::BitsFault;
-use crate::store::Store;
+use crate::store::{MOST, Store};
 use std::alloc::Global;
 use std::marker::Model;
 
@@ -45,6 +46,19 @@ impl Bits {
         ensures fault { IsOkUnless result BitsFault.OutOfMemory }
     {
         let bytes = Store::with_capacity(alloc, len.div_ceil(8))?;
+        Ok(Bits { bytes })
+    }
+
+    // So many zeros.
+    fn zeros(alloc: Global, len: usize) -> Result<Bits, BitsFault>
+        ensures ok { IfOk result (λ b. b ≡ zeros len) }
+        ensures fault { IsOkUnless result BitsFault.OutOfMemory }
+    {
+        let count = len.div_ceil(8);
+        if count > MOST {
+            return Err(BitsFault::OutOfMemory);
+        }
+        let bytes = Store::zeros(alloc, count, (8 * count - len) as u8)?;
         Ok(Bits { bytes })
     }
 

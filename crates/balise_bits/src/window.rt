@@ -34,6 +34,7 @@ pub(crate) fn number_in(window: &[u8]) -> u64
 }
 
 /// Writes a number that fits over at most eight bytes, the first byte highest.
+#[inline(always)]
 pub(crate) fn put_in(window: &mut [u8], number: u64)
     requires few { length window.old ≤ 8 }
     requires fits { number < 2 ^ (8 * length window.old) }
@@ -65,6 +66,7 @@ pub(crate) fn number_before(window: &[u8], behind: usize, width: u32) -> u32
 }
 
 /// Puts a number over the `width` bits with `behind` bits behind them. All other bits stay.
+#[inline(always)]
 pub(crate) fn put_over(window: &mut [u8], behind: usize, width: u32, value: u32)
     requires few { length window.old ≤ 5 }
     requires within { behind + width ≤ 8 * length window.old }

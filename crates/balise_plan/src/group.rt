@@ -10,7 +10,7 @@ ghost use Rattle.std.specs.Prelude.{◌≡◌, eqb, length, option_map, slice_ge
 ghost use Rattle.balise_rules.specs.Plan.{Group as GroupValue, identity_of};
 ghost use Rattle.balise_rules.specs.Tagged.{find as under};
 
-use balise_rules::{Id, Var};
+use balise_rules::Id;
 use balise_telegram::Balise;
 use std::marker::Model;
 
@@ -80,13 +80,7 @@ fn identity(telegrams: &Vec<(u32, Balise)>) -> Id
     ensures { result ≡ identity_of telegrams.now.items }
 {
     match telegrams.get(0) {
-        Some((_, telegram)) => {
-            let header = telegram.header();
-            Id {
-                country: header.get(Var::NidC).unwrap_or(0),
-                number: header.get(Var::NidBg).unwrap_or(0),
-            }
-        }
+        Some((_, telegram)) => telegram.identity(),
         None => Id {
             country: 0,
             number: 0,

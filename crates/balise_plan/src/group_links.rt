@@ -9,13 +9,14 @@ ghost use Rattle.balise_plan.specs.GroupLinks.{links_from, links_in_group, links
 ghost use Rattle.balise_plan.specs.Links.{held, AreFull, Keeps};
 
 use crate::group::Group;
+use crate::link_set::Links;
 use crate::links::LinkPlace;
 use crate::links_of::count;
 use crate::names::{add, forget};
 use balise_rules::{Id, Refusal, Tag};
 use balise_telegram::Balise;
 use std::alloc::{AllocError, Global};
-use std::collections::{BTreeMap, BTreeSet};
+use std::collections::BTreeMap;
 
 /// Each link of a group with its place, in order.
 pub(crate) fn links_in(
@@ -84,11 +85,7 @@ fn add_packet(
 }
 
 /// Forgets the first `n` of these links. Takes no memory.
-pub(crate) fn forget_first(
-    names: &mut BTreeMap<Id, BTreeSet<LinkPlace>>,
-    links: &Vec<(Id, LinkPlace)>,
-    n: usize,
-)
+pub(crate) fn forget_first(names: &mut BTreeMap<Id, Links>, links: &Vec<(Id, LinkPlace)>, n: usize)
     requires { n ≤ length links.now.items }
     ensures forgotten { ForgetsAll (take n links.now.items) names.old names.new }
     ensures full { AreFull names.old → AreFull names.new }
@@ -102,7 +99,7 @@ pub(crate) fn forget_first(
 /// Notes these links, of which none is noted. Leaves all as before where memory is wanting.
 pub(crate) fn add_all(
     alloc: Global,
-    names: &mut BTreeMap<Id, BTreeSet<LinkPlace>>,
+    names: &mut BTreeMap<Id, Links>,
     links: &Vec<(Id, LinkPlace)>,
 ) -> Result<(), AllocError>
     requires none { (q : Id) (w : LinkPlace) → listed q w links.now.items ≡ true → held names.old q w ≡ false }

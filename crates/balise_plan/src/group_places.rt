@@ -1,21 +1,23 @@
 //! A group put into a plan's groups and indexes.
 
 ghost use Rattle.std.specs.Prelude.{◌≡◌, ◌≤◌, is_some, insert, IfErr, IfSome, None, OnOk};
+ghost use Rattle.std.specs.BTreeMap.{get};
 ghost use Rattle.balise_rules.specs.Plan.{group_named, identity_of, Group as GroupValue, IsSoundGroup};
 ghost use Rattle.balise_rules.specs.Tagged.{find};
 ghost use Rattle.balise_rules.specs.Tags.{same_tag};
 ghost use Rattle.balise_plan.specs.Held.{IsHeld};
+ghost use Rattle.balise_plan.specs.Links.{compare_id};
 ghost use Rattle.balise_plan.specs.Spots.{put_in, spot_stands};
 ghost use Rattle.indexmap.specs.IndexMap.{index_map_len};
 
 use crate::group::Group;
 use crate::group_links::{add_all, links_in};
-use crate::links::LinkPlace;
+use crate::link_set::Links;
 use crate::spot::Spot;
 use balise_rules::{Id, Tag};
 use indexmap::IndexMap;
 use std::alloc::{AllocFailed, Global};
-use std::collections::{BTreeMap, BTreeSet};
+use std::collections::BTreeMap;
 
 /// The place that a spot names.
 pub(crate) fn place_of(groups: &IndexMap<Tag, Group>, spot: Spot<Tag>) -> Option<usize>
@@ -35,12 +37,24 @@ pub(crate) fn place_of(groups: &IndexMap<Tag, Group>, spot: Spot<Tag>) -> Option
     }
 }
 
+/// Whether a group has an identity. Groups are mostly read in the order of their identities: the last one is seen first.
+pub(crate) fn is_taken(identities: &BTreeMap<Id, Tag>, id: Id) -> bool
+    ensures { result ≡ is_some (get compare_id identities.now id) }
+{
+    if let Some((last, _)) = identities.last_key_value() {
+        if last.cmp(&id).is_lt() {
+            return false;
+        }
+    }
+    identities.get(&id).is_some()
+}
+
 /// Puts a group of a new identity in at a place, under a tag that is new, and notes its identity and its links. Where
 /// memory is wanting, all stays and the group is handed back.
 pub(crate) fn put_at(
     groups: &mut IndexMap<Tag, Group>,
     identities: &mut BTreeMap<Id, Tag>,
-    names: &mut BTreeMap<Id, BTreeSet<LinkPlace>>,
+    names: &mut BTreeMap<Id, Links>,
     i: usize,
     g: Tag,
     group: Group,

@@ -5,6 +5,8 @@ mod change;
 mod group;
 mod group_links;
 mod group_places;
+mod link_list;
+mod link_set;
 mod links;
 mod links_of;
 mod names;
@@ -22,6 +24,7 @@ pub use balise_rules::{
 };
 pub use balise_telegram::{Balise, Telegram};
 pub use group::Group;
+pub use link_set::Links;
 pub use links::LinkPlace;
 pub use plan::Plan;
 pub use spot::Spot;

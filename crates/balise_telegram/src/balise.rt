@@ -7,6 +7,7 @@ ghost use Rattle.std.specs.Prelude.{◌≡◌, ◌≢◌, ◌≤◌, IfErr, IfOk
 ghost use Rattle.balise_rules.specs.declared.variable.Var.TheVariants.{NidPacket};
 ghost use Rattle.balise_rules.specs.Digits.{hex_of};
 ghost use Rattle.balise_rules.specs.Packet.{field_of, value};
+ghost use Rattle.balise_rules.specs.Plan.{identity_in};
 ghost use Rattle.balise_rules.specs.Tagged.{Distinct};
 ghost use Rattle.balise_rules.specs.Tags.{same_tag};
 ghost use Rattle.balise_rules.specs.Telegram.{read_telegram, room, shown, used, version_of, IsLength};
@@ -135,6 +136,16 @@ impl Balise {
         match &self.held {
             Held::Packed(telegram) => telegram.head(var),
             Held::Open(telegram) => telegram.head(var),
+        }
+    }
+
+    /// The identity of its group, as the header has it.
+    pub fn identity(&self) -> Id
+        ensures { result ≡ identity_in self.now }
+    {
+        match &self.held {
+            Held::Packed(telegram) => telegram.identity(),
+            Held::Open(telegram) => telegram.identity(),
         }
     }
 

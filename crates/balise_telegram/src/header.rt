@@ -6,12 +6,12 @@ ghost use Rattle.balise_rules.specs.Forms.{spelling};
 ghost use Rattle.balise_rules.specs.Packet.{field_of, value, with_value};
 ghost use Rattle.balise_rules.specs.Telegram.{is_balise, read_header};
 ghost use Rattle.balise_rules.specs.Variables.{is_free_in_header, width_of};
-ghost use Rattle.balise_rules.specs.declared.variable.Var.TheVariants.{MVersion, NidBg, NPig};
+ghost use Rattle.balise_rules.specs.declared.variable.Var.TheVariants.{MVersion, NidBg, NidC, NPig};
 ghost use Rattle.balise_telegram.specs.Setting.{SetsFields};
 
 use crate::fault::TelegramFault;
 use balise_bits::{Bits, BitsFault};
-use balise_rules::Var;
+use balise_rules::{Id, Var};
 use std::marker::Model;
 
 /// The ten fields of a header, 50 bits (SUBSET-026, 8.4.2). In bits, in the order of the standard: Q_UPDOWN 1,
@@ -61,6 +61,26 @@ impl Header {
         }
     }
 
+    /// M_VERSION of the header in the first 50 of a telegram's bits.
+    pub(crate) fn version_in(bits: &Bits) -> u32
+        requires { 50 ≤ length bits.now }
+        ensures { result ≡ value MVersion 0 (read_header bits.now) }
+    {
+        bits.number(1, 7)
+    }
+
+    /// NID_C and NID_BG of the header in the first 50 of a telegram's bits.
+    pub(crate) fn identity_in(bits: &Bits) -> Id
+        requires { 50 ≤ length bits.now }
+        ensures country { result.country ≡ value NidC 0 (read_header bits.now) }
+        ensures number { result.number ≡ value NidBg 0 (read_header bits.now) }
+    {
+        Id {
+            country: bits.number(25, 10),
+            number: bits.number(35, 14),
+        }
+    }
+
     /// Writes its 50 bits at the end of others. On want of memory some of them stand there.
     pub(crate) fn write(&self, bits: &mut Bits) -> Result<(), BitsFault>
         ensures ok { OnOk result (bits.new ≡ bits.old ++ spelling self.now) }
@@ -107,6 +127,17 @@ impl Header {
         ensures { result ≡ value MVersion 0 self.now }
     {
         u32::from(self.m_version)
+    }
+
+    /// NID_C and NID_BG.
+    pub(crate) fn identity(&self) -> Id
+        ensures country { result.country ≡ value NidC 0 self.now }
+        ensures number { result.number ≡ value NidBg 0 self.now }
+    {
+        Id {
+            country: u32::from(self.nid_c),
+            number: u32::from(self.nid_bg),
+        }
     }
 
     /// Whether it is from track to train (Q_UPDOWN is 1), and a balise's (Q_MEDIA is 0).

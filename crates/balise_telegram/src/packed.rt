@@ -5,6 +5,7 @@ mod packets;
 
 ghost use Rattle.std.specs.Prelude.{◌≡◌, ◌≢◌, ◌≤◌, List, Bool, drop, IfErr, IfOk, IsOkUnless, length, Ok, Err};
 ghost use Rattle.balise_rules.specs.Packet.{field_of, Packet};
+ghost use Rattle.balise_rules.specs.Plan.{identity_in};
 ghost use Rattle.balise_rules.specs.Telegram.{read_packets, read_telegram, shown, used, version_of, IsLength};
 ghost use Rattle.balise_rules.specs.declared.tag.Tag.{Tag};
 ghost use Rattle.balise_telegram.specs.Faults.{refusal_of};
@@ -14,7 +15,7 @@ use crate::header::Header;
 use crate::telegram::Telegram;
 use balise_bits::Bits;
 use balise_layout::Packet;
-use balise_rules::Var;
+use balise_rules::{Id, Var};
 use std::marker::Model;
 
 /// A telegram of 210 or 830 bits, held as the bits that it shows. Its packets are tagged `Base` by their places.
@@ -104,11 +105,18 @@ impl PackedTelegram {
         self.header().get(var)
     }
 
+    /// The identity of its group, as the header has it.
+    pub(crate) fn identity(&self) -> Id
+        ensures { result ≡ identity_in self.now }
+    {
+        Header::identity_in(&self.packed)
+    }
+
     /// M_VERSION, of 7 bits.
     pub fn version(&self) -> u32
         ensures { result ≡ version_of self.now }
     {
-        self.header().version()
+        Header::version_in(&self.packed)
     }
 }
 

@@ -9,6 +9,7 @@ ghost use Rattle.balise_rules.specs.declared.variable.Var.TheVariants.{NidPacket
 ghost use Rattle.balise_rules.specs.Packet.{field_of, value};
 ghost use Rattle.balise_rules.specs.Tagged.{find, Distinct};
 ghost use Rattle.balise_rules.specs.Tags.{same_tag};
+ghost use Rattle.balise_rules.specs.Plan.{identity_in};
 ghost use Rattle.balise_rules.specs.Telegram.{IsLength, read_packets, read_telegram, room, shown, used, version_of};
 ghost use Rattle.balise_telegram.specs.Faults.{refusal_of};
 ghost use Rattle.balise_telegram.specs.Packed.{links_at};
@@ -187,6 +188,13 @@ impl Telegram {
         ensures fits { used self.now.packets ≤ length self.now.padding }
     {
         self.width() - self.used()
+    }
+
+    /// The identity of its group, as the header has it.
+    pub(crate) fn identity(&self) -> Id
+        ensures { result ≡ identity_in self.now }
+    {
+        self.header.identity()
     }
 
     /// M_VERSION, of 7 bits.

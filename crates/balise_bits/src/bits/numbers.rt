@@ -41,8 +41,14 @@ impl Bits {
         }
         let bytes = self.bytes.as_mut_slice();
         let count = bytes.len();
+        let first = at / 8;
+        if first + WINDOW <= count {
+            let spare = 8 * WINDOW - at % 8 - width as usize;
+            put_over(&mut bytes[first..first + WINDOW], spare, width, value);
+            return;
+        }
         let size = count.min(WINDOW);
-        let first = (at / 8).min(count - size);
+        let first = count - size;
         let behind = 8 * size - (at - 8 * first) - width as usize;
         put_over(&mut bytes[first..first + size], behind, width, value);
     }

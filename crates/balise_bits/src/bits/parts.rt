@@ -14,8 +14,8 @@ impl Bits {
         ensures ok { IfOk result (λ b. b ≡ part at len self.now) }
         ensures fault { IsOkUnless result BitsFault.OutOfMemory }
     {
-        let mut slice = Bits::new(self.bytes.allocator());
-        slice.append_part(self, at, len)?;
+        let mut slice = Bits::zeros(self.bytes.allocator(), len)?;
+        slice.put_part(0, self, at, len);
         Ok(slice)
     }
 
@@ -49,6 +49,10 @@ impl Bits {
     {
         // Lengths are numbers of 64 bits, so the places below are too.
         let _lengths = (self.len(), other.len());
+        if len <= 32 {
+            self.put(to, len as u32, other.number(at, len as u32));
+            return;
+        }
         let head = ((8 - to % 8) % 8).min(len);
         self.put(to, head as u32, other.number(at, head as u32));
         let whole = (len - head) / 8;

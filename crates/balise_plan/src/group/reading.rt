@@ -54,10 +54,7 @@ fn agree(telegrams: &Vec<(u32, Balise)>, id: Id) -> bool
         let header = telegrams[i].1.header();
         let place = header.get(Var::NPig).unwrap_or(0);
         let total = header.get(Var::NTotal).unwrap_or(0);
-        let own = Id {
-            country: header.get(Var::NidC).unwrap_or(0),
-            number: header.get(Var::NidBg).unwrap_or(0),
-        };
+        let own = telegrams[i].1.identity();
         if (place as usize != i) | (total + 1 != last) | (own != id) {
             return false;
         }

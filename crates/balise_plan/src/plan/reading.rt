@@ -5,7 +5,7 @@ ghost use Rattle.balise_rules.specs.Plan.{read_plan};
 ghost use Rattle.balise_plan.specs.Spots.{Pushes};
 
 use crate::group::Group;
-use crate::group_places::put_at;
+use crate::group_places::{is_taken, put_at};
 use crate::plan::Plan;
 use balise_bits::Bits;
 use balise_rules::{Refusal, Tag};
@@ -41,7 +41,7 @@ impl Plan {
             Err(fault) => return Err(fault),
         };
         let own = group.identity();
-        if self.identities.get(&own).is_some() {
+        if is_taken(&self.identities, own) {
             return Err(Refusal::GroupTwice);
         }
         let place = self.groups.len();

@@ -9,28 +9,42 @@ pub(crate) fn agrees(rt: &impl Abort, alloc: Global, plan: &Plan, others: &[Id])
     let found = links(rt, alloc, plan);
     let mut same = true;
     for (id, _) in &found {
-        same &= answers(plan, &found, *id);
+        same &= answers(rt, alloc, plan, &found, *id);
     }
     for i in 0..plan.count() {
         if let Some((_, group)) = plan.at(i) {
-            same &= answers(plan, &found, group.identity());
+            same &= answers(rt, alloc, plan, &found, group.identity());
         }
     }
     for id in others.iter() {
-        same &= answers(plan, &found, *id);
+        same &= answers(rt, alloc, plan, &found, *id);
     }
     same
 }
 
-/// Whether the plan answers for an identity the places that were found.
-fn answers(plan: &Plan, found: &Vec<(Id, LinkPlace)>, id: Id) -> bool {
+/// Whether the plan answers for an identity the places that were found, in order.
+fn answers(
+    rt: &impl Abort,
+    alloc: Global,
+    plan: &Plan,
+    found: &Vec<(Id, LinkPlace)>,
+    id: Id,
+) -> bool {
     let Some(links) = plan.links_to(id) else {
         return found.iter().all(|link| link.0 != id);
     };
     let count = found.iter().filter(|link| link.0 == id).count();
-    let mut same = (count > 0) & (links.len() == count);
+    let mut same = (count > 0) & !links.is_empty() & (links.len() == count);
     for (named, place) in found {
         same &= (*named != id) | links.contains(place);
+    }
+    let list = links.listed(alloc).expect(rt, "memory");
+    same &= list.len() == count;
+    for i in 1..list.len() {
+        same &= list[i - 1] < list[i];
+    }
+    for place in &list {
+        same &= links.contains(place);
     }
     same
 }

@@ -77,7 +77,7 @@ impl PackedTelegram {
         let Some(at) = self.place_of(tag) else {
             return Ok(Vec::new(self.packed.allocator()));
         };
-        let country = self.head(Var::NidC).unwrap_or(0);
+        let country = self.identity().country;
         let links = Packet::links_in(&self.packed, at, self.version(), country)?;
         Ok(links)
     }

@@ -7,7 +7,7 @@ use crate::tests::packets::{
     EXCHANGED, FIVE, NINE, ONE_PACKET, Outcome, handed_back, packet, packet_bits,
 };
 use crate::tests::{TWO_PACKETS, bits};
-use crate::{Balise, Packet, PacketTag, TelegramFault, Var};
+use crate::{Balise, Id, Packet, PacketTag, TelegramFault, Var};
 use std::alloc::Global;
 use std::process::Abort;
 
@@ -66,6 +66,13 @@ fn answers_in_either_form(rt: HostRuntime) {
         assert_eq!(rt; balise.used(), 120);
         assert_eq!(rt; balise.room(), 90);
         assert_eq!(rt; balise.version(), 33);
+        assert!(rt;
+            balise.identity()
+                == Id {
+                    country: 5,
+                    number: 100
+                }
+        );
         assert!(rt; balise.head(Var::MMcount) == Some(255));
         assert!(rt; balise.head(Var::NidTsr).is_none());
         for (i, restriction) in [(0, 5), (1, 7)] {

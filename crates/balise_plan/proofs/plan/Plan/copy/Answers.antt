@@ -1,8 +1,7 @@
-use Rattle.std.proofs.Common.{◌≡◌, ◌∙◌, ◌<◌, List, take, ap, sym, subst, arith}
+use Rattle.std.proofs.Common.{◌≡◌, ◌∙◌, ◌<◌, take, ap, sym, subst, arith}
 use Rattle.std.specs.BTreeMap as map
 use Rattle.std.specs.BTreeSet as set
 use Rattle.balise_rules.specs.declared.identity.Id.{Id}
-use Rattle.balise_plan.specs.declared.links.LinkPlace.{LinkPlace}
 use Rattle.std.specs.Map.{lookup}
 use Rattle.std.specs.Ordering.{is_eq}
 use Rattle.std.specs.Option.{IfSome}
@@ -28,9 +27,6 @@ loop-i-preserved c =
 pairs : {A B : Type 0} (x y : A × B) → x.0 ≡ y.0 → x.1 ≡ y.1 → x ≡ y
 pairs x y a b = ap (λ k. (k, x.1)) a ∙ ap (λ v. (y.0, v)) b
 
-same_set : (x y : set.BTreeSet LinkPlace) → x.keys ≡ y.keys → x ≡ y
-same_set x y e = ap (λ (k : List LinkPlace). record { keys = k }) e
-
 -- a map of the same entries answers the same
 same_get : {V : Type 0} (x y : map.BTreeMap Id V) → x.entries ≡ y.entries → (i : Id) → map.get compare_id x i ≡ map.get compare_id y i
 same_get x y e i = ap (λ l. lookup (λ j. is_eq (compare_id i j)) l) e
@@ -39,7 +35,7 @@ pub invariant_of-result-2 : goal.invariant_of-result-2
 invariant_of-result-2 c =
     let plan = c.self.inside.groups.entries in
     let ids = same_get c.self.inside.identities c.in_ok-clone.field-0 (cloned _ (λ x y z. pairs x y (sym z.0) (sym z.1)) c.self.inside.identities.entries c.in_ok-clone.field-0.entries c.in_ok-clone.ensures.cases) in
-    let names = same_get c.self.inside.names c.in_ok-clone-2.field-0 (cloned _ (λ x y z. pairs x y (sym z.0) (same_set x.1 y.1 (cloned _ (λ a b w. sym w) x.1.keys y.1.keys z.1))) c.self.inside.names.entries c.in_ok-clone-2.field-0.entries c.in_ok-clone-2.ensures.cases) in
+    let names = same_get c.self.inside.names c.in_ok-clone-2.field-0 (cloned _ (λ x y z. pairs x y (sym z.0) (sym z.1)) c.self.inside.names.entries c.in_ok-clone-2.field-0.entries c.in_ok-clone-2.ensures.cases) in
     let h = c.self.invariant.held in
     let all : c.groups-2.inside.columns.entries ≡ plan = ap (λ gs. gs.entries) c.groups-2.view_is ∙ c.loop-i.invariant ∙ take_all c.loop-i.i plan (omega (arith, c.loop-i-test.false, c.len-i-end.ensures.len)) in
     kept-as c.self.invariant all (subst (IsHeld c.in_ok-clone.field-0 c.in_ok-clone-2.field-0) (sym all) (record {

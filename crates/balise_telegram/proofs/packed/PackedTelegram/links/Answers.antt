@@ -1,4 +1,5 @@
-use Rattle.std.proofs.Common.{◌≡◌, ◌∙◌, ℕ, Option, unwrap_or, drop, ap, sym, subst}
+use Rattle.std.proofs.Common.{◌≡◌, ◌∙◌, ℕ, drop, ap, sym, subst}
+use Rattle.balise_rules.specs.declared.identity.Id.{Id}
 use Rattle.balise_rules.specs.Packet.{read_first}
 use Rattle.balise_rules.specs.Telegram.{Telegram, version_of, IsRead}
 use Rattle.balise_rules.specs.Names.{links_of}
@@ -18,11 +19,11 @@ returns-clause-ok c =
     let b = c.self.inside.packed in
     let y = c.args.self.now in
     let r : IsRead b y = subst (λ (x : Telegram). IsRead b x) c.self.view_is (held_read b c.self.invariant) in
-    let country : c.unwrap_or-country.result ≡ country_of y = c.unwrap_or-country.ensures ∙ ap (λ (o : Option ℕ). unwrap_or o 0) c.head.ensures in
+    let country : c.identity-country.result.country ≡ country_of y = ap (λ (i : Id). i.country) c.identity-country.ensures in
     let l = there b y c.args.tag c.in-Some.at r (sym c.in-Some.ensures.place) in
     let read = ap (read_first (version_of y)) l.shows ∙ first_again (version_of y) l.packet l.behind l.spelt in
     c.in_ok-links.ensures.ok
-    ∙ ap (λ (v : ℕ). links_read c.unwrap_or-country.result (read_first v (drop c.in-Some.at b))) c.version.ensures
-    ∙ ap (links_read c.unwrap_or-country.result) read
+    ∙ ap (λ (v : ℕ). links_read c.identity-country.result.country (read_first v (drop c.in-Some.at b))) c.version.ensures
+    ∙ ap (links_read c.identity-country.result.country) read
     ∙ ap (λ (k : ℕ). links_of k l.packet) country
     ∙ sym (ap (links_found (country_of y)) l.is)

@@ -1,0 +1,29 @@
+-- The places that name one identity, in a list or in a tree.
+use Rattle.std.specs.Prelude.{◌≡◌, ℕ, Bool, false, cond, List, Option, Some, None}
+use Rattle.std.specs.List.{position_or_len}
+use Rattle.std.specs.Ordering.{is_le}
+use Rattle.balise_plan.specs.declared.links.LinkPlace.{LinkPlace}
+use Rattle.balise_plan.specs.declared.link_set.Held.{Held}
+use Rattle.balise_plan.specs.declared.link_set.Held.TheVariants.{Few, Many}
+use Rattle.balise_plan.specs.Links.{Links, compare_place, is_place}
+use Rattle.balise_plan.specs.Walks.{among}
+
+abbrev pub places_held : Held → Links
+places_held (Few list) = record { keys = list.items }
+places_held (Many tree) = tree
+
+-- how many places come before w
+abbrev pub rank : LinkPlace → List LinkPlace → ℕ
+rank w vs = position_or_len (λ v. is_le (compare_place w v)) vs
+
+abbrev pub stands : LinkPlace → Option LinkPlace → Bool
+stands w None = false
+stands w (Some v) = is_place w v
+
+-- w is there exactly if b is true, and each other place exactly if it was
+abbrev pub PutsIn : List LinkPlace → List LinkPlace → LinkPlace → Bool → Type 0
+PutsIn old new w b = (v : LinkPlace) → among v new ≡ cond (is_place w v) b (among v old)
+
+-- the same of sets
+abbrev pub Puts : Links → Links → LinkPlace → Bool → Type 0
+Puts old new w b = PutsIn old.keys new.keys w b

@@ -37,7 +37,7 @@ pub(crate) fn place_of(groups: &IndexMap<Tag, Group>, spot: Spot<Tag>) -> Option
     }
 }
 
-/// Whether a group has an identity. Groups are mostly read in the order of their identities: the last one is seen first.
+/// Whether a group has an identity. Groups mostly come in the order of their identities, so the last is seen first.
 pub(crate) fn is_taken(identities: &BTreeMap<Id, Tag>, id: Id) -> bool
     ensures { result ≡ is_some (get compare_id identities.now id) }
 {

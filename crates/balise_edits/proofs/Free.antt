@@ -1,5 +1,5 @@
 -- Putting back in front of an old next neighbour isn't refused, where all that it asks holds.
-use Rattle.std.proofs.Common.{◌≡◌, ◌∙◌, ◌+◌, ◌≤◌, ℕ, nat_lt, Bool, true, false, not, List, ◌∷◌, is_some, is_none, Option, Some, None, refl, sym, ap, option_and_then, arith}
+use Rattle.std.proofs.Common.{◌≡◌, ◌∙◌, ℕ, nat_lt, Bool, false, not, List, ◌∷◌, is_some, is_none, Option, Some, None, refl, ap, option_and_then, arith}
 use Rattle.std.proofs.lemmas.Bool.{or_from, le-ltb}
 use Rattle.balise_rules.specs.declared.tag.Tag.{Tag}
 use Rattle.balise_rules.specs.declared.refusal.Refusal.{Refusal}

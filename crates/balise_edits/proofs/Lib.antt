@@ -10,3 +10,7 @@ pub mod SetNames
 pub mod Bare
 pub mod Items
 pub mod Trying
+pub mod FoundLines
+pub mod Gathering
+pub mod Linked
+pub mod TurnedLines

@@ -1,14 +1,13 @@
 -- What putting a packet or a group in makes of a plan is what the edit makes.
-use Rattle.std.proofs.Common.{◌≡◌, ◌∙◌, ℕ, Bool, true, false, ◌&&◌, cond, eqb, not, List, [], ◌∷◌, Option, Ok, refl, sym, ap}
+use Rattle.std.proofs.Common.{◌≡◌, ◌∙◌, ℕ, Bool, true, false, ◌&&◌, cond, eqb, not, List, [], ◌∷◌, Option, Ok, sym, ap}
 use Rattle.balise_rules.specs.declared.tag.Tag.{Tag}
 use Rattle.balise_rules.specs.declared.tag.Tag.TheVariants.{Fresh}
-use Rattle.balise_rules.specs.declared.identity.Id.{Id}
 use Rattle.balise_rules.specs.Tagged.{each, put, changed, stands, Each, Put}
 use Rattle.balise_rules.specs.Tags.{same_tag}
 use Rattle.balise_rules.specs.Packet.{Packet}
 use Rattle.balise_rules.specs.Telegram.{Telegram}
 use Rattle.balise_rules.specs.Plan.{Group, Plan, identity_of, read_group}
-use Rattle.balise_rules.specs.Edits.{AddGroup, InsertPacket, group_of, group_or_none, telegram_after}
+use Rattle.balise_rules.specs.Edits.{AddGroup, InsertPacket, group_of, group_or_none}
 use Rattle.balise_rules.specs.Back.{in_packets, with_packets}
 use Rattle.balise_rules.specs.Names.{names_in}
 use Rattle.balise_rules.specs.Notes.{noted, nothing}

@@ -6,3 +6,4 @@ pub mod Homes
 pub mod Anchors
 pub mod Lines
 pub mod Standing
+pub mod Reviews

@@ -3,8 +3,8 @@ use Rattle.std.specs.Prelude.{◌≡◌, ◌⊎◌, ◌+◌, Some, None, Result,
 use Rattle.balise_rules.specs.declared.refusal.Refusal.{Refusal}
 use Rattle.balise_rules.specs.declared.refusal.Refusal.TheVariants.{OutOfMemory}
 use Rattle.balise_rules.specs.Plan as rules
-use Rattle.balise_rules.specs.Edits.{Edit, Item}
-use Rattle.balise_rules.specs.Notes.{Note, noted, without_content}
+use Rattle.balise_rules.specs.Edits.{Item}
+use Rattle.balise_rules.specs.Notes.{noted, without_content}
 use Rattle.balise_rules.specs.Doing.{done, refusal}
 use Rattle.balise_rules.specs.Back.{back}
 use Rattle.balise_rules.specs.Paths.{Entry}

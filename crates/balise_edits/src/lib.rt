@@ -14,6 +14,7 @@ mod meeting;
 mod naming;
 mod note;
 mod path;
+mod reviewing;
 #[cfg(test)]
 mod tests;
 
@@ -21,6 +22,7 @@ pub use balise_plan::{
     Address, Balise, Bits, Group, GroupTag, Id, LinkPlace, Packet, PacketTag, Place, Plan, Refusal,
     Refusal as EditFault, Spot, Tag, Telegram, Var,
 };
+pub use balise_rules::{ReviewLine, Reviewed};
 pub use doing::{again, apply, take_back};
 pub use edit::Edit;
 pub use entry::Entry;
@@ -28,3 +30,4 @@ pub use independence::{apart, independent, re_anchor, stands_behind};
 pub use line::{Line, LineEdit, Noted};
 pub use listing::{changed_places, needed_places};
 pub use path::{InGroup, InPacket, InTelegram, Path};
+pub use reviewing::review;

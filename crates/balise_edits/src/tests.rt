@@ -2,6 +2,7 @@
 //! lines.
 
 mod doing;
+mod reviews;
 mod rows;
 
 use crate::edit::Edit;

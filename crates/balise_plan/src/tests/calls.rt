@@ -146,6 +146,9 @@ fn answers_questions(rt: HostRuntime) {
     assert!(rt; at(&plan, 1) == Some((SECOND, second)));
     assert!(rt; at(&plan, 2).is_none());
     assert!(rt; plan.tag_of(second) == Some(SECOND));
+    assert_eq!(rt; plan.place_of(FIRST), Some(0));
+    assert_eq!(rt; plan.place_of(SECOND), Some(1));
+    assert!(rt; plan.place_of(NEW).is_none());
     assert!(rt; plan.group(NEW).is_none());
     let group = plan.group(SECOND).expect(&rt, "a group");
     assert_eq!(rt; group.count(), 1);

@@ -1,4 +1,4 @@
-use Rattle.std.proofs.Common.{◌≡◌, ◌∙◌, inl, refl}
+use Rattle.std.proofs.Common.{◌∙◌, inl, refl}
 use Rattle.balise_rules.specs.declared.variable.Var.TheVariants.{NidBg}
 use Rattle.balise_edits.proofs.SetNames.{listed, number_names}
 use Rattle.balise_edits.proofs.naming.names_of_number.Goals as goal

@@ -1,4 +1,4 @@
-use Rattle.std.proofs.Common.{◌≡◌, ◌∙◌, inr, refl}
+use Rattle.std.proofs.Common.{◌∙◌, inr, refl}
 use Rattle.balise_rules.specs.declared.variable.Var.TheVariants.{QLinkorientation}
 use Rattle.balise_edits.proofs.SetNames.{listed, orientation_names}
 use Rattle.balise_edits.proofs.naming.names_of_orientation.Goals as goal

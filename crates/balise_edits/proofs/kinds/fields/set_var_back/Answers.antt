@@ -1,4 +1,4 @@
-use Rattle.std.proofs.Common.{◌≡◌, ◌∙◌, None, Some, inl, inr, refl, ap, subst, sym}
+use Rattle.std.proofs.Common.{◌≡◌, ◌∙◌, None, inl, inr, refl, ap, subst, sym}
 use Rattle.balise_rules.specs.Doing.{done, refusal}
 use Rattle.balise_rules.specs.Edits.{SetVar}
 use Rattle.balise_edits.specs.Standing.{changed_to}

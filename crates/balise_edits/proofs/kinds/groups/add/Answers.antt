@@ -1,4 +1,4 @@
-use Rattle.std.proofs.Common.{◌≡◌, ◌∙◌, Ok, ap, sym}
+use Rattle.std.proofs.Common.{◌∙◌, ap, sym}
 use Rattle.balise_rules.specs.Plan.{read_group}
 use Rattle.balise_edits.proofs.kinds.groups.add.Goals as goal
 

@@ -1,4 +1,4 @@
-use Rattle.std.proofs.Common.{◌≡◌, None, Some, inl, inr, refl, subst, sym}
+use Rattle.std.proofs.Common.{◌≡◌, None, inl, inr, refl, subst, sym}
 use Rattle.balise_rules.specs.declared.tag.Tag.TheVariants.{Fresh}
 use Rattle.balise_rules.specs.Doing.{refusal}
 use Rattle.balise_rules.specs.Edits.{AddGroup, DropGroup}

@@ -1,4 +1,4 @@
-use Rattle.std.proofs.Common.{◌≡◌, ◌∙◌, None, Some, inl, inr, refl, ap, subst, sym}
+use Rattle.std.proofs.Common.{◌≡◌, ◌∙◌, None, Some, inl, inr, ap, subst, sym}
 use Rattle.balise_rules.specs.Edits.{DropGroup}
 use Rattle.balise_rules.specs.Plan.{IsSound, IsSoundGroup}
 use Rattle.balise_rules.specs.Paths.{Entry}

@@ -1,7 +1,7 @@
 use Rattle.std.proofs.Common.{◌≡◌, ◌∙◌, ap}
 use Rattle.balise_rules.specs.declared.identity.Id.{Id}
 use Rattle.balise_rules.specs.Names.{names_in}
-use Rattle.balise_rules.specs.Notes.{Note, nothing}
+use Rattle.balise_rules.specs.Notes.{nothing}
 use Rattle.balise_rules.specs.Plan.{identity_of}
 use Rattle.balise_edits.proofs.PutIn.{added_noted}
 use Rattle.balise_edits.proofs.kinds.groups.note_added.Goals as goal

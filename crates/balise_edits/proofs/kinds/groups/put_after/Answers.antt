@@ -1,4 +1,4 @@
-use Rattle.std.proofs.Common.{◌≡◌, ◌∙◌, ap}
+use Rattle.std.proofs.Common.{◌∙◌, ap}
 use Rattle.balise_edits.specs.Standing.{changed_to}
 use Rattle.balise_edits.proofs.PutIn.{added_is, added_refusal}
 use Rattle.balise_edits.proofs.kinds.groups.put_after.Goals as goal

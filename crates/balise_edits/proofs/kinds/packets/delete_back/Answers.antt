@@ -1,4 +1,4 @@
-use Rattle.std.proofs.Common.{◌≡◌, ◌∙◌, None, Some, inl, inr, refl, ap, subst, sym}
+use Rattle.std.proofs.Common.{◌≡◌, ◌∙◌, None, Some, inl, inr, ap, subst, sym}
 use Rattle.balise_rules.specs.Edits.{DeletePacket}
 use Rattle.balise_rules.specs.Packet.{IsSpelt}
 use Rattle.balise_rules.specs.Tagged.{find}

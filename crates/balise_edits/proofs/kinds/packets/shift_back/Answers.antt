@@ -1,4 +1,4 @@
-use Rattle.std.proofs.Common.{◌≡◌, ◌∙◌, None, Some, inl, inr, refl, ap, subst, sym}
+use Rattle.std.proofs.Common.{◌≡◌, ◌∙◌, None, inl, inr, refl, ap, subst, sym}
 use Rattle.balise_rules.specs.Edits.{MovePacket}
 use Rattle.balise_plan.specs.declared.spot.Spot.TheVariants.{Before}
 use Rattle.balise_plan.specs.Spots.{shift_refusal}

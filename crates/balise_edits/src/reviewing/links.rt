@@ -1,0 +1,195 @@
+//! The links to a group.
+
+ghost use Rattle.std.specs.Prelude.{◌≡◌, ◌++◌, ◌<◌, ◌^◌, cond, flat_map, IfOk, IsOkUnless, length, OnOk, reverse, slice_get, Some, true};
+ghost use Rattle.std.specs.List.Sorted.{IsStrictlySortedBy};
+ghost use Rattle.std.specs.Ordering.{nat_cmp};
+ghost use Rattle.balise_rules.specs.Forms.{Numbered};
+ghost use Rattle.balise_rules.specs.Names.{is_real};
+ghost use Rattle.balise_rules.specs.Packet.{Packet};
+ghost use Rattle.balise_rules.specs.Plan.{country_of, identity_of, IsSound, IsSoundGroup};
+ghost use Rattle.balise_rules.specs.Review.{lines_at};
+ghost use Rattle.balise_rules.specs.Tagged.{find, Distinct};
+ghost use Rattle.balise_rules.specs.Tags.{same_tag};
+ghost use Rattle.balise_edits.specs.Reviews.{distance_under, group_links, links_of, named_under, packet_links, telegram_links, HasLinking, HasPlaces};
+
+use balise_plan::{Group, LinkPlace, Plan};
+use balise_rules::{Id, Refusal, ReviewLine, Reviewed, Tag, Var};
+use balise_telegram::Balise;
+use std::collections::BTreeSet;
+
+/// Lists the links to an identity, of the plan as it will be once a group is turned. Only the groups that have such a
+/// link are gone over, in the order of the plan.
+pub(crate) fn add_links(
+    found: &mut Vec<ReviewLine>,
+    plan: &Plan,
+    g: Tag,
+    id: Id,
+) -> Result<(), Refusal>
+    requires sound { IsSound plan.now.groups }
+    requires real { is_real id ≡ true }
+    ensures ok { OnOk result (found.new.items ≡ found.old.items ++ flat_map (group_links g id) plan.now.groups) }
+    ensures fault { IsOkUnless result Refusal.OutOfMemory }
+{
+    let places = places_of(plan, id)?;
+    add_groups(found, plan, g, id, &places)?;
+    Ok(())
+}
+
+// The places of the groups that have a link to an identity.
+fn places_of(plan: &Plan, id: Id) -> Result<BTreeSet<usize>, Refusal>
+    ensures all { IfOk result (λ places. HasLinking id plan.now.groups places) }
+    ensures fault { IsOkUnless result Refusal.OutOfMemory }
+{
+    let mut places = BTreeSet::new(plan.allocator());
+    let Some(links) = plan.links_to(id) else {
+        return Ok(places);
+    };
+    let listed = links.listed(plan.allocator())?;
+    add_places(&mut places, plan, &listed)?;
+    Ok(places)
+}
+
+// Adds the places of the groups of these links.
+fn add_places(
+    places: &mut BTreeSet<usize>,
+    plan: &Plan,
+    links: &Vec<LinkPlace>,
+) -> Result<(), Refusal>
+    ensures all { OnOk result (HasPlaces links.now.items plan.now.groups places.new) }
+    ensures fault { IsOkUnless result Refusal.OutOfMemory }
+{
+    for link in links {
+        let Some(place) = plan.place_of(link.group) else {
+            continue;
+        };
+        if places.insert(place).is_err() {
+            return Err(Refusal::OutOfMemory);
+        }
+    }
+    Ok(())
+}
+
+// Lists those of the groups at these places, one group after another.
+fn add_groups(
+    found: &mut Vec<ReviewLine>,
+    plan: &Plan,
+    g: Tag,
+    id: Id,
+    places: &BTreeSet<usize>,
+) -> Result<(), Refusal>
+    requires { IsSound plan.now.groups }
+    ensures ok { OnOk result (found.new.items ≡ found.old.items ++ flat_map (links_of g id plan.now.groups) places.now.keys) }
+    ensures order { IsStrictlySortedBy nat_cmp places.now.keys }
+    ensures fault { IsOkUnless result Refusal.OutOfMemory }
+{
+    for place in places.iter() {
+        let Some((tag, group)) = plan.at(*place) else {
+            continue;
+        };
+        add_group(found, id, group, g == tag)?;
+    }
+    Ok(())
+}
+
+// Those of a group, its telegrams from the last to the first where it is the one to be turned.
+fn add_group(
+    found: &mut Vec<ReviewLine>,
+    id: Id,
+    group: &Group,
+    turned: bool,
+) -> Result<(), Refusal>
+    requires { IsSoundGroup group.now }
+    ensures ok { OnOk result (found.new.items ≡ found.old.items ++ telegram_links id (identity_of group.now) 0 (cond turned (reverse group.now) group.now)) }
+    ensures fault { IsOkUnless result Refusal.OutOfMemory }
+{
+    let count = group.count();
+    let own = group.identity();
+    for pig in 0..count {
+        let at = if turned { count - 1 - pig } else { pig };
+        let Some((_, balise)) = group.at(at) else {
+            return Ok(());
+        };
+        let Ok(place) = u32::try_from(pig) else {
+            return Err(Refusal::OutOfMemory);
+        };
+        add_telegram(found, id, own, place, balise)?;
+    }
+    Ok(())
+}
+
+// Those of a telegram of a group of its own identity.
+fn add_telegram(
+    found: &mut Vec<ReviewLine>,
+    id: Id,
+    own: Id,
+    pig: u32,
+    balise: &Balise,
+) -> Result<(), Refusal>
+    requires numbered { (p : Tag) → (x : Packet) → find same_tag p balise.now.packets ≡ Some x → Numbered x.fields }
+    ensures ok { OnOk result (found.new.items ≡ found.old.items ++ packet_links id own (country_of balise.now) pig 0 balise.now.packets) }
+    ensures fault { IsOkUnless result Refusal.OutOfMemory }
+{
+    for pkt in 0..balise.count() {
+        let Some((p, _)) = balise.packet_at(pkt) else {
+            return Ok(());
+        };
+        let Ok(place) = u32::try_from(pkt) else {
+            return Err(Refusal::OutOfMemory);
+        };
+        add_packet(found, id, own, pig, place, balise, p)?;
+    }
+    Ok(())
+}
+
+// Those of a packet, which stands.
+fn add_packet(
+    found: &mut Vec<ReviewLine>,
+    id: Id,
+    own: Id,
+    pig: u32,
+    pkt: u32,
+    balise: &Balise,
+    p: Tag,
+) -> Result<(), Refusal>
+    ensures ok { OnOk result (found.new.items ≡ found.old.items ++ lines_at own pig pkt (named_under id p balise.now)) }
+    ensures fault { IsOkUnless result Refusal.OutOfMemory }
+{
+    let links = balise.links(p)?;
+    for k in 0..links.len() {
+        if links[k] != id {
+            continue;
+        }
+        let Ok(next) = u32::try_from(k + 1) else {
+            return Err(Refusal::OutOfMemory);
+        };
+        add_distance(found, own, pig, pkt, balise, p, next - 1)?;
+        add_distance(found, own, pig, pkt, balise, p, next)?;
+    }
+    Ok(())
+}
+
+// D_LINK of element `k` of a packet, where it has one.
+fn add_distance(
+    found: &mut Vec<ReviewLine>,
+    own: Id,
+    pig: u32,
+    pkt: u32,
+    balise: &Balise,
+    p: Tag,
+    k: u32,
+) -> Result<(), Refusal>
+    ensures ok { OnOk result (found.new.items ≡ found.old.items ++ lines_at own pig pkt (distance_under p balise.now k)) }
+    ensures fault { IsOkUnless result Refusal.OutOfMemory }
+{
+    let Some(value) = balise.field(p, Var::DLink, k) else {
+        return Ok(());
+    };
+    let what = Reviewed::Field(Var::DLink, k, value);
+    found.push(ReviewLine {
+        id: own,
+        pig,
+        pkt,
+        what,
+    })?;
+    Ok(())
+}

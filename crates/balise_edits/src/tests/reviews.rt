@@ -1,9 +1,7 @@
 //! Reviews of groups before they are turned.
 
-use crate::{EditFault, Id, Plan, ReviewLine, Reviewed, Tag, Var, review};
-use balise_bits::Bits;
-use std::alloc::Global;
-use std::process::Abort;
+use crate::tests::doing::read;
+use crate::{EditFault, Id, ReviewLine, Reviewed, Tag, Var, review};
 
 // 5.100 of three: packet 65, an unknown packet, no packet.
 const THREE: &str =
@@ -18,20 +16,6 @@ const TWICE: &str = "a1007f80a032c15049a07d00325004096003250015e0066a07ffc0";
 // 5.100, without packets.
 const EMPTY: &str = "a1007f80a0327fffffffffffffffffffffffffffffffffffffffc0";
 
-fn plan_of(rt: &impl Abort, alloc: Global, groups: &[&str]) -> Plan {
-    let mut all = Vec::new(alloc);
-    for text in groups.iter() {
-        let mut telegrams = Vec::new(alloc);
-        for digits in text.split(' ') {
-            let bits = Bits::digits(alloc, digits).expect(rt, "digits");
-            let bits = bits.slice(0, 210).expect(rt, "bits");
-            assert!(rt; telegrams.push(bits).is_ok());
-        }
-        assert!(rt; all.push(telegrams).is_ok());
-    }
-    Plan::read(alloc, all).expect(rt, "a plan")
-}
-
 fn line(number: u32, pig: u32, what: Reviewed) -> ReviewLine {
     let id = Id { country: 5, number };
     ReviewLine {
@@ -45,7 +29,7 @@ fn line(number: u32, pig: u32, what: Reviewed) -> ReviewLine {
 #[test]
 fn of_a_group_of_three(rt: HostRuntime) {
     let alloc = rt.alloc();
-    let plan = plan_of(&rt, alloc, &[THREE, LINKING]);
+    let plan = read(&rt, alloc, &[THREE, LINKING]);
     let lines = review(&plan, Tag::Base(0)).expect(&rt, "lines");
     let expected = [
         line(100, 1, Reviewed::Opaque(44)),
@@ -58,7 +42,7 @@ fn of_a_group_of_three(rt: HostRuntime) {
 #[test]
 fn of_a_group_of_one(rt: HostRuntime) {
     let alloc = rt.alloc();
-    let plan = plan_of(&rt, alloc, &[EMPTY, LINKING]);
+    let plan = read(&rt, alloc, &[EMPTY, LINKING]);
     assert!(rt; review(&plan, Tag::Base(0)).expect(&rt, "lines").is_empty());
     assert!(rt; matches!(review(&plan, Tag::Base(2)), Err(EditFault::NoSuchGroup)));
 }
@@ -66,7 +50,7 @@ fn of_a_group_of_one(rt: HostRuntime) {
 #[test]
 fn of_a_group_named_by_two_neighbours(rt: HostRuntime) {
     let alloc = rt.alloc();
-    let plan = plan_of(&rt, alloc, &[THREE, TWICE]);
+    let plan = read(&rt, alloc, &[THREE, TWICE]);
     let lines = review(&plan, Tag::Base(0)).expect(&rt, "lines");
     let distance = |k: u32, value: u32| line(101, 0, Reviewed::Field(Var::DLink, k, value));
     let expected = [

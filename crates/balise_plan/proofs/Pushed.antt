@@ -1,5 +1,5 @@
 -- Plans read group by group.
-use Rattle.std.proofs.Common.{◌≡◌, ◌≢◌, ◌⊎◌, inl, inr, ℕ, ◌+◌, Bool, List, [], ◌∷◌, length, insert, map, Ok, Err, refl, sym, ap, subst, ◌∙◌, arith}
+use Rattle.std.proofs.Common.{◌≡◌, ◌≢◌, ◌⊎◌, inl, inr, ℕ, ◌+◌, Bool, List, [], ◌∷◌, length, insert, map, Result, Ok, Err, OnOk, refl, sym, ap, subst, ◌∙◌, arith}
 use Rattle.std.specs.BTreeMap as tree
 use Rattle.std.specs.BTreeSet as set
 use Rattle.balise_rules.specs.declared.tag.Tag.{Tag}
@@ -7,7 +7,8 @@ use Rattle.balise_rules.specs.declared.tag.Tag.TheVariants.{Base}
 use Rattle.balise_rules.specs.declared.identity.Id.{Id}
 use Rattle.balise_rules.specs.declared.refusal.Refusal.{Refusal}
 use Rattle.balise_rules.specs.declared.refusal.Refusal.TheVariants.{OutOfMemory}
-use Rattle.balise_rules.specs.Plan.{Group, Plan, pushed, pushed_all, read_plan}
+use Rattle.balise_rules.specs.Plan.{Group, Plan, pushed, pushed_all, read_group, read_plan, with_group}
+use Rattle.balise_plan.specs.GroupReading.{PushesGroup}
 use Rattle.balise_plan.specs.declared.links.LinkPlace.{LinkPlace}
 use Rattle.balise_plan.specs.Held as held
 use Rattle.balise_plan.specs.Held.{IsKept, IsBased, IsHeld}
@@ -41,3 +42,8 @@ module _ {V : Type 0} (items : V → List (List Bool)) where
         by : (f ≡ OutOfMemory) ⊎ (pushed old.groups (items v) ≡ Err f) → read_plan (map items all) ≡ Err f
         by (inl q) = absurd (n q)
         by (inr q) = p.so_far ∙ ap (λ gs. pushed_all (Ok old.groups) (map items gs)) e ∙ ap (λ x. pushed_all x (map items more)) q ∙ stuck (map items more)
+
+-- a group that was read is pushed as what it was read of
+pub pushes-read : {A : Type 0} (old new : held.Plan) (ys : Group) (r : Result A Refusal) → ((bs : List (List Bool)) × (read_group bs ≡ Ok ys)) → PushesGroup ys old r new → OnOk r ((bs : List (List Bool)) × (pushed old.groups bs ≡ Ok new.groups))
+pushes-read old new ys (Ok u) read p = (read.0, ap (with_group old.groups) read.1 ∙ p.0)
+pushes-read old new ys (Err e) read p = tt

@@ -1,13 +1,17 @@
 -- Reading the telegrams of a group one after another.
 -- From the definition: what was read stands before what is read of the rest.
-use Rattle.std.proofs.Common.{◌≡◌, ◌∙◌, ℕ, suc, ◌+◌, ◌-◌, ◌≤◌, Bool, true, false, cond, not, eqb, ◌&&◌, ◌||◌, List, [], ◌∷◌, ◌++◌, length, Result, Ok, Err, refl, sym, ap, append_assoc, length-append, arith}
+use Rattle.std.proofs.Common.{◌≡◌, ◌∙◌, ℕ, suc, ◌+◌, ◌-◌, ◌≤◌, ◌<◌, ◌≢◌, Bool, true, false, cond, not, eqb, ◌&&◌, ◌||◌, List, [], ◌∷◌, ◌++◌, length, Result, Ok, Err, IfOk, IfErr, refl, sym, ap, append_assoc, length-append, arith}
 use Rattle.std.specs.Prelude.{nat_lt, nat_le}
-use Rattle.std.proofs.lemmas.Bool.{ne_eqb, or_parts, ltb-false, ltb-true, lt-leb}
+use Rattle.std.proofs.lemmas.Bool.{ne_eqb, or_parts, leb-false, ltb-false, ltb-true, lt-leb}
 use Rattle.std.proofs.lemmas.List.{append-nil}
 use Rattle.balise_rules.specs.declared.refusal.Refusal.{Refusal}
-use Rattle.balise_rules.specs.declared.refusal.Refusal.TheVariants.{GroupSize, HeaderDisagrees, NumberReserved}
+use Rattle.balise_rules.specs.declared.refusal.Refusal.TheVariants.{GroupSize, HeaderDisagrees, NumberReserved, OutOfMemory}
 use Rattle.balise_rules.specs.Telegram.{Telegram, read_telegram}
-use Rattle.balise_rules.specs.Plan.{Group, agree_from, checked_group, identity_of, read_group, read_telegrams, reserved, with_telegrams}
+use Rattle.balise_rules.proofs.Cases.{unok}
+use Rattle.balise_rules.specs.Refusals.{and_then}
+use Rattle.balise_plan.specs.GroupReading.{WereRead, group_of, with_read, with_telegram}
+use Rattle.balise_edit_laws.proofs.GroupsRead.{GroupRead, group_read}
+use Rattle.balise_rules.specs.Plan.{Group, Plan, pushed, with_group, agree_from, checked_group, identity_of, read_group, read_telegrams, reserved, with_telegrams}
 
 -- telegrams that were read, and what is read of the rest
 abbrev pub behind : Group → Result Group Refusal → Result Group Refusal
@@ -98,16 +102,102 @@ unfolding read_telegrams
 all_read all read rest tag g e =
     sized all g.few g.some ∙ ap checked_group (g.so_far ∙ ap (λ (l : List (List Bool)). behind read (read_telegrams tag l)) e ∙ ap Ok (append-nil read))
 
-pub disagrees : (all : List (List Bool)) (read : Group) (rest : List (List Bool)) (tag : ℕ) → Reading all read rest tag → rest ≡ [] → agree_from (identity_of read) (length read - 1) 0 read ≡ false → read_group all ≡ Err HeaderDisagrees
-disagrees all read rest tag g e h = all_read all read rest tag g e ∙ ap (λ (b : Bool). cond (not b) (Err HeaderDisagrees) (cond (eqb (identity_of read).number reserved) (Err NumberReserved) (Ok read))) h
+-- they are those of a group that was read
+pub were_read : (all : List (List Bool)) (read : Group) (rest : List (List Bool)) (tag : ℕ) → Reading all read rest tag → rest ≡ [] → WereRead read
+unfolding read_telegrams
+were_read all read rest tag g e = (all, g.few, g.so_far ∙ ap (λ (l : List (List Bool)). behind read (read_telegrams tag l)) e ∙ ap Ok (append-nil read))
 
-pub is_reserved : (all : List (List Bool)) (read : Group) (rest : List (List Bool)) (tag : ℕ) (n : ℕ) → Reading all read rest tag → rest ≡ [] → agree_from (identity_of read) (length read - 1) 0 read ≡ true → n ≡ (identity_of read).number → n ≡ 16383 → read_group all ≡ Err NumberReserved
-is_reserved all read rest tag n g e h i s =
-    all_read all read rest tag g e ∙ ap (λ (b : Bool). cond (not b) (Err HeaderDisagrees) (cond (eqb (identity_of read).number reserved) (Err NumberReserved) (Ok read))) h
-    ∙ ap (λ (k : ℕ). cond (eqb k reserved) (Err NumberReserved) (Ok read)) (sym i ∙ s)
+-- a group of some telegrams is what its heads make it
+some_group : (ys : Group) → 1 ≤ length ys → group_of ys ≡ checked_group (Ok ys)
+some_group [] h = absurd (omega (arith, h))
+some_group (y ∷ ys) h = refl
 
-pub good : (all : List (List Bool)) (read : Group) (rest : List (List Bool)) (tag : ℕ) (n : ℕ) → Reading all read rest tag → rest ≡ [] → agree_from (identity_of read) (length read - 1) 0 read ≡ true → n ≡ (identity_of read).number → (n ≡ 16383 → ⊥) → read_group all ≡ Ok read
-good all read rest tag n g e h i s =
-    let other : eqb (identity_of read).number reserved ≡ false = ne_eqb (identity_of read).number reserved (λ k. s (i ∙ k)) in
-    all_read all read rest tag g e ∙ ap (λ (b : Bool). cond (not b) (Err HeaderDisagrees) (cond (eqb (identity_of read).number reserved) (Err NumberReserved) (Ok read))) h
-    ∙ ap (λ (b : Bool). cond b (Err NumberReserved) (Ok read)) other
+pub read_so : (all : List (List Bool)) (read : Group) (rest : List (List Bool)) (tag : ℕ) → Reading all read rest tag → rest ≡ [] → read_group all ≡ group_of read
+read_so all read rest tag g e = all_read all read rest tag g e ∙ sym (some_group read (omega (arith, g.some, g.long, g.counted, ap length e)))
+
+-- what is answered is what is read
+pub so_answered : (all : List (List Bool)) (r : Result Group Refusal) (x : Result Group Refusal) → r ≡ x → read_group all ≡ x → IfOk r (λ g. read_group all ≡ Ok g)
+so_answered all (Ok g) x e h = h ∙ sym e
+so_answered all (Err f) x e h = tt
+
+pub so_refused : (all : List (List Bool)) (r : Result Group Refusal) (x : Result Group Refusal) → r ≡ x → read_group all ≡ x → IfErr r (λ f. f ≢ OutOfMemory → read_group all ≡ Err f)
+so_refused all (Ok g) x e h = tt
+so_refused all (Err f) x e h = λ _. h ∙ sym e
+
+-- Telegrams that were read, without the bits.
+
+-- as many as there were
+same_step : (n : ℕ) (bs : List (List Bool)) (ys : Group) → ((zs : Group) → read_telegrams (suc n) bs ≡ Ok zs → length zs ≡ length bs) → (r : Result Telegram Refusal) (s : Result Group Refusal) →
+    read_telegrams (suc n) bs ≡ s → with_telegrams n r s ≡ Ok ys → length ys ≡ suc (length bs)
+same_step n bs ys again (Err x) s q h = absurd cc
+same_step n bs ys again (Ok z) (Err x) q h = absurd cc
+same_step n bs ys again (Ok z) (Ok zs) q h = ap length (sym (unok h)) ∙ ap suc (again zs q)
+
+same_length : (n : ℕ) (bs : List (List Bool)) (ys : Group) → read_telegrams n bs ≡ Ok ys → length ys ≡ length bs
+unfolding read_telegrams
+same_length n [] ys h = ap length (sym (unok h))
+same_length n (b ∷ bs) ys h = same_step n bs ys (λ zs q. same_length (suc n) bs zs q) (read_telegram b) (read_telegrams (suc n) bs) refl h
+
+-- one more behind them
+last_step : (n : ℕ) (c b : List Bool) (bs : List (List Bool)) (ys : Group) (y : Telegram) → ((zs : Group) → read_telegrams (suc n) bs ≡ Ok zs → read_telegrams (suc n) (bs ++ b ∷ []) ≡ Ok (zs ++ (suc n + length zs, y) ∷ [])) →
+    (r : Result Telegram Refusal) (s : Result Group Refusal) → read_telegram c ≡ r → read_telegrams (suc n) bs ≡ s → with_telegrams n r s ≡ Ok ys →
+    with_telegrams n (read_telegram c) (read_telegrams (suc n) (bs ++ b ∷ [])) ≡ Ok (ys ++ (n + length ys, y) ∷ [])
+last_step n c b bs ys y again (Err x) s p q h = absurd cc
+last_step n c b bs ys y again (Ok z) (Err x) p q h = absurd cc
+last_step n c b bs ys y again (Ok z) (Ok zs) p q h =
+    let next : suc n + length zs ≡ n + length ((n, z) ∷ zs) = omega arith in
+    ap (λ (r : Result Telegram Refusal). with_telegrams n r (read_telegrams (suc n) (bs ++ b ∷ []))) p ∙ ap (with_telegrams n (Ok z)) (again zs q)
+    ∙ ap (λ (k : ℕ). Ok ((n, z) ∷ (zs ++ (k, y) ∷ []))) next ∙ ap (λ (l : Group). Ok (l ++ (n + length l, y) ∷ [])) (unok h)
+
+read_last : (n : ℕ) (bs : List (List Bool)) (ys : Group) (b : List Bool) (y : Telegram) → read_telegrams n bs ≡ Ok ys → read_telegram b ≡ Ok y → read_telegrams n (bs ++ b ∷ []) ≡ Ok (ys ++ (n + length ys, y) ∷ [])
+unfolding read_telegrams
+read_last n [] ys b y h t =
+    let none : n ≡ n + length ys = omega (arith, ap length (unok h)) in
+    ap (λ (r : Result Telegram Refusal). with_telegrams n r (Ok [])) t ∙ ap (λ (k : ℕ). Ok ((k, y) ∷ [])) none ∙ ap (λ (l : Group). Ok (l ++ (n + length ys, y) ∷ [])) (unok h)
+read_last n (c ∷ bs) ys b y h t = last_step n c b bs ys y (λ zs q. read_last (suc n) bs zs b y q t) (read_telegram c) (read_telegrams (suc n) bs) refl refl h
+
+pub few_read : (ys : Group) → WereRead ys → length ys ≤ 8
+few_read ys w = omega (arith, same_length 0 w.0 ys w.2, w.1)
+
+pub one_read : (ys new : Group) (k : ℕ) (b : List Bool) (y : Telegram) → WereRead ys → k ≡ length ys → k < 8 → read_telegram b ≡ Ok y → new ≡ ys ++ (k, y) ∷ [] → WereRead new
+one_read ys new k b y w e h t n =
+    let first : 0 + length ys ≡ k = omega (arith, e) in (
+      w.0 ++ b ∷ [],
+      omega (arith, length-append w.0 (b ∷ []), same_length 0 w.0 ys w.2, e, h),
+      read_last 0 w.0 ys b y w.2 t ∙ ap (λ (m : ℕ). Ok (ys ++ (m, y) ∷ [])) first ∙ ap Ok (sym n),
+    )
+
+-- a group whose heads agree, and whose number isn't reserved
+pub stands : (ys : Group) (n : ℕ) → WereRead ys → 1 ≤ length ys → agree_from (identity_of ys) (length ys - 1) 0 ys ≡ true → n ≡ (identity_of ys).number → (n ≡ 16383 → ⊥) → (bs : List (List Bool)) × (read_group bs ≡ Ok ys)
+stands ys n w some h i s =
+    let other : eqb (identity_of ys).number reserved ≡ false = ne_eqb (identity_of ys).number reserved (λ k. s (i ∙ k)) in
+    let size = same_length 0 w.0 ys w.2 in (
+      w.0,
+      sized w.0 w.1 (omega (arith, size, some)) ∙ ap checked_group w.2
+          ∙ ap (λ (b : Bool). cond (not b) (Err HeaderDisagrees) (cond (eqb (identity_of ys).number reserved) (Err NumberReserved) (Ok ys))) h
+          ∙ ap (λ (b : Bool). cond b (Err NumberReserved) (Ok ys)) other,
+    )
+
+pub read_sound : (ys : Group) → ((bs : List (List Bool)) × (read_group bs ≡ Ok ys)) → GroupRead ys
+read_sound ys r = group_read r.0 ys r.1
+
+pub none_read : WereRead []
+unfolding read_telegrams
+none_read = ([], omega arith, refl)
+
+-- one telegram more, as it is read
+pub telegram_added : (ys zs : Group) (b : List Bool) → WereRead ys → with_telegram ys b ≡ Ok zs → WereRead zs
+telegram_added ys zs b w e = by (nat_le 8 (length ys)) refl (read_telegram b) refl e
+  where
+    by : (c : Bool) → nat_le 8 (length ys) ≡ c → (r : Result Telegram Refusal) → read_telegram b ≡ r → cond c (Err GroupSize) (and_then r (λ y. Ok (ys ++ (length ys, y) ∷ []))) ≡ Ok zs → WereRead zs
+    by true h r q e = absurd cc
+    by false h (Err f) q e = absurd cc
+    by false h (Ok y) q e = one_read ys zs (length ys) b y w refl (leb-false 8 (length ys) h) q (sym (unok e))
+
+-- a group of telegrams that were read is pushed as what they were read of
+pub group_pushed : (plan more : Plan) (ys : Group) → WereRead ys → with_read plan ys ≡ Ok more → (bs : List (List Bool)) × (pushed plan bs ≡ Ok more)
+group_pushed plan more [] w e = absurd cc
+group_pushed plan more (y ∷ ys) w e =
+    let size = same_length 0 w.0 (y ∷ ys) w.2 in
+    let some : 1 ≤ length w.0 = omega (arith, size) in
+    (w.0, ap (with_group plan) (sized w.0 w.1 some ∙ ap checked_group w.2) ∙ e)

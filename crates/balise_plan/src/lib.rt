@@ -5,6 +5,7 @@ mod change;
 mod group;
 mod group_links;
 mod group_places;
+mod group_reader;
 mod link_list;
 mod link_set;
 mod links;
@@ -24,6 +25,7 @@ pub use balise_rules::{
 };
 pub use balise_telegram::{Balise, Telegram};
 pub use group::Group;
+pub use group_reader::GroupReader;
 pub use link_set::Links;
 pub use links::LinkPlace;
 pub use plan::Plan;

@@ -2,6 +2,7 @@
 
 mod calls;
 mod digits;
+mod group_by_telegram;
 mod largest;
 mod many;
 mod naming;

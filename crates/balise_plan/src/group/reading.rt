@@ -1,6 +1,7 @@
 //! A group read from the bits of its telegrams.
 
-ghost use Rattle.std.specs.Prelude.{◌≡◌, ◌≢◌, ◌+◌, ◌-◌, ◌<◌, ◌^◌, IfErr, IfOk, length, Ok, Err};
+ghost use Rattle.std.specs.Prelude.{◌≡◌, ◌≢◌, ◌+◌, ◌-◌, ◌<◌, ◌^◌, IfErr, IfOk, length, Bool, List, Ok, Err};
+ghost use Rattle.balise_plan.specs.GroupReading.{group_of, WereRead};
 ghost use Rattle.balise_rules.specs.Plan.{agree_from, read_group, IsSoundGroup};
 
 use crate::group::{Group, identity};
@@ -33,14 +34,28 @@ impl Group {
             read.push((tag, balise))?;
             tag += 1;
         }
-        let id = identity(&read);
-        if !agree(&read, id) {
+        Group::of_read(read)
+    }
+
+    // The group of telegrams that were read.
+    pub(crate) fn of_read(telegrams: Vec<(u32, Balise)>) -> Result<Group, Refusal>
+        requires { WereRead telegrams.items }
+        ensures group { result ≡ group_of telegrams.items }
+        ensures sound { IfOk result (λ g. IsSoundGroup g) }
+        ensures read { IfOk result (λ g. (bs : List (List Bool)) × (read_group bs ≡ Ok g)) }
+    {
+        let count = telegrams.len();
+        if count == 0 {
+            return Err(Refusal::GroupSize);
+        }
+        let id = identity(&telegrams);
+        if !agree(&telegrams, id) {
             return Err(Refusal::HeaderDisagrees);
         }
         if id.number == 16383 {
             return Err(Refusal::NumberReserved);
         }
-        Ok(Group { telegrams: read })
+        Ok(Group { telegrams })
     }
 }
 

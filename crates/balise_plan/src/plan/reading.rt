@@ -1,11 +1,13 @@
 //! A plan read group by group.
 
-ghost use Rattle.std.specs.Prelude.{◌≡◌, ◌≢◌, IfErr, IfOk, Ok, Err, map, []};
-ghost use Rattle.balise_rules.specs.Plan.{read_plan};
+ghost use Rattle.std.specs.Prelude.{◌≡◌, ◌≢◌, Bool, IfErr, IfOk, OnOk, Ok, Err, List, map, []};
+ghost use Rattle.balise_plan.specs.GroupReading.{PushesGroup, PushesRead};
+ghost use Rattle.balise_rules.specs.Plan.{pushed, read_plan, IsSoundGroup};
 ghost use Rattle.balise_plan.specs.Spots.{Pushes};
 
 use crate::group::Group;
 use crate::group_places::{is_taken, put_at};
+use crate::group_reader::GroupReader;
 use crate::plan::Plan;
 use balise_bits::Bits;
 use balise_rules::{Refusal, Tag};
@@ -40,6 +42,31 @@ impl Plan {
             Ok(group) => group,
             Err(fault) => return Err(fault),
         };
+        self.push_read(group)
+    }
+
+    /// Puts the group of telegrams that were read in at the end, under the tag of its place, which counts as no change.
+    ///
+    /// Refused as `GroupReader::done` does, then `GroupTwice` where a group has its identity, and then all stays.
+    /// `OutOfMemory` may stand in place of any answer.
+    pub fn push_group(&mut self, group: GroupReader) -> Result<(), Refusal>
+        requires { self.old.changes ≡ 0 }
+        ensures pushes { PushesRead group self.old result self.new }
+        ensures read { OnOk result ((bs : List (List Bool)) × (pushed self.old.groups bs ≡ Ok self.new.groups)) }
+    {
+        let group = match group.done() {
+            Ok(group) => group,
+            Err(fault) => return Err(fault),
+        };
+        self.push_read(group)
+    }
+
+    // The same of a group that was read.
+    fn push_read(&mut self, group: Group) -> Result<(), Refusal>
+        requires changes { self.old.changes ≡ 0 }
+        requires sound { IsSoundGroup group }
+        ensures { PushesGroup group self.old result self.new }
+    {
         let own = group.identity();
         if is_taken(&self.identities, own) {
             return Err(Refusal::GroupTwice);

@@ -1,9 +1,6 @@
-use Rattle.std.proofs.Common.{◌∙◌, ◌-◌, length, Err, ap, sym, arith}
-use Rattle.balise_rules.specs.declared.identity.Id.{Id}
-use Rattle.balise_rules.specs.Plan.{agree_from}
-use Rattle.balise_edit_laws.proofs.GroupsRead.{group_read}
+use Rattle.std.proofs.Common.{◌∙◌, length, Err, ap, sym, arith}
 use Rattle.balise_plan.proofs.Indexing.{no_length}
-use Rattle.balise_plan.proofs.Reading.{begins, reads_on, fails, wrong_size, right_size, disagrees, is_reserved, good}
+use Rattle.balise_plan.proofs.Reading.{begins, reads_on, fails, wrong_size, right_size, were_read, read_so, so_answered, so_refused}
 use Rattle.balise_plan.proofs.group.Group.read.Goals as goal
 
 pub returns-then-count-clause-fault : goal.returns-then-count-clause-fault
@@ -25,35 +22,19 @@ pub loop-bits-preserved : goal.loop-bits-preserved
 loop-bits-preserved c =
     reads_on c.args.telegrams.items c.loop-bits.read.items c.push.new.self.items c.loop-bits.bits-iterator.rest.items c.next.new.self.rest.items c.in-Some.bits c.loop-bits.tag c.in-Ok.balise c.loop-bits.invariant c.in-Some.ensures.steps.0 c.in-Ok.ensures.ok c.in_ok-push.ensures.items
 
-pub agree-requires : goal.agree-requires
-agree-requires c = let i = c.loop-bits.invariant in omega (arith, i.few, i.counted, i.long)
-
-pub returns-then-not-agree-clause-fault : goal.returns-then-not-agree-clause-fault
-returns-then-not-agree-clause-fault c = λ _.
+pub of_read-requires : goal.of_read-requires
+of_read-requires c =
     let ys = c.loop-bits.read.items in
-    disagrees c.args.telegrams.items ys c.loop-bits.bits-iterator.rest.items c.loop-bits.tag c.loop-bits.invariant (no_length c.loop-bits.bits-iterator.rest.items (sym c.loop-bits.bits-iterator.rest.ok.0 ∙ c.in-None.ensures.steps.0))
-    (ap (λ (i : Id). agree_from i (length ys - 1) 0 ys) (sym c.identity-id.ensures) ∙ sym c.agree.ensures ∙ c.if-not-agree.true)
-
-pub returns-then-id-eq16383-clause-fault : goal.returns-then-id-eq16383-clause-fault
-returns-then-id-eq16383-clause-fault c = λ _.
-    let ys = c.loop-bits.read.items in
-    is_reserved c.args.telegrams.items ys c.loop-bits.bits-iterator.rest.items c.loop-bits.tag c.identity-id.result.number c.loop-bits.invariant (no_length c.loop-bits.bits-iterator.rest.items (sym c.loop-bits.bits-iterator.rest.ok.0 ∙ c.in-None.ensures.steps.0))
-    (ap (λ (i : Id). agree_from i (length ys - 1) 0 ys) (sym c.identity-id.ensures) ∙ sym c.agree.ensures ∙ c.if-not-agree.false) (ap (λ (i : Id). i.number) c.identity-id.ensures) c.if-id-eq16383.true
-
-pub invariant_of-result : goal.invariant_of-result
-invariant_of-result c =
-    let ys = c.loop-bits.read.items in
-    (group_read c.args.telegrams.items ys (good c.args.telegrams.items ys c.loop-bits.bits-iterator.rest.items c.loop-bits.tag c.identity-id.result.number c.loop-bits.invariant (no_length c.loop-bits.bits-iterator.rest.items (sym c.loop-bits.bits-iterator.rest.ok.0 ∙ c.in-None.ensures.steps.0))
-    (ap (λ (i : Id). agree_from i (length ys - 1) 0 ys) (sym c.identity-id.ensures) ∙ sym c.agree.ensures ∙ c.if-not-agree.false) (ap (λ (i : Id). i.number) c.identity-id.ensures) c.if-id-eq16383.false)).sound.tags
+    were_read c.args.telegrams.items ys c.loop-bits.bits-iterator.rest.items c.loop-bits.tag c.loop-bits.invariant (no_length c.loop-bits.bits-iterator.rest.items (sym c.loop-bits.bits-iterator.rest.ok.0 ∙ c.in-None.ensures.steps.0))
 
 pub returns-clause-ok : goal.returns-clause-ok
 returns-clause-ok c =
     let ys = c.loop-bits.read.items in
-    good c.args.telegrams.items ys c.loop-bits.bits-iterator.rest.items c.loop-bits.tag c.identity-id.result.number c.loop-bits.invariant (no_length c.loop-bits.bits-iterator.rest.items (sym c.loop-bits.bits-iterator.rest.ok.0 ∙ c.in-None.ensures.steps.0))
-    (ap (λ (i : Id). agree_from i (length ys - 1) 0 ys) (sym c.identity-id.ensures) ∙ sym c.agree.ensures ∙ c.if-not-agree.false) (ap (λ (i : Id). i.number) c.identity-id.ensures) c.if-id-eq16383.false
+    so_answered c.args.telegrams.items c.of_read.result _ c.of_read.ensures.group
+    (read_so c.args.telegrams.items ys c.loop-bits.bits-iterator.rest.items c.loop-bits.tag c.loop-bits.invariant (no_length c.loop-bits.bits-iterator.rest.items (sym c.loop-bits.bits-iterator.rest.ok.0 ∙ c.in-None.ensures.steps.0)))
 
-pub returns-clause-sound : goal.returns-clause-sound
-returns-clause-sound c =
+pub returns-clause-fault : goal.returns-clause-fault
+returns-clause-fault c =
     let ys = c.loop-bits.read.items in
-    (group_read c.args.telegrams.items ys (good c.args.telegrams.items ys c.loop-bits.bits-iterator.rest.items c.loop-bits.tag c.identity-id.result.number c.loop-bits.invariant (no_length c.loop-bits.bits-iterator.rest.items (sym c.loop-bits.bits-iterator.rest.ok.0 ∙ c.in-None.ensures.steps.0))
-    (ap (λ (i : Id). agree_from i (length ys - 1) 0 ys) (sym c.identity-id.ensures) ∙ sym c.agree.ensures ∙ c.if-not-agree.false) (ap (λ (i : Id). i.number) c.identity-id.ensures) c.if-id-eq16383.false)).sound
+    so_refused c.args.telegrams.items c.of_read.result _ c.of_read.ensures.group
+    (read_so c.args.telegrams.items ys c.loop-bits.bits-iterator.rest.items c.loop-bits.tag c.loop-bits.invariant (no_length c.loop-bits.bits-iterator.rest.items (sym c.loop-bits.bits-iterator.rest.ok.0 ∙ c.in-None.ensures.steps.0)))

@@ -1,0 +1,7 @@
+use Rattle.std.proofs.Common.{◌≡◌, ◌∙◌, length, [], refl, sym, ap, subst, arith}
+use Rattle.balise_plan.specs.GroupReading.{WereRead}
+use Rattle.balise_plan.proofs.Reading.{none_read}
+use Rattle.balise_plan.proofs.group_reader.GroupReader.new.Goals as goal
+
+pub invariant_of-result : goal.invariant_of-result
+invariant_of-result c = subst WereRead (sym c.new.ensures.items) none_read

@@ -1,0 +1,79 @@
+//! A group read telegram by telegram.
+
+ghost use Rattle.std.specs.Prelude.{◌≡◌, [], Bool, IfOk, List, length, Ok};
+ghost use Rattle.balise_plan.specs.GroupReading.{group_of, ReadsOn};
+ghost use Rattle.balise_rules.specs.Plan.{read_group, IsSoundGroup};
+
+use crate::group::Group;
+use balise_bits::Bits;
+use balise_rules::Refusal;
+use balise_telegram::Balise;
+use std::alloc::Global;
+use std::marker::Model;
+
+/// A group to be: the telegrams that were read so far, tagged by their places from 0.
+#[derive(Debug, Drop)]
+pub struct GroupReader {
+    telegrams: Vec<(u32, Balise)>,
+}
+
+impl Model for GroupReader {
+    ghost use Rattle.balise_rules.specs.Plan as rules;
+    ghost use Rattle.balise_plan.specs.GroupReading.{WereRead};
+
+    ghost Value = { rules.Group };
+
+    ghost view = { λ g. g.telegrams.items };
+
+    ghost invariant = { λ g. WereRead g.telegrams.items };
+}
+
+impl GroupReader {
+    /// Before the first telegram. Takes no memory.
+    pub fn new(alloc: Global) -> GroupReader
+        ensures { result ≡ [] }
+    {
+        GroupReader {
+            telegrams: Vec::new(alloc),
+        }
+    }
+
+    /// How many telegrams were read.
+    pub fn count(&self) -> usize
+        ensures { result ≡ length self.now }
+    {
+        self.telegrams.len()
+    }
+
+    /// Reads one telegram more.
+    ///
+    /// Refused in this order: `GroupSize` for a ninth, which isn't looked at, then as `Telegram::read` refuses.
+    /// `OutOfMemory` may stand in place of any answer but `GroupSize`. A refusal leaves the group as it was.
+    pub fn push(&mut self, bits: Bits) -> Result<(), Refusal>
+        ensures { ReadsOn bits self.old result self.new }
+    {
+        let place = self.telegrams.len();
+        if place >= 8 {
+            return Err(Refusal::GroupSize);
+        }
+        let balise = match Balise::read(bits) {
+            Ok(balise) => balise,
+            Err(fault) => return Err(fault.refusal()),
+        };
+        self.telegrams.reserve_exact(1)?;
+        self.telegrams.push((place as u32, balise))?;
+        Ok(())
+    }
+
+    /// The group of the telegrams that were read. Takes no memory.
+    ///
+    /// Refused in this order: `GroupSize` for none, `HeaderDisagrees`, `NumberReserved`.
+    pub fn done(self) -> Result<Group, Refusal>
+        ensures group { result ≡ group_of self }
+        ensures sound { IfOk result (λ g. IsSoundGroup g) }
+        ensures read { IfOk result (λ g. (bs : List (List Bool)) × (read_group bs ≡ Ok g)) }
+    {
+        let GroupReader { telegrams } = self;
+        Group::of_read(telegrams)
+    }
+}

@@ -1,0 +1,49 @@
+use Rattle.std.proofs.Common.{◌≡◌, ◌∙◌, inl, inr, ⊎_elim, ℕ, suc, List, [], ◌∷◌, map, length, Option, Some, None, Ok, refl, sym, ap, arith, add-one}
+use Rattle.balise_edits.specs.Lines.{line_in}
+use Rattle.balise_edits.specs.declared.line.Line.{Line}
+use Rattle.balise_rules.specs.Opening.{with_entries, or_place}
+use Rattle.balise_rules.specs.Session.{State}
+use Rattle.balise_history.specs.Sessions.{Seen}
+use Rattle.balise_history.proofs.opening.from_entries.Goals as goal
+
+pub loop-line-init : goal.loop-line-init
+loop-line-init c =
+    let g = c.into_iter-line-iterator.ensures.into_iter_gives in
+    record {
+      rest = ap (λ (o : Option State). or_place None o (with_entries 0 (map line_in c.args.lines.items))) c.in-Ok.ensures.0 ∙ ap (λ (ls : List Line). with_entries 0 (map line_in ls) c.in-Ok.opening.state) (sym g.0);
+      left = omega (arith, g.1);
+    }
+
+pub returns-in-Err-entry-clause-fault : goal.returns-in-Err-entry-clause-fault
+returns-in-Err-entry-clause-fault c =
+    let s = c.loop-line.opening.state in
+    let n = c.loop-line.place in
+    let w = c.loop-line.invariant.rest ∙ ap (λ (ls : List Line). with_entries n (map line_in ls) s) c.in-Some.ensures.steps.0 in
+    ⊎_elim (λ m. inl m) (λ m. inr (m.0, w ∙ ap (λ (o : Option State). or_place (Some n) o (with_entries (suc n) (map line_in c.next.new.self.rest.items))) m.1)) c.in-Err-entry.ensures
+
+pub overflow_add-place : goal.overflow_add-place
+overflow_add-place c = omega (arith, c.loop-line.invariant.left, c.in-Some.ensures.steps.1, c.args.lines.small)
+
+pub loop-line-preserved : goal.loop-line-preserved
+loop-line-preserved c =
+    let s = c.loop-line.opening.state in
+    let n = c.loop-line.place in
+    let ls = map line_in c.next.new.self.rest.items in
+    record {
+      rest =
+          c.loop-line.invariant.rest ∙ ap (λ (xs : List Line). with_entries n (map line_in xs) s) c.in-Some.ensures.steps.0
+          ∙ ap (λ (o : Option State). or_place (Some n) o (with_entries (suc n) ls)) c.in-Ok-entry.ensures.0
+          ∙ ap (λ (m : ℕ). with_entries m ls c.in-Ok-entry.opening.state) (sym (add-one n));
+      left = omega (arith, c.loop-line.invariant.left, c.in-Some.ensures.steps.1);
+    }
+
+empty : {A : Type 0} (xs : List A) → length xs ≡ 0 → xs ≡ []
+empty [] h = refl
+empty (x ∷ xs) h = absurd (omega arith)
+
+pub returns-clause-ok : goal.returns-clause-ok
+returns-clause-ok c =
+    let it = c.loop-line.line-iterator.rest in
+    let z = c.in-None.ensures.steps.0 in
+    let e : length it.items ≡ 0 = omega (arith, it.ok, z) in
+    c.loop-line.invariant.rest ∙ ap (λ (xs : List Line). with_entries c.loop-line.place (map line_in xs) c.loop-line.opening.state) (empty it.items e) ∙ ap (λ (s : Seen). Ok s.state) (sym c.done.ensures)

@@ -1,0 +1,49 @@
+-- What reading a journal answers.
+use Rattle.std.specs.Prelude.{◌≡◌, ◌⊎◌, ◌+◌, ◌<◌, ◌≤◌, ◌^◌, ◌&&◌, ℕ, nat_lt, Bool, length, map, Option, Some, None, is_none, Result, Ok, Err}
+use Rattle.balise_rules.specs.declared.refusal.Refusal.{Refusal}
+use Rattle.balise_rules.specs.declared.refusal.Refusal.TheVariants.{JournalMismatch, OutOfMemory}
+use Rattle.balise_rules.specs.Journal.{Line}
+use Rattle.balise_rules.specs.Opening.{last_serial, with_entry}
+use Rattle.balise_rules.specs.Session.{State, top}
+use Rattle.balise_history.specs.declared.journal_fault.JournalFault.{JournalFault}
+use Rattle.balise_history.specs.Held.{Edited, state_at, seen, IsHeld}
+use Rattle.balise_history.specs.Lists.{History, items_of, removed_of}
+use Rattle.balise_plan.specs.Held.{Plan}
+use Rattle.balise_history.specs.Sessions.{Seen}
+
+-- the journal doesn't fit, or memory is wanted
+abbrev pub Mismatches : {A : Type 0} → Refusal → Option A → Type 0
+Mismatches {A} r o = (r ≡ OutOfMemory) ⊎ ((r ≡ JournalMismatch) × (◌≡◌ {A = Option A} o None))
+
+-- the edit of a serial may come next: nothing was undone or struck, and it is above the last one and below the next
+abbrev pub comes_next : History → ℕ → ℕ → Bool
+comes_next h next serial = is_none (top (map removed_of h.stack)) && (nat_lt (last_serial (items_of h.standing)) serial && nat_lt serial next)
+
+-- the same of a plan and the entries that made it
+abbrev pub EntersIn : {A : Type 0} → Line → ℕ → Plan → History → Result A Refusal → Plan → History → Type 0
+EntersIn l next p h (Ok u) q k =
+    IsHeld q.groups k.standing k.stack next
+    × (◌≡◌ {A = Option State} (with_entry (state_at 0 (seen p.groups h.standing h.stack next p.changes)) l) (Some (state_at 0 (seen q.groups k.standing k.stack next q.changes))))
+    × (q.changes ≡ p.changes + 1)
+EntersIn l next p h (Err r) q k = Mismatches r (with_entry (state_at 0 (seen p.groups h.standing h.stack next p.changes)) l)
+
+-- a line's edit is done behind those that stand, by one change
+abbrev pub Enters : Line → Edited → Result Edited Refusal → Type 0
+Enters l s (Ok t) = (◌≡◌ {A = Option State} (with_entry (state_at 0 s) l) (Some (state_at 0 t))) × (t.changes ≡ s.changes + 1) × (length t.standing + length t.stack < t.serial)
+Enters l s (Err r) = Mismatches r (with_entry (state_at 0 s) l)
+
+-- what a session that is read from a journal stays within
+pub record IsOpening (e : Edited) : Type 0 where
+  pub serials : e.serial ≤ 4000000000
+  pub few : length e.standing + length e.stack < e.serial
+  pub changes : e.changes ≤ 2 ^ 62 + 4000000000 + length e.stack
+  pub entered : length e.stack ≡ 0 → e.changes ≤ 2 ^ 62 + length e.standing
+
+-- one more line fits, and is one more change
+abbrev pub Reads : Option State → Seen → Result Seen Refusal → Type 0
+Reads o s (Ok t) = (◌≡◌ {A = Option State} o (Some t.state)) × (t.changes ≡ s.changes + 1)
+Reads o s (Err r) = Mismatches r o
+
+-- it fails at this place, or memory is wanted there
+abbrev pub FailsAt : Result State (Option ℕ) → JournalFault → Type 0
+FailsAt r f = (f.refusal ≡ OutOfMemory) ⊎ ((f.refusal ≡ JournalMismatch) × (r ≡ Err f.at))

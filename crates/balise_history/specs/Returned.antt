@@ -1,0 +1,19 @@
+-- The standing entries with all of the stack put back, without a plan: each has the note that it is kept with.
+use Rattle.std.specs.Prelude.{List, [], ◌∷◌, ◌++◌, take, drop, Some}
+use Rattle.balise_rules.specs.declared.tag.Tag.TheVariants.{Fresh}
+use Rattle.balise_rules.specs.Paths.{Entry}
+use Rattle.balise_strike_laws.specs.InSession.{Rising}
+use Rattle.balise_history.specs.Lists.{Gone, items_of, place_of, entries_hung, Ascends}
+
+-- with one put at its own place, and those that stood behind it anchored on what it puts in
+abbrev pub returned : List Entry → Gone → List Entry
+returned es r = take (place_of r.0.0.0 es) es ++ r.0 ∷ entries_hung (Some (Fresh r.0.0.0)) r.1 (drop (place_of r.0.0.0 es) es)
+
+abbrev pub all_returned : List Gone → List Entry → List Entry
+all_returned [] es = es
+all_returned (r ∷ rs) es = all_returned rs (returned es r)
+
+-- serials rise at each step
+abbrev pub AllReturn : List Gone → List Entry → Type 0
+AllReturn [] es = Unit {0}
+AllReturn (r ∷ rs) es = Rising (items_of es) × Ascends r.1 × AllReturn rs (returned es r)

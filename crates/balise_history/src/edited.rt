@@ -1,0 +1,185 @@
+//! A plan with the entries that made it: done, undone, struck and done again, before anything is counted.
+
+mod entering;
+
+ghost use Rattle.std.specs.Prelude.{◌≡◌, ◌+◌, ◌<◌, ◌≤◌, ◌^◌, [], ℕ, length, map, reverse, IfOk, IsOkUnless, OnOk};
+ghost use Rattle.balise_edits.specs.Lines.{line_in};
+ghost use Rattle.balise_history.specs.Commands.{command_of};
+ghost use Rattle.balise_history.specs.Held.{Answered, state_at};
+ghost use Rattle.balise_history.specs.Lists.{items_of};
+ghost use Rattle.balise_rules.specs.Accepting.{Unused};
+ghost use Rattle.balise_rules.specs.Journal.{all_back, line_of};
+ghost use Rattle.balise_rules.specs.Plan.{IsSound};
+ghost use Rattle.balise_rules.specs.Session.{entries, later, made};
+ghost use Rattle.balise_rules.specs.Session as rules;
+ghost use Rattle.balise_strike_laws.specs.Headline.{Promised};
+
+use crate::command::Command;
+use crate::history::{History, place_of};
+use crate::struck::Struck;
+use crate::testing::serials_behind;
+use balise_edits::{Entry, Line, apply};
+use balise_plan::Plan;
+use balise_rules::Refusal;
+use balise_strike_laws::sessions_promised;
+use std::alloc::Global;
+use std::marker::Model;
+
+/// A plan, the entries that made it and those undone or struck, and the next serial.
+#[derive(Drop)]
+pub(crate) struct EditedPlan {
+    plan: Plan,
+    history: History,
+    next: u32,
+}
+
+impl Model for EditedPlan {
+    ghost use Rattle.balise_history.specs.Held as specs;
+
+    ghost Value = { specs.Edited };
+
+    ghost view = { λ p. specs.seen p.plan.groups p.history.standing p.history.stack p.next p.plan.changes };
+
+    ghost invariant = { λ p. specs.IsHeld p.plan.groups p.history.standing p.history.stack p.next };
+}
+
+// The lines of entries.
+fn lines_of(alloc: Global, entries: &[Entry]) -> Result<Vec<Line>, Refusal>
+    ensures ok { IfOk result (λ v. map line_in v.items ≡ map line_of entries.now) }
+    ensures fault { IsOkUnless result Refusal.OutOfMemory }
+{
+    let mut lines = Vec::new(alloc);
+    for entry in entries {
+        lines.push(entry.line(alloc)?)?;
+    }
+    Ok(lines)
+}
+
+impl EditedPlan {
+    /// A plan that nothing was done to. Takes no memory.
+    pub(crate) fn new(alloc: Global, plan: Plan, next: u32) -> EditedPlan
+        requires sound { IsSound plan.groups }
+        requires untagged { (n : ℕ) → Unused n plan.groups }
+        requires first { 1 ≤ next }
+        ensures { result ≡ record { base = plan.groups; standing = []; stack = []; serial = next; changes = plan.changes } }
+    {
+        EditedPlan {
+            plan,
+            history: History::new(alloc),
+            next,
+        }
+    }
+
+    /// The plan.
+    pub(crate) fn plan(&self) -> &Plan
+        ensures { result.now ≡ record { groups = made self.now.base self.now.standing; changes = self.now.changes } }
+    {
+        &self.plan
+    }
+
+    /// The entries that stand.
+    pub(crate) fn standing(&self) -> &[Entry]
+        ensures { result.now ≡ entries self.now.base self.now.standing }
+    {
+        self.history.standing()
+    }
+
+    /// The lines of the entries that would stand if all that was undone or struck were done again.
+    pub(crate) fn lines(&self) -> Result<Vec<Line>, Refusal>
+        ensures ok { IfOk result (λ v. map line_in v.items ≡ map line_of (entries self.now.base (all_back self.now.stack self.now.standing))) }
+        ensures fault { IsOkUnless result Refusal.OutOfMemory }
+    {
+        let entries = self.history.all_back()?;
+        lines_of(self.history.allocator(), &entries)
+    }
+
+    /// The serials of those undone or struck, the last one last.
+    pub(crate) fn undone(&self) -> Result<Vec<u32>, Refusal>
+        ensures ok { IfOk result (λ v. v.items ≡ reverse (map (λ r. r.item.0) self.now.stack)) }
+        ensures fault { IsOkUnless result Refusal.OutOfMemory }
+    {
+        self.history.undone()
+    }
+
+    /// What it promises as a session, whatever is counted.
+    pub(crate) fn promise(&self)
+        ensures { (n : ℕ) → Promised self.now.base (state_at n self.now) }
+    {
+        let _next = &self.next;
+        sessions_promised();
+    }
+
+    /// The next serial.
+    pub(crate) fn next(&self) -> u32
+        ensures { result ≡ self.now.serial }
+    {
+        self.next
+    }
+
+    /// Does the edit that a command asks for, under the next serial, and answers that.
+    pub(crate) fn edit(&mut self, command: Command) -> Result<u32, Refusal>
+        requires changes { self.old.changes < 2 ^ 63 }
+        requires serial { self.old.serial + 1 < 2 ^ 32 }
+        ensures { Answered (rules.Ask (command_of command)) rules.Done self.old result self.new }
+    {
+        let edit = command.edit(&self.plan)?;
+        self.history.reserve()?;
+        let serial = self.next;
+        let entry = apply(&mut self.plan, edit, serial)?;
+        self.history.push(entry);
+        self.next += 1;
+        Ok(serial)
+    }
+
+    /// Takes the last standing edit back and answers its serial.
+    pub(crate) fn undo(&mut self) -> Result<u32, Refusal>
+        requires { self.old.changes < 2 ^ 63 }
+        ensures { Answered rules.Undo rules.Undone self.old result self.new }
+    {
+        let standing = self.history.standing();
+        let count = standing.len();
+        if count == 0 {
+            return Err(Refusal::NothingToUndo);
+        }
+        let serial = standing[count - 1].serial();
+        let behind = Vec::new(self.history.allocator());
+        self.history.take_out(&mut self.plan, count - 1, behind)?;
+        Ok(serial)
+    }
+
+    /// Does the edit that was undone or struck last again, at its own place, and answers its serial.
+    pub(crate) fn redo(&mut self) -> Result<u32, Refusal>
+        requires { self.old.changes < 2 ^ 63 }
+        ensures { Answered rules.Redo rules.Redone self.old result self.new }
+    {
+        let Some(serial) = self.history.top() else {
+            return Err(Refusal::NothingToRedo);
+        };
+        let place = place_of(self.history.standing(), serial);
+        self.history.put_back(&mut self.plan, place)?;
+        Ok(serial)
+    }
+
+    /// Takes the standing edit of a serial back, where all later ones are independent of it.
+    pub(crate) fn strike(&mut self, serial: u32) -> Result<Struck, Refusal>
+        requires { self.old.changes < 2 ^ 63 }
+        ensures answers { Answered (rules.Strike serial) (λ s. rules.Struck s.serial) self.old result self.new }
+        ensures compared { IfOk result (λ s. s.compared ≡ length (later serial (entries self.old.base self.old.standing))) }
+        ensures few { OnOk result (length self.new.standing + length self.new.stack < self.new.serial) }
+    {
+        let standing = self.history.standing();
+        let place = place_of(standing, serial);
+        if place >= standing.len() {
+            return Err(Refusal::NoSuchEdit);
+        }
+        let entry = &standing[place];
+        if entry.serial() != serial {
+            return Err(Refusal::NoSuchEdit);
+        }
+        let later = &standing[place + 1..];
+        let compared = later.len();
+        let behind = serials_behind(self.history.allocator(), entry, later)?;
+        self.history.take_out(&mut self.plan, place, behind)?;
+        Ok(Struck { serial, compared })
+    }
+}

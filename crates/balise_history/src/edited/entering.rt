@@ -1,0 +1,140 @@
+//! A line of a journal done.
+
+ghost use Rattle.std.specs.Prelude.{◌≡◌, ◌<◌, ◌^◌, true, IfErr, IfOk, Some};
+ghost use Rattle.balise_edits.specs.Edits.{edit_of};
+ghost use Rattle.balise_edits.specs.Lines.{line_edit_of, line_in, noted_in};
+ghost use Rattle.balise_history.specs.Held.{IsHeld};
+ghost use Rattle.balise_history.specs.Lists.{items_of};
+ghost use Rattle.balise_history.specs.Openings.{comes_next, Enters, EntersIn, Mismatches};
+ghost use Rattle.balise_rules.specs.Journal.{same_noted};
+ghost use Rattle.balise_rules.specs.Opening.{edit_in, last_serial};
+
+use crate::digits::packet_in;
+use crate::edited::EditedPlan;
+use crate::history::History;
+use balise_edits::{Edit, Entry, Line, LineEdit, Noted, apply};
+use balise_plan::Plan;
+use balise_rules::Refusal;
+
+// Whether two lines say the same of the plan before their edits.
+fn same_noted(a: Noted, b: Noted) -> bool
+    ensures { result ≡ same_noted (noted_in a) (noted_in b) }
+{
+    a == b
+}
+
+// The serial of the last entry; 0 where there is none.
+fn last_serial(entries: &[Entry]) -> u32
+    ensures { result ≡ last_serial (items_of entries.now) }
+{
+    match entries.last() {
+        Some(entry) => entry.serial(),
+        None => 0,
+    }
+}
+
+// The edit of a line on a plan; refused where it inserts what isn't a packet for its telegram.
+fn edit_in(plan: &Plan, edit: LineEdit) -> Result<Edit, Refusal>
+    ensures ok { IfOk result (λ e. edit_in (line_edit_of edit) plan.now.groups ≡ Some (edit_of e)) }
+    ensures fault { IfErr result (λ r. Mismatches r (edit_in (line_edit_of edit) plan.now.groups)) }
+{
+    match edit {
+        LineEdit::SetVar {
+            g,
+            t,
+            p,
+            var,
+            k,
+            value,
+        } => Ok(Edit::SetVar {
+            g,
+            t,
+            p,
+            var,
+            k,
+            value,
+        }),
+        LineEdit::SetHead { g, t, var, value } => Ok(Edit::SetHead { g, t, var, value }),
+        LineEdit::InsertPacket {
+            g,
+            t,
+            after,
+            packet: digits,
+        } => {
+            let Some(balise) = plan.telegram(g, t) else {
+                return Err(Refusal::JournalMismatch);
+            };
+            match packet_in(&digits, balise.version()) {
+                Ok(packet) => Ok(Edit::InsertPacket {
+                    g,
+                    t,
+                    after,
+                    packet,
+                }),
+                Err(Refusal::OutOfMemory) => Err(Refusal::OutOfMemory),
+                Err(_) => Err(Refusal::JournalMismatch),
+            }
+        }
+        LineEdit::DeletePacket { g, t, p } => Ok(Edit::DeletePacket { g, t, p }),
+        LineEdit::MovePacket { g, t, p, after } => Ok(Edit::MovePacket { g, t, p, after }),
+        LineEdit::AddGroup { after, telegrams } => Ok(Edit::AddGroup { after, telegrams }),
+        LineEdit::DropGroup { g } => Ok(Edit::DropGroup { g }),
+        LineEdit::Renumber { g, number } => Ok(Edit::Renumber { g, number }),
+        LineEdit::TurnGroup { g } => Ok(Edit::TurnGroup { g }),
+    }
+}
+
+// Whether the edit of a serial may come next: nothing was undone or struck, and it is above the last serial and below
+// the next.
+fn comes_next(history: &History, next: u32, serial: u32) -> bool
+    ensures { result ≡ comes_next history.now next serial }
+{
+    history.count_undone() == 0 && last_serial(history.standing()) < serial && serial < next
+}
+
+// Does the edit of a line that may come next behind those that stand, where it fits the plan; else neither plan nor
+// history is of use any more.
+fn enter(plan: &mut Plan, history: &mut History, next: u32, line: Line) -> Result<(), Refusal>
+    requires count { plan.old.changes < 2 ^ 63 }
+    requires held { IsHeld plan.old.groups history.old.standing history.old.stack next }
+    requires comes { comes_next history.old next line.serial ≡ true }
+    ensures { EntersIn (line_in line) next plan.old history.old result plan.new history.new }
+{
+    let edit = edit_in(plan, line.edit)?;
+    history.reserve()?;
+    let entry = match apply(plan, edit, line.serial) {
+        Ok(entry) => entry,
+        Err(Refusal::OutOfMemory) => return Err(Refusal::OutOfMemory),
+        Err(_) => return Err(Refusal::JournalMismatch),
+    };
+    if !same_noted(entry.noted(), line.noted) {
+        return Err(Refusal::JournalMismatch);
+    }
+    history.push(entry);
+    Ok(())
+}
+
+impl EditedPlan {
+    /// Does the edit of a line under its own serial, where it fits: nothing was undone or struck, the serial is above
+    /// the last one and below the next, the edit is accepted and notes what the line says. Refused as
+    /// `JournalMismatch` or `OutOfMemory`, and then all is dropped.
+    pub(crate) fn entry(self, line: Line) -> Result<EditedPlan, Refusal>
+        requires { self.changes < 2 ^ 63 }
+        ensures { Enters (line_in line) self result }
+    {
+        let EditedPlan {
+            mut plan,
+            mut history,
+            next,
+        } = self;
+        if !comes_next(&history, next, line.serial) {
+            return Err(Refusal::JournalMismatch);
+        }
+        enter(&mut plan, &mut history, next, line)?;
+        Ok(EditedPlan {
+            plan,
+            history,
+            next,
+        })
+    }
+}

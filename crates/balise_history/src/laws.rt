@@ -1,0 +1,22 @@
+//! What a session promises, in its own words.
+
+ghost use Rattle.balise_strike_laws.specs.Headline.{Headline, Promised};
+
+use crate::session::Session;
+
+/// For every plan and list of commands, the plan of a session is what the standing edits alone, in order, make of the
+/// plan first read; each undo, redo and strike is taken back exactly by its counterpart; a strike is refused as
+/// dependent exactly where a later edit isn't independent; a refused command changes nothing; and what is said as a
+/// journal is read back.
+pub fn headline()
+    ensures { Headline }
+{
+    balise_strike_laws::headline();
+}
+
+/// All of that holds of a session as it is.
+pub fn promised(session: &Session)
+    ensures { Promised session.now.state.base session.now.state }
+{
+    session.promise();
+}

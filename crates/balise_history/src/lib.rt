@@ -1,0 +1,28 @@
+//! A session over a balise plan: edits by address, undo, redo and strike in place.
+#![tactic(auto)]
+
+mod command;
+mod digits;
+mod edited;
+mod history;
+mod journal_fault;
+pub mod laws;
+mod opening;
+mod resolving;
+mod session;
+mod struck;
+mod testing;
+
+pub use balise_edits::{
+    Bits, Edit, Entry, Group, GroupTag, Id, Line, LineEdit, Noted, Packet, PacketTag, Plan,
+    Refusal, Tag, Var,
+};
+
+#[cfg(test)]
+mod tests;
+
+pub use command::Command;
+pub use journal_fault::JournalFault;
+pub use opening::{Opening, from_entries};
+pub use session::Session;
+pub use struck::Struck;

@@ -1,0 +1,190 @@
+//! From a command by addresses to an edit by tags: the order of a command's refusals, from its address to its digits.
+
+ghost use Rattle.std.specs.Prelude.{◌≡◌, ◌≢◌, IfErr, IfOk, Some, None, Ok, Err, ok_or, slice_get};
+ghost use Rattle.balise_edits.specs.Edits.{edit_of};
+ghost use Rattle.balise_history.specs.Commands.{command_of};
+ghost use Rattle.balise_rules.specs.Addresses as rules;
+ghost use Rattle.balise_rules.specs.Addresses.{anchor_at, find_group, find_packet, find_telegram, AskInsert, AskMove};
+ghost use Rattle.balise_rules.specs.Packet.{Packet};
+ghost use Rattle.balise_rules.specs.Plan.{Group, IsSound};
+ghost use Rattle.balise_rules.specs.Tagged.{Distinct};
+ghost use Rattle.balise_rules.specs.Tags.{same_tag};
+
+use crate::command::Command;
+use crate::digits::packet_in;
+use balise_bits::Bits;
+use balise_edits::Edit;
+use balise_plan::Plan;
+use balise_rules::{Id, Refusal, Tag};
+use balise_telegram::Balise;
+
+// The group of an identity.
+fn find_group(plan: &Plan, id: Id) -> Result<Tag, Refusal>
+    requires { IsSound plan.now.groups }
+    ensures ok { IfOk result (λ g. (ys : Group) × (find_group id plan.now.groups ≡ Ok (g, ys))) }
+    ensures fault { IfErr result (λ r. find_group id plan.now.groups ≡ Err r) }
+{
+    match plan.tag_of(id) {
+        Some(g) => Ok(g),
+        None => Err(Refusal::NoSuchGroup),
+    }
+}
+
+// The telegram at a place of the group of an identity, with the tags that lead to it.
+fn find_telegram(plan: &Plan, id: Id, pig: u32) -> Result<(Tag, u32, &Balise), Refusal>
+    requires { IsSound plan.now.groups }
+    ensures ok { IfOk result (λ r. find_telegram id pig plan.now.groups ≡ Ok (record { group = r.0; place = r.1; telegram = r.2.now })) }
+    ensures tags { IfOk result (λ r. Distinct same_tag r.2.now.packets) }
+    ensures fault { IfErr result (λ e. find_telegram id pig plan.now.groups ≡ Err e) }
+{
+    let Some(g) = plan.tag_of(id) else {
+        return Err(Refusal::NoSuchGroup);
+    };
+    let Some(group) = plan.group(g) else {
+        return Err(Refusal::NoSuchGroup);
+    };
+    match group.at(pig as usize) {
+        Some((t, balise)) => Ok((g, t, balise)),
+        None => Err(Refusal::NoSuchTelegram),
+    }
+}
+
+// The telegram of the packet at a place, with the tags that lead to the packet.
+fn find_packet(plan: &Plan, id: Id, pig: u32, pkt: u32) -> Result<(Tag, u32, &Balise, Tag), Refusal>
+    requires { IsSound plan.now.groups }
+    ensures ok { IfOk result (λ r. (x : Packet) × (find_packet id pig pkt plan.now.groups ≡ Ok (record { group = r.0; place = r.1; telegram = r.2.now; tag = r.3; packet = x })) × (slice_get r.2.now.packets pkt ≡ Some (r.3, x))) }
+    ensures tags { IfOk result (λ r. Distinct same_tag r.2.now.packets) }
+    ensures fault { IfErr result (λ e. find_packet id pig pkt plan.now.groups ≡ Err e) }
+{
+    let (g, t, balise) = match find_telegram(plan, id, pig) {
+        Ok(found) => found,
+        Err(fault) => return Err(fault),
+    };
+    match balise.packet_at(pkt as usize) {
+        Some((p, _)) => Ok((g, t, balise, p)),
+        None => Err(Refusal::NoSuchPacket),
+    }
+}
+
+// What stands directly before the place that a packet shall have: none before the first.
+fn packet_before(balise: &Balise, at: usize) -> Result<Option<Tag>, Refusal>
+    ensures { result ≡ ok_or (anchor_at at balise.now.packets) Refusal.NoSuchPacket }
+{
+    if at == 0 {
+        return Ok(None);
+    }
+    match balise.packet_at(at - 1) {
+        Some((p, _)) => Ok(Some(p)),
+        None => Err(Refusal::NoSuchPacket),
+    }
+}
+
+// What stands directly before the place that a group shall have: none before the first.
+fn group_before(plan: &Plan, at: usize) -> Result<Option<Tag>, Refusal>
+    ensures { result ≡ ok_or (anchor_at at plan.now.groups) Refusal.NoSuchGroup }
+{
+    if at == 0 {
+        return Ok(None);
+    }
+    match plan.at(at - 1) {
+        Some((g, _)) => Ok(Some(g)),
+        None => Err(Refusal::NoSuchGroup),
+    }
+}
+
+impl Command {
+    /// The edit that it asks for on a plan. Refused by the first fault of its address and then of its digits, or as
+    /// `OutOfMemory`.
+    pub(crate) fn edit(self, plan: &Plan) -> Result<Edit, Refusal>
+        requires { IsSound plan.now.groups }
+        ensures ok { IfOk result (λ edit. rules.edit_of (command_of self) plan.now.groups ≡ Ok (edit_of edit)) }
+        ensures fault { IfErr result (λ r. r ≢ Refusal.OutOfMemory → rules.edit_of (command_of self) plan.now.groups ≡ Err r) }
+    {
+        match self {
+            Command::SetVar {
+                id,
+                pig,
+                pkt,
+                var,
+                k,
+                value,
+            } => {
+                let (g, t, _, p) = find_packet(plan, id, pig, pkt)?;
+                Ok(Edit::SetVar {
+                    g,
+                    t,
+                    p,
+                    var,
+                    k,
+                    value,
+                })
+            }
+            Command::SetHead {
+                id,
+                pig,
+                var,
+                value,
+            } => {
+                let (g, t, _) = find_telegram(plan, id, pig)?;
+                Ok(Edit::SetHead { g, t, var, value })
+            }
+            Command::InsertPacket {
+                id,
+                pig,
+                at,
+                digits,
+            } => insert(plan, id, pig, at, &digits),
+            Command::DeletePacket { id, pig, pkt } => {
+                let (g, t, _, p) = find_packet(plan, id, pig, pkt)?;
+                Ok(Edit::DeletePacket { g, t, p })
+            }
+            Command::MovePacket { id, pig, pkt, at } => shift(plan, id, pig, pkt, at),
+            Command::AddGroup { at, telegrams } => {
+                let after = group_before(plan, at as usize)?;
+                Ok(Edit::AddGroup { after, telegrams })
+            }
+            Command::DropGroup { id } => {
+                let g = find_group(plan, id)?;
+                Ok(Edit::DropGroup { g })
+            }
+            Command::Renumber { id, number } => {
+                let g = find_group(plan, id)?;
+                Ok(Edit::Renumber { g, number })
+            }
+            Command::TurnGroup { id } => {
+                let g = find_group(plan, id)?;
+                Ok(Edit::TurnGroup { g })
+            }
+        }
+    }
+}
+
+// A packet put in, by its place and its digits.
+fn insert(plan: &Plan, id: Id, pig: u32, at: u32, digits: &Bits) -> Result<Edit, Refusal>
+    requires { IsSound plan.now.groups }
+    ensures ok { IfOk result (λ edit. rules.edit_of (AskInsert id pig at digits.now) plan.now.groups ≡ Ok (edit_of edit)) }
+    ensures fault { IfErr result (λ r. r ≢ Refusal.OutOfMemory → rules.edit_of (AskInsert id pig at digits.now) plan.now.groups ≡ Err r) }
+{
+    let (g, t, balise) = find_telegram(plan, id, pig)?;
+    let after = packet_before(balise, at as usize)?;
+    let packet = packet_in(digits, balise.version())?;
+    Ok(Edit::InsertPacket {
+        g,
+        t,
+        after,
+        packet,
+    })
+}
+
+// A packet moved, to a place that is counted without it.
+fn shift(plan: &Plan, id: Id, pig: u32, pkt: u32, at: u32) -> Result<Edit, Refusal>
+    requires { IsSound plan.now.groups }
+    ensures ok { IfOk result (λ edit. rules.edit_of (AskMove id pig pkt at) plan.now.groups ≡ Ok (edit_of edit)) }
+    ensures fault { IfErr result (λ r. rules.edit_of (AskMove id pig pkt at) plan.now.groups ≡ Err r) }
+{
+    let (g, t, balise, p) = find_packet(plan, id, pig, pkt)?;
+    let place = at as usize;
+    let with_it = if at <= pkt { place } else { place + 1 };
+    let after = packet_before(balise, with_it)?;
+    Ok(Edit::MovePacket { g, t, p, after })
+}

@@ -1,0 +1,184 @@
+//! A session: commands on a plan, undo, redo and strike in place.
+
+ghost use Rattle.std.specs.Prelude.{◌≡◌, ◌+◌, ◌<◌, ◌≤◌, ◌^◌, ℕ, length, map, nat_le, Err, IfOk, IsOkUnless};
+ghost use Rattle.balise_edits.specs.Lines.{line_in};
+ghost use Rattle.balise_history.specs.Commands.{command_of};
+ghost use Rattle.balise_history.specs.Sessions.{reply_of, seen_at, ChangesOnce, IsWorn};
+ghost use Rattle.balise_rules.specs.Accepting.{Unused};
+ghost use Rattle.balise_rules.specs.Journal.{lines, undone};
+ghost use Rattle.balise_rules.specs.Plan.{IsSound};
+ghost use Rattle.balise_rules.specs.Session.{entries, held, later, most_commands, opened, Answers};
+ghost use Rattle.balise_rules.specs.Session as rules;
+ghost use Rattle.balise_strike_laws.specs.Headline.{Promised};
+
+use crate::command::Command;
+use crate::edited::EditedPlan;
+use crate::struck::Struck;
+use balise_edits::{Entry, Line};
+use balise_plan::Plan;
+use balise_rules::Refusal;
+use std::alloc::Global;
+use std::marker::Model;
+
+/// How many commands a session takes.
+const MOST_COMMANDS: u32 = 1_000_000;
+
+/// A session over a plan. Its plan is at every moment what the standing edits, in order, make of the plan first read.
+#[derive(Drop)]
+pub struct Session {
+    edited: EditedPlan,
+    count: u32,
+}
+
+impl Model for Session {
+    ghost use Rattle.balise_history.specs.Sessions as specs;
+
+    ghost Value = { specs.Seen };
+
+    ghost view = { λ s. specs.seen_at s.count s.edited };
+
+    ghost invariant = { λ s. specs.IsWithin s.edited s.count };
+}
+
+impl Session {
+    /// A session over a plan. Takes no memory.
+    pub fn new(alloc: Global, plan: Plan) -> Session
+        requires sound { IsSound plan.groups }
+        requires untagged { (n : ℕ) → Unused n plan.groups }
+        requires changes { plan.changes < 2 ^ 62 }
+        ensures { result ≡ record { state = opened plan.groups; changes = plan.changes } }
+    {
+        Session {
+            edited: EditedPlan::new(alloc, plan, 1),
+            count: 0,
+        }
+    }
+
+    /// The session of what was read from a journal, of which nothing is counted.
+    pub(crate) fn of(edited: EditedPlan) -> Session
+        requires serials { edited.serial ≤ 4000000000 }
+        requires changes { edited.changes ≤ 2 ^ 62 + 8000000000 }
+        ensures { result ≡ seen_at 0 edited }
+    {
+        Session { edited, count: 0 }
+    }
+
+    /// Does an edit and answers its serial. What was undone or struck can't be done again then.
+    ///
+    /// Refused in this order: `Worn`; the faults of the command's address and digits; those of the edit. `OutOfMemory`
+    /// may stand in place of any answer. A refused command changes nothing, here and in the calls below.
+    pub fn edit(&mut self, command: Command) -> Result<u32, Refusal>
+        ensures answers { Answers (rules.Ask (command_of command)) self.old.state (reply_of rules.Done result) self.new.state }
+        ensures changes { ChangesOnce self.old self.new }
+        ensures worn { IsWorn self.old.state → result ≡ Err Refusal.Worn }
+    {
+        if self.count >= MOST_COMMANDS {
+            return Err(Refusal::Worn);
+        }
+        let serial = self.edited.edit(command)?;
+        self.count += 1;
+        Ok(serial)
+    }
+
+    /// Takes the last standing edit back and answers its serial.
+    ///
+    /// Refused in this order: `Worn`, `NothingToUndo`, or as `OutOfMemory`.
+    pub fn undo(&mut self) -> Result<u32, Refusal>
+        ensures answers { Answers rules.Undo self.old.state (reply_of rules.Undone result) self.new.state }
+        ensures changes { ChangesOnce self.old self.new }
+        ensures worn { IsWorn self.old.state → result ≡ Err Refusal.Worn }
+    {
+        if self.count >= MOST_COMMANDS {
+            return Err(Refusal::Worn);
+        }
+        let serial = self.edited.undo()?;
+        self.count += 1;
+        Ok(serial)
+    }
+
+    /// Does the edit that was undone or struck last again, at its own place, and answers its serial.
+    ///
+    /// Refused in this order: `Worn`, `NothingToRedo`, or as `OutOfMemory`.
+    pub fn redo(&mut self) -> Result<u32, Refusal>
+        ensures answers { Answers rules.Redo self.old.state (reply_of rules.Redone result) self.new.state }
+        ensures changes { ChangesOnce self.old self.new }
+        ensures worn { IsWorn self.old.state → result ≡ Err Refusal.Worn }
+    {
+        if self.count >= MOST_COMMANDS {
+            return Err(Refusal::Worn);
+        }
+        let serial = self.edited.redo()?;
+        self.count += 1;
+        Ok(serial)
+    }
+
+    /// Takes the standing edit of a serial back, where all later ones are independent of it.
+    ///
+    /// Refused in this order: `Worn`, `NoSuchEdit`, `DependsOn` with the serial of the first later edit that isn't
+    /// independent, or as `OutOfMemory`.
+    pub fn strike(&mut self, serial: u32) -> Result<Struck, Refusal>
+        ensures answers { Answers (rules.Strike serial) self.old.state (reply_of (λ s. rules.Struck s.serial) result) self.new.state }
+        ensures compared { IfOk result (λ s. s.compared ≡ length (later serial (entries self.old.state.base self.old.state.standing))) }
+        ensures changes { ChangesOnce self.old self.new }
+        ensures worn { IsWorn self.old.state → result ≡ Err Refusal.Worn }
+    {
+        if self.count >= MOST_COMMANDS {
+            return Err(Refusal::Worn);
+        }
+        let struck = self.edited.strike(serial)?;
+        self.count += 1;
+        Ok(struck)
+    }
+
+    /// Whether 1,000,000 commands were accepted, and each further one is refused as `Worn`.
+    pub fn is_worn(&self) -> bool
+        ensures { result ≡ nat_le most_commands self.now.state.count }
+    {
+        self.count >= MOST_COMMANDS
+    }
+
+    /// The plan that the standing edits make of the plan first read.
+    pub fn plan(&self) -> &Plan
+        ensures { result.now ≡ record { groups = held self.now.state; changes = self.now.changes } }
+    {
+        self.edited.plan()
+    }
+
+    /// The standing edits with what they noted, by rising serial.
+    pub fn standing(&self) -> &[Entry]
+        ensures { result.now ≡ entries self.now.state.base self.now.state.standing }
+    {
+        self.edited.standing()
+    }
+
+    /// The lines of its journal: of the entries that would stand if all that was undone or struck were done again, with
+    /// the anchors and notes that they would have. Refused as `OutOfMemory` alone.
+    pub fn lines(&self) -> Result<Vec<Line>, Refusal>
+        ensures ok { IfOk result (λ v. map line_in v.items ≡ lines self.now.state) }
+        ensures fault { IsOkUnless result Refusal.OutOfMemory }
+    {
+        self.edited.lines()
+    }
+
+    /// The serials of the edits that were undone or struck, the last one last. Refused as `OutOfMemory` alone.
+    pub fn undone(&self) -> Result<Vec<u32>, Refusal>
+        ensures ok { IfOk result (λ v. v.items ≡ undone self.now.state) }
+        ensures fault { IsOkUnless result Refusal.OutOfMemory }
+    {
+        self.edited.undone()
+    }
+
+    /// What it promises.
+    pub(crate) fn promise(&self)
+        ensures { Promised self.now.state.base self.now.state }
+    {
+        self.edited.promise();
+    }
+
+    /// The serial that the next edit gets.
+    pub fn next_serial(&self) -> u32
+        ensures { result ≡ self.now.state.serial }
+    {
+        self.edited.next()
+    }
+}

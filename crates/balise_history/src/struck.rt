@@ -1,0 +1,10 @@
+//! What a strike answers.
+
+/// An edit that was struck.
+#[derive(Clone, Copy, Debug, PartialEq, Eq)]
+pub struct Struck {
+    /// The serial of the edit.
+    pub serial: u32,
+    /// How many later edits stood, each of which was compared with it.
+    pub compared: usize,
+}

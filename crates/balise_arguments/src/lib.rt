@@ -1,0 +1,14 @@
+//! The arguments of the program: `baliseplan [--quiet] [--stop] [--journal] [--json]`.
+#![tactic(auto)]
+
+mod arguments;
+mod fault;
+mod options;
+
+pub use arguments::flags;
+pub use clap::Error;
+pub use fault::ArgumentsFault;
+pub use options::Flags;
+
+#[cfg(test)]
+mod tests;

@@ -1,0 +1,5 @@
+use Rattle.balise_text.proofs.LinesBack as proof
+use Rattle.balise_text.proofs.laws.undone_reads_as_printed.Goals as goal
+
+pub returns : goal.returns
+returns c = proof.undone_reads_as_printed

@@ -1,0 +1,275 @@
+//! What the words of an entry of a journal say.
+
+ghost use Rattle.std.specs.Prelude.{◌≡◌, ◌≢◌, Err, IfErr, IfOk, Ok, option_map, true};
+ghost use Rattle.balise_edits.specs.Lines.{line_in};
+ghost use Rattle.balise_bits.specs.Faults.{refusal_of};
+ghost use Rattle.balise_text.specs.Commands.{is_digits_kind};
+ghost use Rattle.balise_text.specs.JournalLines.{add_entry, delete_entry, drop_entry, entry_words, insert_entry, move_entry, renumber_entry, set_entry, set_head_entry, told, turn_entry};
+ghost use Rattle.balise_text.specs.Left.{left};
+ghost use Rattle.balise_text.specs.Words.{or_bad};
+
+use crate::digit_words::read_telegrams;
+use crate::kind::Kind;
+use crate::words::Parts;
+use balise_bits::{Bits, BitsFault};
+use balise_history::{Line, LineEdit, Noted};
+use balise_rules::Refusal;
+use std::alloc::Global;
+
+// The refusal of a telegram's digits in a journal.
+fn told(fault: BitsFault) -> Refusal
+    ensures told { fault ≢ BitsFault.OutOfMemory → result ≡ told (refusal_of fault) }
+    ensures memory { fault ≡ BitsFault.OutOfMemory → result ≡ Refusal.OutOfMemory }
+{
+    match fault {
+        BitsFault::OutOfMemory => Refusal::OutOfMemory,
+        BitsFault::BadHex => Refusal::BadHex,
+        _ => Refusal::JournalMismatch,
+    }
+}
+
+fn read_set(serial: u32, words: Parts) -> Option<Line>
+    ensures { option_map line_in result ≡ set_entry serial (left words.entry) }
+{
+    let Some(((g, t, p), words)) = words.packet_path() else {
+        return None;
+    };
+    let Some((var, words)) = words.var() else {
+        return None;
+    };
+    let Some((k, words)) = words.number() else {
+        return None;
+    };
+    let Some((value, words)) = words.number() else {
+        return None;
+    };
+    let Some((old, words)) = words.number() else {
+        return None;
+    };
+    if words.is_over() {
+        return Some(Line {
+            serial,
+            edit: LineEdit::SetVar {
+                g,
+                t,
+                p,
+                var,
+                k,
+                value,
+            },
+            noted: Noted::Value(old),
+        });
+    }
+    None
+}
+
+fn read_set_head(serial: u32, words: Parts) -> Option<Line>
+    ensures { option_map line_in result ≡ set_head_entry serial (left words.entry) }
+{
+    let Some(((g, t), words)) = words.telegram_path() else {
+        return None;
+    };
+    let Some((var, words)) = words.var() else {
+        return None;
+    };
+    let Some((value, words)) = words.number() else {
+        return None;
+    };
+    let Some((old, words)) = words.number() else {
+        return None;
+    };
+    if words.is_over() {
+        return Some(Line {
+            serial,
+            edit: LineEdit::SetHead { g, t, var, value },
+            noted: Noted::Value(old),
+        });
+    }
+    None
+}
+
+fn read_delete(serial: u32, words: Parts) -> Option<Line>
+    ensures { option_map line_in result ≡ delete_entry serial (left words.entry) }
+{
+    let Some(((g, t, p), words)) = words.packet_path() else {
+        return None;
+    };
+    let Some((before, words)) = words.neighbour() else {
+        return None;
+    };
+    if words.is_over() {
+        return Some(Line {
+            serial,
+            edit: LineEdit::DeletePacket { g, t, p },
+            noted: Noted::BeforePacket(before),
+        });
+    }
+    None
+}
+
+fn read_move(serial: u32, words: Parts) -> Option<Line>
+    ensures { option_map line_in result ≡ move_entry serial (left words.entry) }
+{
+    let Some(((g, t, p), words)) = words.packet_path() else {
+        return None;
+    };
+    let Some((after, words)) = words.anchor() else {
+        return None;
+    };
+    let Some((before, words)) = words.neighbour() else {
+        return None;
+    };
+    if words.is_over() {
+        return Some(Line {
+            serial,
+            edit: LineEdit::MovePacket { g, t, p, after },
+            noted: Noted::BeforePacket(before),
+        });
+    }
+    None
+}
+
+fn read_drop(serial: u32, words: Parts) -> Option<Line>
+    ensures { option_map line_in result ≡ drop_entry serial (left words.entry) }
+{
+    let Some((g, words)) = words.tag() else {
+        return None;
+    };
+    let Some((before, words)) = words.neighbour() else {
+        return None;
+    };
+    if words.is_over() {
+        return Some(Line {
+            serial,
+            edit: LineEdit::DropGroup { g },
+            noted: Noted::BeforeGroup(before),
+        });
+    }
+    None
+}
+
+fn read_renumber(serial: u32, words: Parts) -> Option<Line>
+    ensures { option_map line_in result ≡ renumber_entry serial (left words.entry) }
+{
+    let Some((g, words)) = words.tag() else {
+        return None;
+    };
+    let Some((number, words)) = words.number() else {
+        return None;
+    };
+    let Some((old, words)) = words.number() else {
+        return None;
+    };
+    if words.is_over() {
+        return Some(Line {
+            serial,
+            edit: LineEdit::Renumber { g, number },
+            noted: Noted::Number(old),
+        });
+    }
+    None
+}
+
+fn read_turn(serial: u32, words: Parts) -> Option<Line>
+    ensures { option_map line_in result ≡ turn_entry serial (left words.entry) }
+{
+    let Some((g, words)) = words.tag() else {
+        return None;
+    };
+    if words.is_over() {
+        return Some(Line {
+            serial,
+            edit: LineEdit::TurnGroup { g },
+            noted: Noted::Nothing,
+        });
+    }
+    None
+}
+
+fn read_insert(alloc: Global, serial: u32, words: Parts) -> Result<Line, Refusal>
+    ensures ok { IfOk result (λ l. or_bad (insert_entry serial (left words.entry)) ≡ Ok (line_in l)) }
+    ensures fault { IfErr result (λ e. e ≢ Refusal.OutOfMemory → or_bad (insert_entry serial (left words.entry)) ≡ Err e) }
+{
+    let Some(((g, t), words)) = words.telegram_path() else {
+        return Err(Refusal::BadLine);
+    };
+    let Some((after, words)) = words.anchor() else {
+        return Err(Refusal::BadLine);
+    };
+    let Some((digits, words)) = words.some_word() else {
+        return Err(Refusal::BadLine);
+    };
+    if !words.is_over() {
+        return Err(Refusal::BadLine);
+    }
+    match Bits::digits_in_bytes(alloc, digits) {
+        Ok(packet) => Ok(Line {
+            serial,
+            edit: LineEdit::InsertPacket {
+                g,
+                t,
+                after,
+                packet,
+            },
+            noted: Noted::Nothing,
+        }),
+        Err(fault) => Err(fault.refusal()),
+    }
+}
+
+fn read_add(alloc: Global, serial: u32, words: Parts) -> Result<Line, Refusal>
+    ensures ok { IfOk result (λ l. or_bad (add_entry serial (left words.entry)) ≡ Ok (line_in l)) }
+    ensures fault { IfErr result (λ e. e ≢ Refusal.OutOfMemory → or_bad (add_entry serial (left words.entry)) ≡ Err e) }
+{
+    let Some((after, words)) = words.anchor() else {
+        return Err(Refusal::BadLine);
+    };
+    if !words.have_digits() {
+        return Err(Refusal::BadLine);
+    }
+    match read_telegrams(alloc, words) {
+        Ok(telegrams) => Ok(Line {
+            serial,
+            edit: LineEdit::AddGroup { after, telegrams },
+            noted: Noted::Nothing,
+        }),
+        Err(fault) => Err(told(fault)),
+    }
+}
+
+// An entry without digits.
+fn plainly(line: Option<Line>) -> Result<Line, Refusal>
+    ensures ok { IfOk result (λ l. or_bad (option_map Ok (option_map line_in line)) ≡ Ok (line_in l)) }
+    ensures fault { IfErr result (λ e. or_bad (option_map Ok (option_map line_in line)) ≡ Err e) }
+    ensures memory { IfErr result (λ e. e ≢ Refusal.OutOfMemory) }
+{
+    match line {
+        Some(line) => Ok(line),
+        None => Err(Refusal::BadLine),
+    }
+}
+
+/// What the words behind the serial and the name of an entry say.
+pub(crate) fn read_entry(
+    alloc: Global,
+    serial: u32,
+    kind: Option<Kind>,
+    words: Parts,
+) -> Result<Line, Refusal>
+    ensures ok { IfOk result (λ l. or_bad (entry_words serial kind (left words.entry)) ≡ Ok (line_in l)) }
+    ensures fault { IfErr result (λ e. e ≢ Refusal.OutOfMemory → or_bad (entry_words serial kind (left words.entry)) ≡ Err e) }
+    ensures memory { IfErr result (λ e. e ≡ Refusal.OutOfMemory → is_digits_kind kind ≡ true) }
+{
+    match kind {
+        None => Err(Refusal::BadLine),
+        Some(Kind::Set) => plainly(read_set(serial, words)),
+        Some(Kind::SetHead) => plainly(read_set_head(serial, words)),
+        Some(Kind::Insert) => read_insert(alloc, serial, words),
+        Some(Kind::Delete) => plainly(read_delete(serial, words)),
+        Some(Kind::Move) => plainly(read_move(serial, words)),
+        Some(Kind::Add) => read_add(alloc, serial, words),
+        Some(Kind::Drop) => plainly(read_drop(serial, words)),
+        Some(Kind::Renumber) => plainly(read_renumber(serial, words)),
+        Some(Kind::Turn) => plainly(read_turn(serial, words)),
+    }
+}

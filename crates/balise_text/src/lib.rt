@@ -1,0 +1,44 @@
+//! The texts of the program: commands, plan lines and journal lines as they are read, replies, reviews and
+//! journal lines as they are printed.
+#![tactic(auto)]
+
+// What a line says, word by word.
+mod digit_words;
+mod kind;
+mod places;
+mod words;
+
+// Lines that are read.
+mod commands;
+mod entries;
+mod head;
+mod journal_line;
+mod part;
+mod plan_line;
+mod request;
+
+// Lines that are printed.
+mod digits;
+mod journal_text;
+pub mod laws;
+mod printing;
+mod replies;
+mod reply;
+mod reviews;
+#[cfg(test)]
+mod tests;
+
+pub use balise_history::{Bits, Command, Id, Line, LineEdit, Noted, Refusal, Tag, Var};
+pub use balise_lines::{Counted, WriteFault};
+pub use balise_rules::{ReviewLine, Reviewed};
+pub use digits::put_digits;
+pub use head::{Head, Version, read_head};
+pub use journal_line::{JournalLine, read_journal_line};
+pub use journal_text::{put_entry, put_head, put_undone};
+pub use part::Part;
+pub use plan_line::{PlanLine, read_plan_line};
+pub use printing::put_texts;
+pub use replies::{put_bad, put_fault, put_reply};
+pub use reply::Reply;
+pub use request::{Request, read_request};
+pub use reviews::put_review;

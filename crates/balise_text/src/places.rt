@@ -1,0 +1,128 @@
+//! Words that say where: tags, anchors, neighbours and paths.
+
+ghost use Rattle.std.specs.Prelude.{◌≡◌};
+ghost use Rattle.balise_text.specs.Places.{anchor_of, neighbour_of, packet_path_of, tag_of, telegram_path_of};
+
+use crate::words::{Parts, read_number};
+use balise_rules::Tag;
+
+fn read_tag(word: &[u8]) -> Option<Tag>
+    ensures { result ≡ tag_of word.now }
+{
+    match word {
+        [] => None,
+        [kind, digits @ ..] => {
+            if *kind == b'b' {
+                let Some(place) = read_number(digits) else {
+                    return None;
+                };
+                return Some(Tag::Base(place));
+            }
+            if *kind == b'n' {
+                let Some(serial) = read_number(digits) else {
+                    return None;
+                };
+                return Some(Tag::Fresh(serial));
+            }
+            None
+        }
+    }
+}
+
+fn read_anchor(word: &[u8]) -> Option<Option<Tag>>
+    ensures { result ≡ anchor_of word.now }
+{
+    if word == b"^".as_slice() {
+        return Some(None);
+    }
+    let Some(tag) = read_tag(word) else {
+        return None;
+    };
+    Some(Some(tag))
+}
+
+fn read_neighbour(word: &[u8]) -> Option<Option<Tag>>
+    ensures { result ≡ neighbour_of word.now }
+{
+    if word == b"$".as_slice() {
+        return Some(None);
+    }
+    let Some(tag) = read_tag(word) else {
+        return None;
+    };
+    Some(Some(tag))
+}
+
+/// The tags of a group and of a telegram.
+fn read_telegram_path(word: &[u8]) -> Option<(Tag, u32)>
+    ensures { result ≡ telegram_path_of word.now }
+{
+    let (group, rest) = Parts::new(word, b'/').tag()?;
+    let (telegram, rest) = rest.number()?;
+    if rest.is_over() {
+        return Some((group, telegram));
+    }
+    None
+}
+
+/// The tags of a group, of a telegram and of a packet.
+fn read_packet_path(word: &[u8]) -> Option<(Tag, u32, Tag)>
+    ensures { result ≡ packet_path_of word.now }
+{
+    let (group, rest) = Parts::new(word, b'/').tag()?;
+    let (telegram, rest) = rest.number()?;
+    let (packet, rest) = rest.tag()?;
+    if rest.is_over() {
+        return Some((group, telegram, packet));
+    }
+    None
+}
+
+impl<'a> Parts<'a> {
+    ghost use Rattle.balise_text.specs.Left.{TakesPart, left};
+
+    /// The tag that comes next.
+    pub(crate) fn tag(self) -> Option<(Tag, Parts<'a>)>
+        ensures { TakesPart tag_of (left self.entry) result }
+    {
+        let (word, rest) = self.next()?;
+        let tag = read_tag(word)?;
+        Some((tag, rest))
+    }
+
+    /// The anchor that comes next: a tag, or the start.
+    pub(crate) fn anchor(self) -> Option<(Option<Tag>, Parts<'a>)>
+        ensures { TakesPart anchor_of (left self.entry) result }
+    {
+        let (word, rest) = self.next()?;
+        let anchor = read_anchor(word)?;
+        Some((anchor, rest))
+    }
+
+    /// The neighbour that comes next: a tag, or the end.
+    pub(crate) fn neighbour(self) -> Option<(Option<Tag>, Parts<'a>)>
+        ensures { TakesPart neighbour_of (left self.entry) result }
+    {
+        let (word, rest) = self.next()?;
+        let neighbour = read_neighbour(word)?;
+        Some((neighbour, rest))
+    }
+
+    /// The path to a telegram that comes next.
+    pub(crate) fn telegram_path(self) -> Option<((Tag, u32), Parts<'a>)>
+        ensures { TakesPart telegram_path_of (left self.entry) result }
+    {
+        let (word, rest) = self.next()?;
+        let path = read_telegram_path(word)?;
+        Some((path, rest))
+    }
+
+    /// The path to a packet that comes next.
+    pub(crate) fn packet_path(self) -> Option<((Tag, u32, Tag), Parts<'a>)>
+        ensures { TakesPart packet_path_of (left self.entry) result }
+    {
+        let (word, rest) = self.next()?;
+        let path = read_packet_path(word)?;
+        Some((path, rest))
+    }
+}

@@ -1,0 +1,98 @@
+//! A command as a line has it.
+
+ghost use Rattle.std.specs.Prelude.{◌≡◌, ◌≢◌, Err, IfErr, IfOk, Ok, option_map, true};
+ghost use Rattle.balise_rules.specs.Session as session;
+ghost use Rattle.balise_text.specs.Commands.{call_of, reads_digits, strike_words};
+ghost use Rattle.balise_text.specs.Left.{left};
+ghost use Rattle.balise_text.specs.Requests.{call};
+ghost use Rattle.balise_text.specs.Words.{no_more, or_bad};
+
+use crate::commands::read_command;
+use crate::kind::read_kind;
+use crate::words::Parts;
+use balise_history::Command;
+use balise_rules::Refusal;
+use std::alloc::Global;
+
+/// What a command asks of a session.
+#[derive(Debug, Drop)]
+pub enum Request {
+    /// To do an edit.
+    Edit(Command),
+    /// To take the last edit back.
+    Undo,
+    /// To do the last edit that was taken back again.
+    Redo,
+    /// To take the edit of a serial back in place.
+    Strike(u32),
+}
+
+fn read_undo(words: Parts) -> Option<Request>
+    ensures { option_map call result ≡ no_more (left words.entry) session.Undo }
+{
+    if words.is_over() {
+        return Some(Request::Undo);
+    }
+    None
+}
+
+fn read_redo(words: Parts) -> Option<Request>
+    ensures { option_map call result ≡ no_more (left words.entry) session.Redo }
+{
+    if words.is_over() {
+        return Some(Request::Redo);
+    }
+    None
+}
+
+fn read_strike(words: Parts) -> Option<Request>
+    ensures { option_map call result ≡ strike_words (left words.entry) }
+{
+    let Some((serial, words)) = words.number() else {
+        return None;
+    };
+    if words.is_over() {
+        return Some(Request::Strike(serial));
+    }
+    None
+}
+
+// A command without digits.
+fn plainly(request: Option<Request>) -> Result<Request, Refusal>
+    ensures ok { IfOk result (λ r. or_bad (option_map Ok (option_map call request)) ≡ Ok (call r)) }
+    ensures fault { IfErr result (λ e. or_bad (option_map Ok (option_map call request)) ≡ Err e) }
+    ensures memory { IfErr result (λ e. e ≢ Refusal.OutOfMemory) }
+{
+    match request {
+        Some(request) => Ok(request),
+        None => Err(Refusal::BadLine),
+    }
+}
+
+/// The command that a line, without its end, is.
+///
+/// Refused: `BadLine` where the line is outside the grammar; then for the words of digits of `insert` and `add`
+/// `BadHex`, and for those of `add` `BadLength` and `SpareBits`, word by word. `OutOfMemory` may stand in place of any
+/// answer to `insert` and `add`, and of no other.
+pub fn read_request(alloc: Global, line: &[u8]) -> Result<Request, Refusal>
+    ensures ok { IfOk result (λ r. call_of line.now ≡ Ok (call r)) }
+    ensures fault { IfErr result (λ e. e ≢ Refusal.OutOfMemory → call_of line.now ≡ Err e) }
+    ensures memory { IfErr result (λ e. e ≡ Refusal.OutOfMemory → reads_digits line.now ≡ true) }
+{
+    let Some((name, words)) = Parts::words(line).next() else {
+        return Err(Refusal::BadLine);
+    };
+    if name == b"undo".as_slice() {
+        return plainly(read_undo(words));
+    }
+    if name == b"redo".as_slice() {
+        return plainly(read_redo(words));
+    }
+    if name == b"strike".as_slice() {
+        return plainly(read_strike(words));
+    }
+    match read_command(alloc, read_kind(name), words) {
+        Ok(command) => Ok(Request::Edit(command)),
+        Err(refusal) => Err(refusal),
+    }
+}

@@ -1,0 +1,5 @@
+//! Lines read and printed: each kind once, each refusal once.
+
+mod commands;
+mod journals;
+mod replies;

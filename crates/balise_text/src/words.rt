@@ -1,0 +1,145 @@
+//! The words of a line, one after another.
+
+ghost use Rattle.std.specs.Prelude.{◌≡◌, ◌==◌, ◌∷◌, ◌↔◌, [], IsTrue, MatchOption, position};
+ghost use Rattle.balise_rules.specs.Variables.{var_named};
+ghost use Rattle.balise_text.specs.Words.{id_of, number_of, parts_of, value_from, words_of};
+
+use balise_rules::{Id, Var};
+
+/// Where a byte stands first.
+fn find_byte(text: &[u8], mark: u8) -> Option<usize>
+    ensures { result ≡ position (λ b. b == mark) text.now }
+{
+    text.iter().position(|byte| *byte == mark)
+}
+
+/// What is left of the parts of a text between marks.
+#[derive(Clone, Copy)]
+pub(crate) struct Parts<'a> {
+    text: &'a [u8],
+    mark: u8,
+    over: bool,
+}
+
+impl<'a> Parts<'a> {
+    ghost use Rattle.balise_text.specs.Left.{left, TakesPart};
+
+    /// The parts of a text.
+    pub(crate) fn new(text: &'a [u8], mark: u8) -> Parts<'a>
+        ensures { left result ≡ parts_of mark text.now }
+    {
+        Parts {
+            text,
+            mark,
+            over: false,
+        }
+    }
+
+    /// The words of a line.
+    pub(crate) fn words(line: &'a [u8]) -> Parts<'a>
+        ensures { left result ≡ words_of line.now }
+    {
+        Parts::new(line, b' ')
+    }
+
+    /// Whether no part comes any more.
+    pub(crate) fn is_over(self) -> bool
+        ensures { IsTrue result ↔ (left self.entry ≡ []) }
+    {
+        self.over
+    }
+
+    /// The next part, and what follows it.
+    pub(crate) fn next(self) -> Option<(&'a [u8], Parts<'a>)>
+        ensures { MatchOption result (left self.entry ≡ []) (λ p. left self.entry ≡ p.0.now ∷ left p.1) }
+    {
+        if self.over {
+            return None;
+        }
+        match find_byte(self.text, self.mark) {
+            Some(at) => Some((
+                &self.text[..at],
+                Parts {
+                    text: &self.text[at + 1..],
+                    mark: self.mark,
+                    over: false,
+                },
+            )),
+            None => Some((
+                self.text,
+                Parts {
+                    text: self.text,
+                    mark: self.mark,
+                    over: true,
+                },
+            )),
+        }
+    }
+
+    /// The number that comes next.
+    pub(crate) fn number(self) -> Option<(u32, Parts<'a>)>
+        ensures { TakesPart number_of (left self.entry) result }
+    {
+        let (word, rest) = self.next()?;
+        let number = read_number(word)?;
+        Some((number, rest))
+    }
+
+    /// The identity that comes next.
+    pub(crate) fn id(self) -> Option<(Id, Parts<'a>)>
+        ensures { TakesPart id_of (left self.entry) result }
+    {
+        let (word, rest) = self.next()?;
+        let id = read_id(word)?;
+        Some((id, rest))
+    }
+
+    /// The variable that comes next.
+    pub(crate) fn var(self) -> Option<(Var, Parts<'a>)>
+        ensures { TakesPart var_named (left self.entry) result }
+    {
+        let (word, rest) = self.next()?;
+        let var = Var::from_bytes(word)?;
+        Some((var, rest))
+    }
+}
+
+/// The value of digits, at most 4294967295.
+fn read_value(word: &[u8]) -> Option<u32>
+    ensures { result ≡ value_from 0 word.now }
+{
+    let mut value: u64 = 0;
+    for byte in word {
+        if !byte.is_ascii_digit() {
+            return None;
+        }
+        value = value * 10 + u64::from(*byte - b'0');
+        if value > 4_294_967_295 {
+            return None;
+        }
+    }
+    Some(value as u32)
+}
+
+/// The decimal number that a word is.
+pub(crate) fn read_number(word: &[u8]) -> Option<u32>
+    ensures { result ≡ number_of word.now }
+{
+    match word {
+        [] => None,
+        [b'0', _, ..] => None,
+        _ => read_value(word),
+    }
+}
+
+/// The identity that a word is: country and number with a point between them.
+fn read_id(word: &[u8]) -> Option<Id>
+    ensures { result ≡ id_of word.now }
+{
+    let (country, rest) = Parts::new(word, b'.').number()?;
+    let (number, rest) = rest.number()?;
+    if rest.is_over() {
+        return Some(Id { country, number });
+    }
+    None
+}

@@ -1,0 +1,10 @@
+//! The view of a plan: each group as one line of JSON.
+#![tactic(auto)]
+
+mod group;
+mod packet;
+mod telegram;
+#[cfg(test)]
+mod tests;
+
+pub use group::group_line;

@@ -1,5 +1,5 @@
 -- What a run keeps from line to line.
-use Rattle.std.proofs.Common.{◌≡◌, inl, inr, ℕ, ◌+◌, [], ◌∷◌, ◌++◌, Bool, true, false, not, length, Option, Result, Ok, Err, IfOk, OnErr, refl, sym, ap, subst, ◌∙◌, append_assoc, append-nil}
+use Rattle.std.proofs.Common.{◌≡◌, inl, inr, ℕ, ◌+◌, [], ◌∷◌, ◌++◌, Bool, true, false, not, length, Option, Some, None, Result, Ok, Err, IfOk, OnErr, refl, sym, ap, subst, ◌∙◌, append_assoc, append-nil}
 use Rattle.std.specs.Io.KnownBytes.{Appends, Consumes, IsAtEnd, Keeps, prepend_known}
 use Rattle.std.proofs.KnownBytes.{Appends-trans, Appends-nil, Consumes-nil, Consumes-trans, Keeps-refl}
 use Rattle.balise_lines.specs.Lines.{Fits, IsLine, Line, lines_of, whole}
@@ -9,35 +9,34 @@ use Rattle.balise_lines.specs.declared.lines.Next.TheVariants as next
 use Rattle.balise_lines.specs.Writing.{AppendsSome}
 use Rattle.balise_lines.proofs.InputsLeft.{ahead_read, input_at_end, input_read, lines_of-line, some_input}
 use Rattle.balise_lines.proofs.WrittenTexts.{some_after, some_front, some_nothing}
-use Rattle.balise_cli.specs.Replies.{Text}
+use Rattle.balise_arguments.specs.declared.options.Flags.{Flags}
+use Rattle.balise_text.specs.Texts.{Text}
 use Rattle.balise_cli.specs.Output.{Ended, Ending, Header, IsOutput, IsStep, Next, On, Over, Phase, TooLong, at_end}
 use Rattle.balise_cli.specs.Ends.{IsOutputOf, WritesOutput, WritesSome}
-use Rattle.balise_cli.specs.Machine.{DidEnd, DidSome, DidStep, last_text, phase_of}
-use Rattle.balise_cli.specs.declared.machine.Machine.{Machine}
-use Rattle.balise_cli.specs.declared.machine.After.TheVariants as after
+use Rattle.balise_cli.specs.Machine.{DidEnd, DidSome, DidStep, last_text}
 use Rattle.balise_cli.specs.declared.fault.RunFault.{RunFault}
 use Rattle.balise_cli.specs.declared.status.Status.{Status}
 use Rattle.balise_cli.proofs.Outputs.{ends_over, some_output}
 
 -- what comes from here on, behind what was read and written, is a run of the whole; after a last line without an end nothing comes
-abbrev pub Leads : Text → Text → Bool → Phase → ℕ → ℕ → Type 0
-Leads read written over p n place = (rest more : Text) (e : Ending) → (over ≡ true → rest ≡ []) → IsOutput true p n place (lines_of rest) more e → IsOutputOf (read ++ rest) (written ++ more) e
+abbrev pub Leads : Flags → Text → Text → Bool → Phase → ℕ → ℕ → Type 0
+Leads flags read written over p n place = (rest more : Text) (e : Ending) → (over ≡ true → rest ≡ []) → IsOutput flags true p n place (lines_of rest) more e → IsOutputOf flags (read ++ rest) (written ++ more) e
 
-pub record GoesOn (had left old now : Option Text) (over : Bool) (p : Phase) (n place : ℕ) : Type 0 where
+pub record GoesOn (flags : Flags) (had left old now : Option Text) (over : Bool) (p : Phase) (n place : ℕ) : Type 0 where
   pub read : Text
   pub written : Text
   pub consumed : Consumes had left read
   pub appended : Appends old now written
-  pub leads : Leads read written over p n place
+  pub leads : Leads flags read written over p n place
 
 -- at first
-pub begins : (had left old : Option Text) (over : Bool) (p : Phase) (n place : ℕ) → left ≡ had → p ≡ Header → n ≡ 1 → place ≡ 0 → GoesOn had left old old over p n place
-begins had left old over p n place e f g h = record {
+pub begins : (flags : Flags) (had left old : Option Text) (over : Bool) (p : Phase) (n place : ℕ) → left ≡ had → p ≡ Header → n ≡ 1 → place ≡ 0 → GoesOn flags had left old old over p n place
+begins flags had left old over p n place e f g h = record {
   read = [];
   written = [];
   consumed = subst (λ t. Consumes had t []) (sym e) (Consumes-nil had);
   appended = Appends-nil old;
-  leads = λ rest more e _ o. subst (λ t. IsOutput true t 1 0 (lines_of rest) more e) f (subst (λ (t : ℕ). IsOutput true p t 0 (lines_of rest) more e) g (subst (λ (t : ℕ). IsOutput true p n t (lines_of rest) more e) h o));
+  leads = λ rest more e _ o. subst (λ t. IsOutput flags true t 1 0 (lines_of rest) more e) f (subst (λ (t : ℕ). IsOutput flags true p t 0 (lines_of rest) more e) g (subst (λ (t : ℕ). IsOutput flags true p n t (lines_of rest) more e) h o));
 }
 
 -- A line that was taken.
@@ -70,26 +69,26 @@ lines_left left next over place line rest took none = lines_of-line line rest to
 -- How a run goes on and ends.
 
 -- a line was done, and the run goes on
-pub stepped : (had left next old now new : Option Text) (before over : Bool) (p : Phase) (m : Machine) (n k place to : ℕ) (line : Line) → before ≡ false → TookIt left next over place line
-    → DidStep p n line.bytes now new (after.On m) → k ≡ n + 1 → to ≡ place + length (whole line) → GoesOn had left old now before p n place → GoesOn had next old new over (phase_of m) k to
-stepped had left next old now new before over p m n k place to line first took did e f go = record {
+pub stepped : (flags : Flags) (had left next old now new : Option Text) (before over : Bool) (p q : Phase) (n k place to : ℕ) (line : Line) → before ≡ false → TookIt left next over place line
+    → DidStep flags p n line.bytes now new q None → k ≡ n + 1 → to ≡ place + length (whole line) → GoesOn flags had left old now before p n place → GoesOn flags had next old new over q k to
+stepped flags had left next old now new before over p q n k place to line first took did e f go = record {
   read = go.read ++ whole line;
   written = go.written ++ did.0;
   consumed = Consumes-trans had left next _ _ go.consumed took.consumed;
   appended = Appends-trans old now new _ _ go.appended did.1.1;
   leads = λ rest more end none o.
-      let o' : IsOutput true (phase_of m) (n + 1) (place + length (whole line)) (lines_of rest) more end = subst (λ (t : ℕ). IsOutput true (phase_of m) t (place + length (whole line)) (lines_of rest) more end) e (subst (λ (t : ℕ). IsOutput true (phase_of m) k t (lines_of rest) more end) f o) in
-      let here : IsOutput true p n place (lines_of (whole line ++ rest)) (did.0 ++ more) end = rw (lines_left left next over place line rest took none) (inr (took.fits, (did.0, (On (phase_of m), (more, (did.1.0, refl, o')))))) in
-      let all : IsOutputOf (go.read ++ (whole line ++ rest)) (go.written ++ (did.0 ++ more)) end = go.leads (whole line ++ rest) (did.0 ++ more) end (λ b. absurd cc) here in
-      subst (λ (w : Text). IsOutputOf ((go.read ++ whole line) ++ rest) w end) (sym (append_assoc go.written did.0 more))
-      (subst (λ (r : Text). IsOutputOf r (go.written ++ (did.0 ++ more)) end) (sym (append_assoc go.read (whole line) rest)) all);
+      let o' : IsOutput flags true (q) (n + 1) (place + length (whole line)) (lines_of rest) more end = subst (λ (t : ℕ). IsOutput flags true (q) t (place + length (whole line)) (lines_of rest) more end) e (subst (λ (t : ℕ). IsOutput flags true (q) k t (lines_of rest) more end) f o) in
+      let here : IsOutput flags true p n place (lines_of (whole line ++ rest)) (did.0 ++ more) end = rw (lines_left left next over place line rest took none) (inr (took.fits, (did.0, (On q, (more, (did.1.0, refl, o')))))) in
+      let all : IsOutputOf flags (go.read ++ (whole line ++ rest)) (go.written ++ (did.0 ++ more)) end = go.leads (whole line ++ rest) (did.0 ++ more) end (λ b. absurd cc) here in
+      subst (λ (w : Text). IsOutputOf flags ((go.read ++ whole line) ++ rest) w end) (sym (append_assoc go.written did.0 more))
+      (subst (λ (r : Text). IsOutputOf flags r (go.written ++ (did.0 ++ more)) end) (sym (append_assoc go.read (whole line) rest)) all);
 }
 
 -- the input ended
-pub ended : (had left old now new : Option Text) (over : Bool) (p : Phase) (n place : ℕ) (status : Status) → IsAtEnd left → DidEnd p n now new status
-    → GoesOn had left old now over p n place → WritesOutput had old new (Ended status)
-ended had left old now new over p n place status end did go =
-    let here : IsOutput true p n place [] did.0 (Ended status) = rw did.1.0 (refl, refl) in record {
+pub ended : (flags : Flags) (had left old now new : Option Text) (over : Bool) (p : Phase) (n place : ℕ) (status : Status) → IsAtEnd left → DidEnd flags p n now new status
+    → GoesOn flags had left old now over p n place → WritesOutput flags had old new (Ended status)
+ended flags had left old now new over p n place status end did go =
+    let here : IsOutput flags true p n place [] did.0 (Ended status) = rw did.1.0 (refl, refl) in record {
       input = go.read ++ [];
       is_input = input_read had left go.read [] go.consumed (input_at_end left end);
       out = go.written ++ did.0;
@@ -98,9 +97,9 @@ ended had left old now new over p n place status end did go =
     }
 
 -- a line that doesn't fit stands next
-pub too_long : (had left old now : Option Text) (over : Bool) (p : Phase) (n place : ℕ) → LongNext left place → over ≡ false → GoesOn had left old now over p n place → WritesOutput had old now TooLong
-too_long had left old now over p n place next first go =
-    let here : IsOutput true p n place (lines_of next.input) [] TooLong = rw next.first (inl (next.long, refl, refl)) in record {
+pub too_long : (flags : Flags) (had left old now : Option Text) (over : Bool) (p : Phase) (n place : ℕ) → LongNext left place → over ≡ false → GoesOn flags had left old now over p n place → WritesOutput flags had old now TooLong
+too_long flags had left old now over p n place next first go =
+    let here : IsOutput flags true p n place (lines_of next.input) [] TooLong = rw next.first (inl (next.long, refl, refl)) in record {
       input = go.read ++ next.input;
       is_input = input_read had left go.read next.input go.consumed next.is_input;
       out = go.written ++ [];
@@ -109,11 +108,11 @@ too_long had left old now over p n place next first go =
     }
 
 -- a line was done, and the run is over
-pub over_at : (had left next old now new : Option Text) (before over : Bool) (p : Phase) (n place : ℕ) (line : Line) (status : Status) → before ≡ false → TookIt left next over place line
-    → (over ≡ true → IsAtEnd next) → DidStep p n line.bytes now new (after.Over status) → GoesOn had left old now before p n place → WritesOutput had old new (Ended status)
-over_at had left next old now new before over p n place line status first took end did go =
+pub over_at : (flags : Flags) (had left next old now new : Option Text) (before over : Bool) (p q : Phase) (n place : ℕ) (line : Line) (status : Status) → before ≡ false → TookIt left next over place line
+    → (over ≡ true → IsAtEnd next) → DidStep flags p n line.bytes now new q (Some status) → GoesOn flags had left old now before p n place → WritesOutput flags had old new (Ended status)
+over_at flags had left next old now new before over p q n place line status first took end did go =
     let (rest, (is, none)) = some_input next over end in
-    let here : IsOutput true p n place (lines_of (whole line ++ rest)) (did.0 ++ did.1.0) (Ended status) = rw (lines_left left next over place line rest took none) (inr (took.fits, (did.0, (Over did.1.0 status, (did.1.0, (did.1.1.0, refl, (refl, refl))))))) in record {
+    let here : IsOutput flags true p n place (lines_of (whole line ++ rest)) (did.0 ++ did.1.0) (Ended status) = rw (lines_left left next over place line rest took none) (inr (took.fits, (did.0, (Over did.1.0 status, (did.1.0, (did.1.1.0, refl, (refl, refl))))))) in record {
       input = go.read ++ (whole line ++ rest);
       is_input = input_read had left go.read (whole line ++ rest) go.consumed (input_read left next (whole line) rest took.consumed is);
       out = go.written ++ (did.0 ++ did.1.0);
@@ -124,9 +123,9 @@ over_at had left next old now new before over p n place line status first took e
 -- Faults.
 
 -- a fault comes, after a beginning of what may come from here on was written
-fault_at : (had left has old now new : Option Text) (over : Bool) (p : Phase) (n place : ℕ) (rest more : Text) (e : Ending) → (over ≡ true → rest ≡ [])
-    → IsOutput true p n place (lines_of rest) more e → Consumes left has rest → AppendsSome now new more → GoesOn had left old now over p n place → WritesSome had has old new
-fault_at had left has old now new over p n place rest more e none o took wrote go = record {
+fault_at : (flags : Flags) (had left has old now new : Option Text) (over : Bool) (p : Phase) (n place : ℕ) (rest more : Text) (e : Ending) → (over ≡ true → rest ≡ [])
+    → IsOutput flags true p n place (lines_of rest) more e → Consumes left has rest → AppendsSome now new more → GoesOn flags had left old now over p n place → WritesSome flags had has old new
+fault_at flags had left has old now new over p n place rest more e none o took wrote go = record {
   read = go.read ++ rest;
   consumed = Consumes-trans had left has _ _ go.consumed took;
   out = go.written ++ more;
@@ -136,38 +135,38 @@ fault_at had left has old now new over p n place rest more e none o took wrote g
 }
 
 -- before a line
-pub fault_before : (had left has old now : Option Text) (ahead : Text) (over : Bool) (p : Phase) (n place : ℕ) → Keeps left (prepend_known ahead has) → (over ≡ true → IsAtEnd left)
-    → GoesOn had left old now over p n place → WritesSome had has old now
-fault_before had left has old now ahead over p n place k end go =
+pub fault_before : (flags : Flags) (had left has old now : Option Text) (ahead : Text) (over : Bool) (p : Phase) (n place : ℕ) → Keeps left (prepend_known ahead has) → (over ≡ true → IsAtEnd left)
+    → GoesOn flags had left old now over p n place → WritesSome flags had has old now
+fault_before flags had left has old now ahead over p n place k end go =
     let (rest, (took, none)) = ahead_read left has ahead over k end in
-    let o = some_output true p n place (lines_of rest) in
-    fault_at had left has old now now over p n place rest o.0 o.1.0 none o.1.1 took (some_nothing now o.0) go
+    let o = some_output flags true p n place (lines_of rest) in
+    fault_at flags had left has old now now over p n place rest o.0 o.1.0 none o.1.1 took (some_nothing now o.0) go
 
 -- at the end
-pub fault_ending : (had left has old now new : Option Text) (ahead : Text) (over : Bool) (p : Phase) (n place : ℕ) → Keeps left (prepend_known ahead has) → IsAtEnd left
-    → AppendsSome now new (last_text (at_end p n)) → GoesOn had left old now over p n place → WritesSome had has old new
-fault_ending had left has old now new ahead over p n place k end wrote go =
+pub fault_ending : (flags : Flags) (had left has old now new : Option Text) (ahead : Text) (over : Bool) (p : Phase) (n place : ℕ) → Keeps left (prepend_known ahead has) → IsAtEnd left
+    → AppendsSome now new (last_text (at_end flags p n)) → GoesOn flags had left old now over p n place → WritesSome flags had has old new
+fault_ending flags had left has old now new ahead over p n place k end wrote go =
     let (rest, (took, none)) = ahead_read left has ahead true k (λ _. end) in
-    let o = ends_over p n in
+    let o = ends_over flags p n in
     let is : rest ≡ [] = none refl in
-    let here : IsOutput true p n place [] o.0 (Ended o.1.0) = rw o.1.1 (refl, refl) in
-    fault_at had left has old now new over p n place rest o.0 (Ended o.1.0) (λ _. is) (subst (λ (r : Text). IsOutput true p n place (lines_of r) o.0 (Ended o.1.0)) (sym is) here) took
+    let here : IsOutput flags true p n place [] o.0 (Ended o.1.0) = rw o.1.1 (refl, refl) in
+    fault_at flags had left has old now new over p n place rest o.0 (Ended o.1.0) (λ _. is) (subst (λ (r : Text). IsOutput flags true p n place (lines_of r) o.0 (Ended o.1.0)) (sym is) here) took
     (subst (λ x. AppendsSome now new (last_text x)) o.1.1 wrote) go
 
 -- in a line
-pub fault_in : (had left has old now new : Option Text) (ahead : Text) (before over : Bool) (p : Phase) (n place : ℕ) (line : Line) → before ≡ false → TookIt left (prepend_known ahead has) over place line
-    → (over ≡ true → IsAtEnd (prepend_known ahead has)) → DidSome p n line.bytes now new → GoesOn had left old now before p n place → WritesSome had has old new
-fault_in had left has old now new ahead before over p n place line first took end did go =
+pub fault_in : (flags : Flags) (had left has old now new : Option Text) (ahead : Text) (before over : Bool) (p : Phase) (n place : ℕ) (line : Line) → before ≡ false → TookIt left (prepend_known ahead has) over place line
+    → (over ≡ true → IsAtEnd (prepend_known ahead has)) → DidSome flags p n line.bytes now new → GoesOn flags had left old now before p n place → WritesSome flags had has old new
+fault_in flags had left has old now new ahead before over p n place line first took end did go =
     let (rest, (ate, none)) = ahead_read (prepend_known ahead has) has ahead over (Keeps-refl (prepend_known ahead has)) end in
     let all : Consumes left has (whole line ++ rest) = Consumes-trans left (prepend_known ahead has) has _ _ took.consumed ate in
     by rest all (lines_left left (prepend_known ahead has) over place line rest took none) did.1.0 did.1.1.0 did.1.1.1
   where
-    by : (rest : Text) → Consumes left has (whole line ++ rest) → lines_of (whole line ++ rest) ≡ line ∷ lines_of rest → (next : Next) → IsStep true p n line.bytes did.0 next → AppendsSome now new (did.0 ++ last_text next)
-        → WritesSome had has old new
+    by : (rest : Text) → Consumes left has (whole line ++ rest) → lines_of (whole line ++ rest) ≡ line ∷ lines_of rest → (next : Next) → IsStep flags true p n line.bytes did.0 next → AppendsSome now new (did.0 ++ last_text next)
+        → WritesSome flags had has old new
     by rest all parts (On q) is w =
-        let o = some_output true q (n + 1) (place + length (whole line)) (lines_of rest) in
-        let here : IsOutput true p n place (lines_of (whole line ++ rest)) (did.0 ++ o.0) o.1.0 = rw parts (inr (took.fits, (did.0, (On q, (o.0, (is, refl, o.1.1)))))) in
-        fault_at had left has old now new before p n place (whole line ++ rest) _ _ (λ b. absurd cc) here all (some_front now new did.0 o.0 (subst (λ (t : Text). AppendsSome now new t) (append-nil did.0) w)) go
+        let o = some_output flags true q (n + 1) (place + length (whole line)) (lines_of rest) in
+        let here : IsOutput flags true p n place (lines_of (whole line ++ rest)) (did.0 ++ o.0) o.1.0 = rw parts (inr (took.fits, (did.0, (On q, (o.0, (is, refl, o.1.1)))))) in
+        fault_at flags had left has old now new before p n place (whole line ++ rest) _ _ (λ b. absurd cc) here all (some_front now new did.0 o.0 (subst (λ (t : Text). AppendsSome now new t) (append-nil did.0) w)) go
     by rest all parts (Over text status) is w =
-        let here : IsOutput true p n place (lines_of (whole line ++ rest)) (did.0 ++ text) (Ended status) = rw parts (inr (took.fits, (did.0, (Over text status, (text, (is, refl, (refl, refl))))))) in
-        fault_at had left has old now new before p n place (whole line ++ rest) _ _ (λ b. absurd cc) here all w go
+        let here : IsOutput flags true p n place (lines_of (whole line ++ rest)) (did.0 ++ text) (Ended status) = rw parts (inr (took.fits, (did.0, (Over text status, (text, (is, refl, (refl, refl))))))) in
+        fault_at flags had left has old now new before p n place (whole line ++ rest) _ _ (λ b. absurd cc) here all w go

@@ -1,29 +1,59 @@
 -- What one line does.
-use Rattle.std.proofs.Common.{◌≡◌, ℕ, [], Bool, true, ◌||◌, Option, Result, Ok, Err, IfOk, OnErr, refl, sym, ap, subst, ◌∙◌}
+use Rattle.std.proofs.Common.{◌≡◌, ℕ, [], ◌++◌, Bool, true, false, cond, ◌||◌, ◌&&◌, Option, Some, None, Result, Ok, Err, IfOk, OnErr, refl, sym, ap, subst, ◌∙◌}
 use Rattle.std.specs.Io.KnownBytes.{Appends}
+use Rattle.std.proofs.KnownBytes.{Appends-trans}
 use Rattle.balise_rules.specs.Session.{Reply, State}
 use Rattle.balise_lines.specs.Writing.{AppendsSome}
-use Rattle.balise_lines.proofs.WrittenTexts.{some_front, some_nothing}
-use Rattle.balise_cli.specs.Commands.{call_of}
-use Rattle.balise_cli.specs.Replies.{Text, bad_line, reply_line}
-use Rattle.balise_cli.specs.Output.{Bad, Between, Commands, Good, Header, InGroup, IsStep, MayAnswer, On, Over, Phase, Read, after_read, is_refused, read_line}
-use Rattle.balise_cli.specs.Machine.{DidPlan, DidRead, DidSome, DidSomePlan, DidStep, last_text, phase_of}
+use Rattle.balise_lines.proofs.WrittenTexts.{some_after, some_front, some_nothing}
+use Rattle.balise_arguments.specs.declared.options.Flags.{Flags}
+use Rattle.balise_text.specs.Answers.{reply_of}
+use Rattle.balise_text.specs.Commands.{call_of}
+use Rattle.balise_text.specs.Replies.{bad_line, is_refused}
+use Rattle.balise_text.specs.Texts.{Text}
+use Rattle.balise_cli.specs.Output.{Bad, Between, Commands, Good, Header, InGroup, InJournal, IsStep, MayAnswer, Next, On, Over, Phase, Read, after_command, after_read, read_line, reply_text, reviewed}
+use Rattle.balise_cli.specs.PlanTexts.{end_text}
+use Rattle.balise_cli.specs.Private.{DidAnswer, answer_text}
+use Rattle.balise_cli.specs.Machine.{DidRead, DidSome, DidStep, DidTake, DidTakeSome, last_text, phase_of}
+use Rattle.balise_cli.specs.declared.commands.Answer.{Answer}
 use Rattle.balise_cli.specs.declared.machine.Machine.{Machine}
 use Rattle.balise_cli.specs.declared.machine.Machine.TheVariants as machine
-use Rattle.balise_cli.specs.declared.session.Session.{Session}
 use Rattle.balise_cli.specs.declared.machine.Taken.{Taken}
 use Rattle.balise_cli.specs.declared.machine.Taken.TheVariants as taken
-use Rattle.balise_cli.specs.declared.machine.After.{After}
-use Rattle.balise_cli.specs.declared.machine.After.TheVariants as after
 use Rattle.balise_cli.specs.declared.fault.RunFault.{RunFault}
+use Rattle.balise_cli.specs.declared.status.Status.{Status}
+use Rattle.balise_cli.specs.declared.status.Status.TheVariants.{SomeRefused}
+use Rattle.balise_history.specs.declared.session.Session.{Session}
 
--- a beginning of a command's reply was written
-pub command_some : (s t : State) (refused : Bool) (n : ℕ) (line : Text) (reply : Reply) (old new : Option Text) → MayAnswer true (call_of line) s reply t
-    → AppendsSome old new (reply_line reply) → DidSome (Commands s refused) n line old new
-command_some s t refused n line reply old new is w =
-    (reply_line reply, (On (Commands t (refused || is_refused reply)), ((reply, (t, (is, refl, refl))), some_front old new (reply_line reply) [] w)))
+-- A command.
 
--- a phase of the plan
+module _ (flags : Flags) (s t : State) (refused : Bool) (n : ℕ) (line : Text) (a : Answer) (did : DidAnswer line s a t) where
+  -- its answer is the step's text
+  is_step : (next : Next) → next ≡ after_command flags (reply_of a.reply) t refused → IsStep flags true (Commands s refused) n line (answer_text flags.quiet a) next
+  is_step next e = (reply_of a.reply, (t, (did.0, ap (reply_text flags.quiet (reply_of a.reply)) did.1, e)))
+
+  pub command_on : (old new : Option Text) → (flags.stop && is_refused (reply_of a.reply)) ≡ false → Appends old new (answer_text flags.quiet a)
+      → DidStep flags (Commands s refused) n line old new (Commands t (refused || is_refused (reply_of a.reply))) None
+  command_on old new e w =
+      (answer_text flags.quiet a, (is_step _ (sym (ap (λ b. cond b (Over (end_text flags t) SomeRefused) (On (Commands t (refused || is_refused (reply_of a.reply))))) e)), w))
+
+  stops : (flags.stop && is_refused (reply_of a.reply)) ≡ true → Over (end_text flags t) SomeRefused ≡ after_command flags (reply_of a.reply) t refused
+  stops e = sym (ap (λ b. cond b (Over (end_text flags t) SomeRefused) (On (Commands t (refused || is_refused (reply_of a.reply))))) e)
+
+  pub command_over : (old now new : Option Text) (q : Phase) → (flags.stop && is_refused (reply_of a.reply)) ≡ true → Appends old now (answer_text flags.quiet a) → Appends now new (end_text flags t)
+      → DidStep flags (Commands s refused) n line old new q (Some SomeRefused)
+  command_over old now new q e w v = (answer_text flags.quiet a, (end_text flags t, (is_step _ (stops e), Appends-trans old now new _ _ w v)))
+
+  -- a beginning of its answer was written
+  pub command_some : (old new : Option Text) → AppendsSome old new (answer_text flags.quiet a) → DidSome flags (Commands s refused) n line old new
+  command_some old new w = (answer_text flags.quiet a, (after_command flags (reply_of a.reply) t refused, (is_step _ refl, some_front old new (answer_text flags.quiet a) _ w)))
+
+  -- its answer was, and a beginning of the end
+  pub command_end_some : (old now new : Option Text) → (flags.stop && is_refused (reply_of a.reply)) ≡ true → Appends old now (answer_text flags.quiet a) → AppendsSome now new (end_text flags t)
+      → DidSome flags (Commands s refused) n line old new
+  command_end_some old now new e w v = (answer_text flags.quiet a, (Over (end_text flags t) SomeRefused, (is_step _ (stops e), some_after old now new (answer_text flags.quiet a) (end_text flags t) w v)))
+
+-- A line of the plan or the journal.
+
 abbrev pub IsReading : Phase → Type 0
 IsReading (Commands s refused) = ⊥
 IsReading _ = Unit {0}
@@ -32,39 +62,41 @@ IsReading _ = Unit {0}
 pub is_reading : (m : Machine) → ((s : Session) (refused : Bool) → m ≡ machine.Commands s refused → ⊥) → IsReading (phase_of m)
 is_reading machine.Header h = tt
 is_reading (machine.Between plan) h = tt
-is_reading (machine.InGroup g ys) h = tt
+is_reading (machine.InGroup plan g ys) h = tt
+is_reading (machine.InJournal part opening) h = tt
 is_reading (machine.Commands s refused) h = absurd (h s refused refl)
 
-plan_step : (p : Phase) (n : ℕ) (line : Text) → IsReading p → IsStep true p n line [] (after_read (read_line p n line))
-plan_step Header n line h = (refl, refl)
-plan_step (Between plan) n line h = (refl, refl)
-plan_step (InGroup plan g ys) n line h = (refl, refl)
-plan_step (Commands s refused) n line h = absurd h
+read_step : (flags : Flags) (p : Phase) (n : ℕ) (line : Text) → IsReading p → IsStep flags true p n line [] (after_read (read_line p n line))
+read_step flags Header n line h = (refl, refl)
+read_step flags (Between plan) n line h = (refl, refl)
+read_step flags (InGroup plan g ys) n line h = (refl, refl)
+read_step flags (InJournal part s) n line h = (refl, refl)
+read_step flags (Commands s refused) n line h = absurd h
 
--- a line of the plan was taken, or its refusal written
-pub did_plan : (p : Phase) (n : ℕ) (line : Text) (old new : Option Text) (t : Taken) (r : Result After RunFault) → IsReading p → DidRead (read_line p n line) t → IfOk r (DidPlan t old new) → IfOk r (DidStep p n line old new)
-did_plan p n line old new t (Err e) h read d = tt
-did_plan p n line old new t (Ok r) h read d = by (read_line p n line) t r read d (plan_step p n line h)
-  where
-    by : (rd : Read) (t : Taken) (r : After) → DidRead rd t → DidPlan t old new r → IsStep true p n line [] (after_read rd) → DidStep p n line old new r
-    by (Good q) (taken.Good m) (after.On k) read d is = ([], (subst (λ x. IsStep true p n line [] (On x)) (sym read ∙ ap phase_of (sym d.0)) is, d.1))
-    by (Good q) (taken.Good m) (after.Over status) read d is = absurd d
-    by (Good q) (taken.Bad k f) r read d is = absurd read
-    by (Bad k f) (taken.Good m) r read d is = absurd read
-    by (Bad k f) (taken.Bad l e) (after.On m) read d is = absurd d
-    by (Bad k f) (taken.Bad l e) (after.Over status) read d is =
-        ([], (bad_line k f, (subst (λ x. IsStep true p n line [] (Over (bad_line k f) x)) (sym d.0) is, subst (λ (x : Text). Appends old new x) (ap (λ (x : ℕ). bad_line x e) read.0 ∙ ap (bad_line k) read.1) d.1)))
+taken_so : (flags : Flags) (p q : Phase) (n : ℕ) (line : Text) (old new : Option Text) (rd : Read) (t : Taken) (r : Option Status) → DidRead rd t → DidTake t old new q r → IsStep flags true p n line [] (after_read rd) → DidStep flags p n line old new q r
+taken_so flags p q n line old new (Good k) (taken.Good m) None read d is = ([], (subst (λ x. IsStep flags true p n line [] (On x)) (sym read ∙ sym d.0) is, d.1))
+taken_so flags p q n line old new (Good k) (taken.Good m) (Some status) read d is = absurd d
+taken_so flags p q n line old new (Good k) (taken.Bad l f) r read d is = absurd read
+taken_so flags p q n line old new (Bad k f) (taken.Good m) r read d is = absurd read
+taken_so flags p q n line old new (Bad k f) (taken.Bad l e) None read d is = absurd d
+taken_so flags p q n line old new (Bad k f) (taken.Bad l e) (Some status) read d is =
+    ([], (bad_line k f, (subst (λ x. IsStep flags true p n line [] (Over (bad_line k f) x)) (sym d.0) is, subst (λ (x : Text). Appends old new x) (ap (λ (x : ℕ). bad_line x e) read.0 ∙ ap (bad_line k) read.1) d.1)))
 
--- a beginning of a refusal was written
-pub some_plan : (p : Phase) (n : ℕ) (line : Text) (old new : Option Text) (t : Taken) (r : Result After RunFault) → IsReading p → DidRead (read_line p n line) t → OnErr r (DidSomePlan t old new) → OnErr r (DidSome p n line old new)
-some_plan p n line old new t (Ok r) h read d = tt
-some_plan p n line old new t (Err e) h read d = by (read_line p n line) t read d (plan_step p n line h)
-  where
-    by : (rd : Read) (t : Taken) → DidRead rd t → DidSomePlan t old new → IsStep true p n line [] (after_read rd) → DidSome p n line old new
-    by rd (taken.Good m) read d is = absurd d
-    by (Good q) (taken.Bad l e) read d is = absurd read
-    by (Bad k f) (taken.Bad l e) read d is = ([], (after_read (Bad k f), (is, subst (λ (x : Text). AppendsSome old new x) (ap (λ (x : ℕ). bad_line x e) read.0 ∙ ap (bad_line k) read.1) d)))
+-- it was taken, or its refusal written
+pub did_read : (flags : Flags) (p q : Phase) (n : ℕ) (line : Text) (old new : Option Text) (t : Taken) (r : Result (Option Status) RunFault) → IsReading p → DidRead (read_line p n line) t → IfOk r (DidTake t old new q) → IfOk r (DidStep flags p n line old new q)
+did_read flags p q n line old new t (Err e) h read d = tt
+did_read flags p q n line old new t (Ok r) h read d = taken_so flags p q n line old new (read_line p n line) t r read d (read_step flags p n line h)
 
--- no memory was had for a line of the plan: nothing was written
-pub none_plan : (p : Phase) (n : ℕ) (line : Text) (old : Option Text) → IsReading p → DidSome p n line old old
-none_plan p n line old h = ([], (after_read (read_line p n line), (plan_step p n line h, some_nothing old (last_text (after_read (read_line p n line))))))
+taken_some : (flags : Flags) (p : Phase) (n : ℕ) (line : Text) (old new : Option Text) (rd : Read) (t : Taken) → DidRead rd t → DidTakeSome t old new → IsStep flags true p n line [] (after_read rd) → DidSome flags p n line old new
+taken_some flags p n line old new rd (taken.Good m) read d is = absurd d
+taken_some flags p n line old new (Good q) (taken.Bad l e) read d is = absurd read
+taken_some flags p n line old new (Bad k f) (taken.Bad l e) read d is = ([], (after_read (Bad k f), (is, subst (λ (x : Text). AppendsSome old new x) (ap (λ (x : ℕ). bad_line x e) read.0 ∙ ap (bad_line k) read.1) d)))
+
+-- a beginning of its refusal was written
+pub some_read : {A : Type 0} (flags : Flags) (p : Phase) (n : ℕ) (line : Text) (old new : Option Text) (t : Taken) (r : Result A RunFault) → IsReading p → DidRead (read_line p n line) t → OnErr r (DidTakeSome t old new) → OnErr r (DidSome flags p n line old new)
+some_read flags p n line old new t (Ok r) h read d = tt
+some_read flags p n line old new t (Err e) h read d = taken_some flags p n line old new (read_line p n line) t read d (read_step flags p n line h)
+
+-- no memory was had for it: nothing was written
+pub none_read : (flags : Flags) (p : Phase) (n : ℕ) (line : Text) (old : Option Text) → IsReading p → DidSome flags p n line old old
+none_read flags p n line old h = ([], (after_read (read_line p n line), (read_step flags p n line h, some_nothing old (last_text (after_read (read_line p n line))))))

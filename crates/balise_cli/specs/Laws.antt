@@ -1,40 +1,64 @@
 -- Laws of what a run prints.
-use Rattle.std.specs.Prelude.{◌≡◌, ◌<◌, ℕ, Bool, true, false, List, [], ◌∷◌, ◌++◌, map}
-use Rattle.balise_rules.specs.Plan.{Plan}
-use Rattle.balise_rules.specs.Addresses.{Command}
-use Rattle.balise_rules.specs.Session.{Ask, Done, Reply, State, Undo, Undone, answer, held, made, most_commands, opened}
+use Rattle.std.specs.Prelude.{◌≡◌, ◌⊎◌, ◌+◌, ℕ, Bool, false, List, [], ◌∷◌, ◌++◌}
+use Rattle.balise_rules.specs.declared.refusal.Refusal.{Refusal}
+use Rattle.balise_rules.specs.Session.{State, Reply}
+use Rattle.balise_strike_laws.specs.Headline.{Promised}
 use Rattle.balise_lines.specs.Lines.{Line, lines_of}
-use Rattle.balise_cli.specs.Commands.{call_of}
-use Rattle.balise_cli.specs.Replies.{Text, plan_text, reply_line, text_of}
-use Rattle.balise_cli.specs.Output.{Commands, Ended, Ending, Header, IsOutput, MayAnswer, is_refused}
+use Rattle.balise_arguments.specs.declared.options.Flags.{Flags}
+use Rattle.balise_text.specs.Commands.{call_of}
+use Rattle.balise_text.specs.Replies.{bad_line}
+use Rattle.balise_text.specs.Texts.{Text}
+use Rattle.balise_cli.specs.Output.{Phase, Header, Commands, Read, Good, Bad, Ending, Ended, IsOutput, MayAnswer, read_line, reply_text, reviewed}
+use Rattle.balise_cli.specs.PlanTexts.{end_text}
 use Rattle.balise_cli.specs.declared.status.Status.{Status}
+use Rattle.balise_cli.specs.declared.status.Status.TheVariants.{BadInput}
 
 -- where no command wants memory, an input has one output, and the run one ending
 abbrev pub OneOutput : Type 0
-OneOutput = (input : Text) → (out : Text) × ((e : Ending) × (IsOutput false Header 1 0 (lines_of input) out e × ((other : Text) → (f : Ending) → IsOutput false Header 1 0 (lines_of input) other f → (other ≡ out) × (f ≡ e))))
+OneOutput = (flags : Flags) → (input : Text) → (out : Text) × ((e : Ending) × (IsOutput flags false Header 1 0 (lines_of input) out e × ((other : Text) → (f : Ending) → IsOutput flags false Header 1 0 (lines_of input) other f → (other ≡ out) × (f ≡ e))))
 
--- the command lines have these replies, one after another, and leave this state
-abbrev pub Answered : Bool → State → List Line → List Reply → State → Type 0
-Answered scarce s [] [] t = t ≡ s
-Answered scarce s (line ∷ lines) (r ∷ rs) t = (u : State) × (MayAnswer scarce (call_of line.bytes) s r u × Answered scarce u lines rs t)
-Answered scarce s _ _ t = ⊥
+-- it was taken, and then goes on so
+abbrev pub GoesOn : Read → (Phase → Type 0) → Type 0
+GoesOn (Bad n r) next = ⊥
+GoesOn (Good p) next = next p
 
--- A run over commands that comes to its end prints the reply to each, and then what the edits that stand, in order, make of the plan first read.
+-- the session at the commands, and the lines behind
+abbrev pub IsAt : Phase → List Line → State → List Line → Type 0
+IsAt (Commands s refused) lines t rest = (t ≡ s) × (rest ≡ lines)
+IsAt p lines t rest = ⊥
+
+-- From this phase, where line n comes next, a plan and perhaps a journal are read as this session, and these lines of commands come behind them.
+abbrev pub Opens : Phase → ℕ → List Line → State → List Line → Type 0
+Opens p n [] t rest = IsAt p [] t rest
+Opens p n (line ∷ lines) t rest = IsAt p (line ∷ lines) t rest ⊎ GoesOn (read_line p n line.bytes) (λ q. Opens q (n + 1) lines t rest)
+
+-- Commands have these replies and print this, one after another, and leave this session.
+abbrev pub Answered : Flags → Bool → State → List Line → List Reply → Text → State → Type 0
+Answered flags scarce s [] [] out t = (out ≡ []) × (t ≡ s)
+Answered flags scarce s (line ∷ lines) (r ∷ rs) out t =
+    (u : State) × ((more : Text) × (MayAnswer scarce line.bytes s r u × (out ≡ reply_text flags.quiet r (reviewed (call_of line.bytes) r s) ++ more) × Answered flags scarce u lines rs more t))
+Answered flags scarce s _ _ out t = ⊥
+
+-- Over commands it prints the reply to each, up to the input's end or the refusal that stops the run, and then the plan that the session holds, and what else is asked for; and all that is promised of a session over the plan first read holds of it.
+pub record PrintsHeld (flags : Flags) (scarce : Bool) (opened : State) (commands : List Line) (out : Text) : Type 0 where
+  pub done : List Line
+  pub left : List Line
+  pub cut : commands ≡ done ++ left
+  pub replies : List Reply
+  pub printed : Text
+  pub held : State
+  pub answered : Answered flags scarce opened done replies printed held
+  pub whole : out ≡ printed ++ end_text flags held
+  pub promised : Promised opened.base held
+
+abbrev pub PrintsAll : Flags → Bool → Phase → ℕ → List Line → Text → Type 0
+PrintsAll flags scarce p n lines out = (opened : State) × ((commands : List Line) × (Opens p n lines opened commands × PrintsHeld flags scarce opened commands out))
+
+-- one line for a plan or a journal that is refused, and nothing else
+abbrev pub PrintsBad : Text → Status → Type 0
+PrintsBad out status = (n : ℕ) × ((r : Refusal) × (out ≡ bad_line n r) × (status ≡ BadInput))
+
+-- A run that comes to its end prints one line for a plan or a journal that is refused; or replies, and then what the standing edits alone, in order, make of the plan first read.
 abbrev pub PrintsStandingEdits : Type 0
-PrintsStandingEdits =
-    (scarce : Bool) → (s : State) → (refused : Bool) → (n place : ℕ) → (lines : List Line) → (out : Text) → (status : Status) → IsOutput scarce (Commands s refused) n place lines out (Ended status) →
-    (rs : List Reply) × ((t : State) × (Answered scarce s lines rs t × (t.base ≡ s.base) × (out ≡ text_of (map reply_line rs) ++ plan_text (made s.base t.standing))))
-
--- a refused command changes nothing, whether or not it was refused for want of memory
-abbrev pub RefusedChangesNothing : Type 0
-RefusedChangesNothing = (scarce : Bool) → (line : Text) → (s t : State) → (r : Reply) → MayAnswer scarce (call_of line) s r t → is_refused r ≡ true → t ≡ s
-
--- the undo after this state takes an edit back: the edits that stood before it stand, and make the plan that they made
-abbrev pub IsTakenBack : State → ℕ → State → Type 0
-IsTakenBack s n t = (u : State) × ((◌≡◌ {A = Reply × State} (answer Undo t) (Undone n, u)) × (u.standing ≡ s.standing) × (held u ≡ held s))
-
--- Behind any commands over any plan, an undo takes back exactly the edit that was accepted before it.
-abbrev pub UndoTakesBack : Type 0
-UndoTakesBack =
-    (plan : Plan) → (lines : List Line) → (rs : List Reply) → (s t : State) → (c : Command) → (n : ℕ) → Answered true (opened plan) lines rs s →
-    ◌≡◌ {A = Reply × State} (answer (Ask c) s) (Done n, t) → t.count < most_commands → IsTakenBack s n t
+PrintsStandingEdits = (flags : Flags) → (scarce : Bool) → (input out : Text) → (status : Status) → IsOutput flags scarce Header 1 0 (lines_of input) out (Ended status)
+    → PrintsBad out status ⊎ PrintsAll flags scarce Header 1 (lines_of input) out

@@ -1,23 +1,24 @@
 -- A run between two lines as the definitions have it, and what one line or the end does.
-use Rattle.std.specs.Prelude.{◌≡◌, ℕ, true, [], ◌++◌, Option}
+use Rattle.std.specs.Prelude.{◌≡◌, ℕ, true, [], ◌++◌, Option, Some, None}
 use Rattle.std.specs.Io.KnownBytes.{Appends}
 use Rattle.balise_lines.specs.Writing.{AppendsSome}
-use Rattle.balise_cli.specs.Replies.{Text, bad_line}
-use Rattle.balise_cli.specs.Output.{Phase, Header, Between, InGroup, Commands, Read, Good, Bad, Next, On, Over, IsStep, at_end}
+use Rattle.balise_arguments.specs.declared.options.Flags.{Flags}
+use Rattle.balise_text.specs.Replies.{bad_line}
+use Rattle.balise_text.specs.Texts.{Text}
+use Rattle.balise_cli.specs.Output.{Phase, Header, Between, InGroup, InJournal, Commands, Read, Good, Bad, Next, On, Over, IsStep, at_end}
 use Rattle.balise_cli.specs.declared.machine.Machine.{Machine}
 use Rattle.balise_cli.specs.declared.machine.Machine.TheVariants as machine
 use Rattle.balise_cli.specs.declared.machine.Taken.{Taken}
 use Rattle.balise_cli.specs.declared.machine.Taken.TheVariants as taken
-use Rattle.balise_cli.specs.declared.machine.After.{After}
-use Rattle.balise_cli.specs.declared.machine.After.TheVariants as after
 use Rattle.balise_cli.specs.declared.status.Status.{Status}
 use Rattle.balise_cli.specs.declared.status.Status.TheVariants.{BadInput}
 
 abbrev pub phase_of : Machine → Phase
 phase_of machine.Header = Header
 phase_of (machine.Between plan) = Between plan
-phase_of (machine.InGroup g ys) = InGroup [] g ys
-phase_of (machine.Commands s refused) = Commands s refused
+phase_of (machine.InGroup plan g ys) = InGroup plan g ys
+phase_of (machine.InJournal part opening) = InJournal part opening.state
+phase_of (machine.Commands session refused) = Commands session.state refused
 
 -- the line was taken, or refused, as it is defined
 abbrev pub DidRead : Read → Taken → Type 0
@@ -29,25 +30,25 @@ abbrev pub last_text : Next → Text
 last_text (On p) = []
 last_text (Over text status) = text
 
--- one line was done and what it gives was written: the run goes on, or is over
-abbrev pub DidStep : Phase → ℕ → Text → Option Text → Option Text → After → Type 0
-DidStep p n line old new (after.On m) = (out : Text) × (IsStep true p n line out (On (phase_of m)) × Appends old new out)
-DidStep p n line old new (after.Over status) = (out : Text) × ((text : Text) × (IsStep true p n line out (Over text status) × Appends old new (out ++ text)))
+-- one line was done and what it gives was written: the run goes on in a phase, or is over with a status
+abbrev pub DidStep : Flags → Phase → ℕ → Text → Option Text → Option Text → Phase → Option Status → Type 0
+DidStep flags p n line old new q None = (out : Text) × (IsStep flags true p n line out (On q) × Appends old new out)
+DidStep flags p n line old new q (Some status) = (out : Text) × ((text : Text) × (IsStep flags true p n line out (Over text status) × Appends old new (out ++ text)))
 
 -- a beginning of what one line gives was written
-abbrev pub DidSome : Phase → ℕ → Text → Option Text → Option Text → Type 0
-DidSome p n line old new = (out : Text) × ((next : Next) × (IsStep true p n line out next × AppendsSome old new (out ++ last_text next)))
+abbrev pub DidSome : Flags → Phase → ℕ → Text → Option Text → Option Text → Type 0
+DidSome flags p n line old new = (out : Text) × ((next : Next) × (IsStep flags true p n line out next × AppendsSome old new (out ++ last_text next)))
 
--- a line of the plan was taken, or its refusal written
-abbrev pub DidPlan : Taken → Option Text → Option Text → After → Type 0
-DidPlan (taken.Good m) old new (after.On k) = (k ≡ m) × Appends old new []
-DidPlan (taken.Bad n r) old new (after.Over status) = (status ≡ BadInput) × Appends old new (bad_line n r)
-DidPlan _ old new _ = ⊥
+-- a line of the plan or the journal was taken, or its refusal written
+abbrev pub DidTake : Taken → Option Text → Option Text → Phase → Option Status → Type 0
+DidTake (taken.Good m) old new q None = (q ≡ phase_of m) × Appends old new []
+DidTake (taken.Bad n r) old new q (Some status) = (status ≡ BadInput) × Appends old new (bad_line n r)
+DidTake _ old new q status = ⊥
 
-abbrev pub DidSomePlan : Taken → Option Text → Option Text → Type 0
-DidSomePlan (taken.Good m) old new = ⊥
-DidSomePlan (taken.Bad n r) old new = AppendsSome old new (bad_line n r)
+abbrev pub DidTakeSome : Taken → Option Text → Option Text → Type 0
+DidTakeSome (taken.Good m) old new = ⊥
+DidTakeSome (taken.Bad n r) old new = AppendsSome old new (bad_line n r)
 
 -- what the end gives was written
-abbrev pub DidEnd : Phase → ℕ → Option Text → Option Text → Status → Type 0
-DidEnd p n old new status = (text : Text) × ((at_end p n ≡ Over text status) × Appends old new text)
+abbrev pub DidEnd : Flags → Phase → ℕ → Option Text → Option Text → Status → Type 0
+DidEnd flags p n old new status = (text : Text) × ((at_end flags p n ≡ Over text status) × Appends old new text)

@@ -1,60 +1,38 @@
--- What the program holds for now: a plan of at most one group, of one telegram, and edits of fields.
-use Rattle.std.specs.Prelude.{◌≡◌, ℕ, Bool, List, [], ◌∷◌, Option, Some, None, Ok}
-use Rattle.balise_rules.specs.declared.tag.Tag.{Tag}
-use Rattle.balise_rules.specs.declared.tag.Tag.TheVariants.{Base}
-use Rattle.balise_rules.specs.Telegram.{Telegram, read_telegram}
-use Rattle.balise_rules.specs.Plan.{Group, Plan, IsSound}
-use Rattle.balise_rules.specs.Accepting.{Unused}
-use Rattle.balise_rules.specs.Addresses as addresses
-use Rattle.balise_rules.specs.Edits as edits
-use Rattle.balise_rules.specs.Notes.{nothing}
-use Rattle.balise_rules.specs.Paths as paths
-use Rattle.balise_cli.specs.declared.command.Command.{Command}
-use Rattle.balise_cli.specs.declared.command.Command.TheVariants as command
-use Rattle.balise_cli.specs.declared.edit.Edit.{Edit}
-use Rattle.balise_cli.specs.declared.edit.Edit.TheVariants as edit
-use Rattle.balise_cli.specs.declared.edit.Entry.{Entry}
+-- What a command is answered, and the review behind it, as this crate has them.
+use Rattle.std.specs.Prelude.{◌≡◌, ◌⊎◌, ◌<◌, Bool, true, IsTrue, Option, Some, None, Ok}
+use Rattle.balise_rules.specs.declared.identity.Id.{Id}
+use Rattle.balise_rules.specs.declared.refusal.Refusal.TheVariants.{OutOfMemory}
+use Rattle.balise_rules.specs.Addresses.{AskTurn}
+use Rattle.balise_rules.specs.Session.{State, Call, Ask, Reply, Refused, answer, most_commands, takes_memory}
+use Rattle.balise_text.specs.Answers.{reply_of}
+use Rattle.balise_text.specs.Commands.{call_of}
+use Rattle.balise_text.specs.Texts.{Text}
+use Rattle.balise_edits.specs.Lines.{line_in}
+use Rattle.balise_edits.specs.declared.line.Line.{Line}
+use Rattle.balise_cli.specs.PlanTexts as texts
+use Rattle.balise_cli.specs.Output.{MayAnswer, reply_text, reviewed}
+use Rattle.balise_cli.specs.declared.commands.Answer.{Answer}
 
-abbrev pub group_of : Option Telegram → Group
-group_of None = []
-group_of (Some y) = (0, y) ∷ []
+-- a command has its reply; one that takes memory may be refused for it, but not at the session's limit
+abbrev pub DidDo : Call → State → Reply → State → Type 0
+DidDo c s r t = (◌≡◌ {A = Reply × State} (r, t) (answer c s)) ⊎ (IsTrue (takes_memory c s) × (s.count < most_commands) × (r ≡ Refused OutOfMemory) × (t ≡ s))
 
--- the telegram, where there is one, was read
-abbrev pub WasRead : Option Telegram → Type 0
-WasRead None = Unit {0}
-WasRead (Some y) = (b : List Bool) × (read_telegram b ≡ Ok y)
+-- the identity of the group that a command turns
+abbrev pub turned_by : Call → Option Id
+turned_by (Ask (AskTurn i)) = Some i
+turned_by c = None
 
-abbrev pub plan_of : Option Telegram → Plan
-plan_of None = []
-plan_of (Some y) = (Base 0, group_of (Some y)) ∷ []
+-- a turn has its reply, and behind it its review
+abbrev pub TurnsWith : Id → State → Answer → State → Type 0
+TurnsWith i s a t = DidDo (Ask (AskTurn i)) s (reply_of a.reply) t × (a.review.items ≡ reviewed (Ok (Ask (AskTurn i))) (reply_of a.reply) s)
 
--- a sound plan into which no edit put anything
-pub record IsUnedited (plan : Plan) : Type 0 where
-  pub sound : IsSound plan
-  pub unused : (s : ℕ) → Unused s plan
+-- a line has this answer, and leaves this state
+abbrev pub DidAnswer : Text → State → Answer → State → Type 0
+DidAnswer line s a t = MayAnswer true line s (reply_of a.reply) t × (a.review.items ≡ reviewed (call_of line) (reply_of a.reply) s)
 
--- what a command asks for
-abbrev pub asked : Command → addresses.Command
-asked (command.Set i pig pkt v k n) = addresses.AskSet i pig pkt v k n
-asked (command.SetHead i pig v n) = addresses.AskSetHead i pig v n
+abbrev pub answer_text : Bool → Answer → Text
+answer_text quiet a = reply_text quiet (reply_of a.reply) a.review.items
 
-abbrev pub edit_of : Edit → edits.Edit
-edit_of (edit.SetVar g t p v k n) = edits.SetVar g t p v k n
-edit_of (edit.SetHead g t v n) = edits.SetHead g t v n
-
--- the tags of an edit's group and telegram
-abbrev pub telegram_tags_of : Edit → Tag × ℕ
-telegram_tags_of (edit.SetVar g t p v k n) = (g, t)
-telegram_tags_of (edit.SetHead g t v n) = (g, t)
-
--- the edit that sets another value at the same place
-abbrev pub setting : ℕ → Edit → Edit
-setting new (edit.SetVar g t p v k n) = edit.SetVar g t p v k new
-setting new (edit.SetHead g t v n) = edit.SetHead g t v new
-
-abbrev pub item_of : Entry → edits.Item
-item_of e = (e.serial, edit_of e.edit)
-
--- an entry with the old value as its note, which is all that taking it back asks for
-abbrev pub entry_of : Entry → paths.Entry
-entry_of e = (item_of e, record nothing { old = e.old })
+-- the line of an entry
+abbrev pub entry_line : Line → Text
+entry_line l = texts.entry_line (line_in l)

@@ -3,8 +3,8 @@
 ghost use Rattle.std.specs.Prelude.{◌≡◌};
 ghost use Rattle.balise_cli.specs.Faults.{refusal_of};
 
+use balise_history::Refusal;
 use balise_lines::WriteFault;
-use balise_telegram::Refusal;
 use thiserror::Error;
 
 /// Why a run doesn't come to its end.
@@ -12,7 +12,7 @@ use thiserror::Error;
 pub enum RunFault {
     #[error("a line has more than 4,096 bytes, or the input more than 67,108,864")]
     InputTooLong,
-    #[error("out of memory while the plan was read or printed")]
+    #[error("out of memory while the plan or the journal was read, or behind the last command")]
     OutOfMemory,
     #[error("the reader failed")]
     ReadFault,

@@ -1,23 +1,17 @@
 //! Laws of what a run prints, each the contract of a function that does nothing.
 
-ghost use Rattle.balise_cli.specs.Laws.{OneOutput, PrintsStandingEdits, RefusedChangesNothing, UndoTakesBack};
+ghost use Rattle.balise_cli.specs.Laws.{OneOutput, PrintsStandingEdits};
 
 /// Where no command wants memory, an input has one output, and the run one ending.
 pub fn one_output()
     ensures { OneOutput }
 {}
 
-/// A run that comes to its end prints a reply to each command, and then what the standing edits alone make of the plan first read.
+/// For every input and any flags, a run that comes to its end prints one line for a plan or a journal that is refused,
+/// or a reply to each command, and then the plan that the session holds. Of that session all holds that is promised: its
+/// plan is, bit for bit and padding included, what the standing edits alone, in order, make of the plan first read; each
+/// undo, redo and strike is taken back exactly by its counterpart; a strike is refused as dependent exactly where a
+/// later edit isn't independent; and a refused command changes nothing.
 pub fn prints_standing_edits()
     ensures { PrintsStandingEdits }
-{}
-
-/// A refused command changes nothing.
-pub fn refused_changes_nothing()
-    ensures { RefusedChangesNothing }
-{}
-
-/// An undo takes back exactly the edit that was accepted directly before it.
-pub fn undo_takes_back()
-    ensures { UndoTakesBack }
 {}

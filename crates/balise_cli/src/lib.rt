@@ -1,31 +1,28 @@
-//! The text of the program: plans, commands and replies, and the run over them.
+//! The program over any reader and writer: reads a plan, perhaps its journal, and commands; prints replies, the plan,
+//! the journal and the view.
 #![tactic(auto)]
 
-mod command;
-mod doing;
-mod edit;
+// What is read before the commands.
+mod base_plan;
+mod journal_reader;
+mod plan_reader;
+
+// The commands, and what is printed behind them.
+mod commands;
+mod printing;
+
+// The run over all of it.
+mod exit;
 mod fault;
-mod flags;
-mod group;
 pub mod laws;
 mod machine;
-mod plan;
-mod plan_line;
-mod printing;
-mod replies;
-mod reply;
-mod request;
 mod running;
-mod session;
 mod status;
-mod words;
 
+pub use balise_arguments::{ArgumentsFault, Flags, flags};
+pub use balise_history::Refusal;
 pub use balise_lines::Counted;
-pub use balise_telegram::Refusal;
+pub use exit::{Exit, exit_behind_arguments, exit_of};
 pub use fault::RunFault;
-pub use flags::Flags;
 pub use running::run;
 pub use status::Status;
-
-#[cfg(test)]
-mod tests;

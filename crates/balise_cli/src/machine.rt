@@ -1,105 +1,92 @@
-//! A run between two lines, and what one line does.
+//! A run between two lines, and what one line or the input's end does.
 
-ghost use Rattle.std.specs.Prelude.{◌≡◌, [], IfErr, IfOk};
-ghost use Rattle.balise_cli.specs.Machine.{DidRead, phase_of};
-ghost use Rattle.balise_cli.specs.PlanLines.{plan_line_of};
-ghost use Rattle.balise_cli.specs.Output.{Header, between, closed, first_line, in_group, read_line, telegram_line};
+ghost use Rattle.std.specs.Prelude.{◌≡◌, IfErr, IfOk, OnErr, OnOk};
+ghost use Rattle.std.specs.Io.KnownBytes.{Appends};
+ghost use Rattle.balise_cli.specs.Faults.{IsCause};
+ghost use Rattle.balise_cli.specs.Machine.{DidEnd, DidRead, DidSome, DidStep, DidTake, DidTakeSome, last_text, phase_of};
+ghost use Rattle.balise_cli.specs.Output.{Commands, Header, at_end, read_line};
+ghost use Rattle.balise_lines.specs.Writing.{AppendsSome};
+ghost use Rattle.balise_text.specs.Replies.{bad_line};
 
+use crate::base_plan::BasePlan;
+use crate::commands::{answer_line, put_answer};
 use crate::fault::RunFault;
-use crate::group::Group;
-use crate::plan::Plan;
-use crate::plan_line::{PlanLine, read_plan_line};
-use crate::session::Session;
+use crate::journal_reader::read_in_journal;
+use crate::plan_reader::{read_between, read_first_line, read_in_group};
+use crate::printing::put_end;
 use crate::status::Status;
-use balise_telegram::Refusal;
+use balise_arguments::Flags;
+use balise_history::{Opening, Refusal, Session};
+use balise_lines::Counted;
+use balise_plan::GroupReader;
+use balise_text::{Part, put_bad, read_plan_line};
 use std::alloc::Global;
+use std::io::Write;
+use std::mem;
 
-/// Where a run stands between two lines: before the plan's first line; between groups; in a group, with the number
-/// of its own line, before which no group stands; at the commands, and whether one was refused.
+/// Where a run stands between two lines: before the plan's first line; between groups; in a group, with the number of
+/// its own line; in the journal, with what may come there; at the commands, and whether one was refused.
 #[derive(Drop)]
 pub(crate) enum Machine {
     Header,
-    Between(Plan),
-    InGroup(u64, Group),
+    Between(BasePlan),
+    InGroup(BasePlan, u64, GroupReader),
+    InJournal(Part, Opening),
     Commands(Session, bool),
 }
 
-/// A line of the plan was taken, or is refused, with the number of the line that it is said of.
+/// A line of the plan or the journal was taken, or is refused, with the number of the line that it is said of.
 #[derive(Drop)]
 pub(crate) enum Taken {
     Good(Machine),
     Bad(u64, Refusal),
 }
 
-/// The run goes on, or is over.
-#[derive(Drop)]
-pub(crate) enum After {
-    On(Machine),
-    Over(Status),
-}
-
-/// A line between groups.
-fn between(alloc: Global, plan: Plan, number: u64, kind: PlanLine) -> Taken
-    ensures { DidRead (between plan number kind) result }
+// Does a command and writes its answer; behind a refusal that stops the run, the end of the commands too.
+fn command<W: Write>(
+    alloc: Global,
+    flags: Flags,
+    session: &mut Session,
+    refused: &mut bool,
+    line: &[u8],
+    writer: &mut Counted<W>,
+) -> Result<Option<Status>, RunFault>
+    ensures ok { IfOk result (DidStep flags (Commands session.old.state refused.old) 0 line.now (W.contents writer.old.inner) (W.contents writer.new.inner) (Commands session.new.state refused.new)) }
+    ensures unfailed { OnOk result (writer.new.failed ≡ writer.old.failed) }
+    ensures cause { IfErr result (IsCause writer.old.failed writer.new.failed) }
+    ensures written { OnErr result (DidSome flags (Commands session.old.state refused.old) 0 line.now (W.contents writer.old.inner) (W.contents writer.new.inner)) }
 {
-    match kind {
-        PlanLine::GroupLine => {
-            if plan.telegram().is_some() {
-                return Taken::Bad(number, Refusal::BadLine);
-            }
-            Taken::Good(Machine::InGroup(number, Group::new()))
+    let answer = answer_line(alloc, session, line);
+    if let Err(fault) = put_answer(writer, flags.quiet, &answer) {
+        return Err(RunFault::from(fault));
+    }
+    let is_refused = answer.reply.is_refused();
+    *refused |= is_refused;
+    if flags.stop & is_refused {
+        if let Err(fault) = put_end(alloc, writer, flags, session) {
+            return Err(fault);
         }
-        PlanLine::EditsLine => Taken::Good(Machine::Commands(Session::new(alloc, plan), false)),
-        _ => Taken::Bad(number, Refusal::BadLine),
+        return Ok(Some(Status::SomeRefused));
     }
+    Ok(None)
 }
 
-/// The group ends, and another line follows.
-fn close(alloc: Global, group_number: u64, group: Group, number: u64, kind: PlanLine) -> Taken
-    ensures { DidRead (closed [] group_number group (λ p. between p number kind)) result }
-{
-    match Plan::with_group(group) {
-        Err(refusal) => Taken::Bad(group_number, refusal),
-        Ok(plan) => between(alloc, plan, number, kind),
-    }
-}
-
-/// A telegram's line.
-fn telegram(
-    alloc: Global,
-    group_number: u64,
-    mut group: Group,
+// Ends a run with the line of what is refused.
+fn finish_bad<W: Write>(
+    writer: &mut Counted<W>,
     number: u64,
-    line: &[u8],
-) -> Result<Taken, RunFault>
-    ensures ok { IfOk result (DidRead (telegram_line [] group_number group number line.now)) }
-    ensures fault { IfErr result (λ e. e ≡ RunFault.OutOfMemory) }
+    refusal: Refusal,
+) -> Result<Status, RunFault>
+    ensures status { IfOk result (λ status. status ≡ Status.BadInput) }
+    ensures ok { OnOk result (Appends (W.contents writer.old.inner) (W.contents writer.new.inner) (bad_line number refusal)) }
+    ensures unfailed { OnOk result (writer.new.failed ≡ writer.old.failed) }
+    ensures cause { IfErr result (IsCause writer.old.failed writer.new.failed) }
+    ensures written { OnErr result (AppendsSome (W.contents writer.old.inner) (W.contents writer.new.inner) (bad_line number refusal)) }
 {
-    match group.push(alloc, line) {
-        Ok(()) => Ok(Taken::Good(Machine::InGroup(group_number, group))),
-        Err(Refusal::OutOfMemory) => Err(RunFault::OutOfMemory),
-        Err(refusal) => Ok(Taken::Bad(number, refusal)),
+    if let Err(fault) = put_bad(writer, number, refusal) {
+        return Err(RunFault::from(fault));
     }
-}
-
-/// A line in a group.
-fn in_group(
-    alloc: Global,
-    group_number: u64,
-    group: Group,
-    number: u64,
-    line: &[u8],
-) -> Result<Taken, RunFault>
-    ensures ok { IfOk result (DidRead (in_group [] group_number group number (plan_line_of line.now) line.now)) }
-    ensures fault { IfErr result (λ e. e ≡ RunFault.OutOfMemory) }
-{
-    match read_plan_line(line) {
-        PlanLine::FirstLine => telegram(alloc, group_number, group, number, line),
-        PlanLine::TelegramLine => telegram(alloc, group_number, group, number, line),
-        PlanLine::GroupLine => Ok(close(alloc, group_number, group, number, PlanLine::GroupLine)),
-        PlanLine::EditsLine => Ok(close(alloc, group_number, group, number, PlanLine::EditsLine)),
-        PlanLine::NoLine => Ok(close(alloc, group_number, group, number, PlanLine::NoLine)),
-    }
+    Ok(Status::BadInput)
 }
 
 impl Machine {
@@ -110,28 +97,106 @@ impl Machine {
         Machine::Header
     }
 
-    /// Reads a line of the plan.
-    pub(crate) fn read_line(
-        self,
-        alloc: Global,
-        number: u64,
-        line: &[u8],
-    ) -> Result<Taken, RunFault>
+    // Reads a line of the plan or the journal.
+    fn read_line(self, alloc: Global, number: u64, line: &[u8]) -> Result<Taken, RunFault>
         ensures ok { IfOk result (DidRead (read_line (phase_of self) number line.now)) }
         ensures fault { IfErr result (λ e. e ≡ RunFault.OutOfMemory) }
     {
         match self {
-            Machine::Header => match read_plan_line(line) {
-                PlanLine::FirstLine => Ok(Taken::Good(Machine::Between(Plan::empty()))),
-                _ => Ok(Taken::Bad(number, Refusal::BadLine)),
-            },
-            Machine::Between(plan) => Ok(between(alloc, plan, number, read_plan_line(line))),
-            Machine::InGroup(group_number, group) => {
-                in_group(alloc, group_number, group, number, line)
+            Machine::Header => Ok(read_first_line(alloc, number, line)),
+            Machine::Between(plan) => {
+                Ok(read_between(alloc, plan, number, read_plan_line(line), line))
+            }
+            Machine::InGroup(plan, group_number, group) => {
+                read_in_group(alloc, plan, group_number, group, number, line)
+            }
+            Machine::InJournal(part, opening) => {
+                read_in_journal(alloc, part, opening, number, line)
             }
             Machine::Commands(session, refused) => {
                 Ok(Taken::Good(Machine::Commands(session, refused)))
             }
+        }
+    }
+
+    // Goes on behind a line of the plan or the journal that was read.
+    fn go_on<W: Write>(
+        &mut self,
+        taken: Taken,
+        writer: &mut Counted<W>,
+    ) -> Result<Option<Status>, RunFault>
+        ensures ok { IfOk result (DidTake taken (W.contents writer.old.inner) (W.contents writer.new.inner) (phase_of self.new)) }
+        ensures unfailed { OnOk result (writer.new.failed ≡ writer.old.failed) }
+        ensures cause { IfErr result (IsCause writer.old.failed writer.new.failed) }
+        ensures written { OnErr result (DidTakeSome taken (W.contents writer.old.inner) (W.contents writer.new.inner)) }
+    {
+        match taken {
+            Taken::Good(next) => {
+                *self = next;
+                Ok(None)
+            }
+            Taken::Bad(number, refusal) => match finish_bad(writer, number, refusal) {
+                Ok(status) => Ok(Some(status)),
+                Err(fault) => Err(fault),
+            },
+        }
+    }
+
+    /// Does one line and writes what it gives: a status where the run is over.
+    pub(crate) fn step<W: Write>(
+        &mut self,
+        alloc: Global,
+        flags: Flags,
+        number: u64,
+        line: &[u8],
+        writer: &mut Counted<W>,
+    ) -> Result<Option<Status>, RunFault>
+        ensures ok { IfOk result (DidStep flags (phase_of self.old) number line.now (W.contents writer.old.inner) (W.contents writer.new.inner) (phase_of self.new)) }
+        ensures unfailed { OnOk result (writer.new.failed ≡ writer.old.failed) }
+        ensures cause { IfErr result (IsCause writer.old.failed writer.new.failed) }
+        ensures written { OnErr result (DidSome flags (phase_of self.old) number line.now (W.contents writer.old.inner) (W.contents writer.new.inner)) }
+    {
+        if let Machine::Commands(session, refused) = self {
+            return command(alloc, flags, session, refused, line, writer);
+        }
+        match mem::replace(self, Machine::Header).read_line(alloc, number, line) {
+            Err(fault) => Err(fault),
+            Ok(taken) => self.go_on(taken, writer),
+        }
+    }
+
+    /// Writes what the input's end gives.
+    pub(crate) fn finish<W: Write>(
+        self,
+        alloc: Global,
+        flags: Flags,
+        number: u64,
+        writer: &mut Counted<W>,
+    ) -> Result<Status, RunFault>
+        ensures ok { IfOk result (DidEnd flags (phase_of self) number (W.contents writer.old.inner) (W.contents writer.new.inner)) }
+        ensures unfailed { OnOk result (writer.new.failed ≡ writer.old.failed) }
+        ensures cause { IfErr result (IsCause writer.old.failed writer.new.failed) }
+        ensures written { OnErr result (AppendsSome (W.contents writer.old.inner) (W.contents writer.new.inner) (last_text (at_end flags (phase_of self) number))) }
+    {
+        match self {
+            Machine::Commands(session, refused) => {
+                if let Err(fault) = put_end(alloc, writer, flags, &session) {
+                    return Err(fault);
+                }
+                Ok(Status::of_commands(refused))
+            }
+            Machine::InGroup(plan, group_number, group) => {
+                let mut plan = plan;
+                let (at, refusal) = match plan.push(group) {
+                    Ok(()) => (number, Refusal::BadLine),
+                    Err(Refusal::OutOfMemory) => return Err(RunFault::OutOfMemory),
+                    Err(refusal) => (group_number, refusal),
+                };
+                finish_bad(writer, at, refusal)
+            }
+            Machine::Header => finish_bad(writer, number, Refusal::BadLine),
+            Machine::Between(_) => finish_bad(writer, number, Refusal::BadLine),
+            Machine::InJournal(_, _) => finish_bad(writer, number, Refusal::BadLine),
         }
     }
 }

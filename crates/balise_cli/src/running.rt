@@ -1,4 +1,4 @@
-//! Reads lines, and does each as it comes.
+//! The run: reads lines, and does each as it comes.
 
 ghost use Rattle.std.specs.Prelude.{◌≡◌, IfErr, IfOk, IsErrOf, OnErr, OnOk};
 ghost use Rattle.balise_cli.specs.Ends.{WritesOutput, WritesSome};
@@ -6,28 +6,29 @@ ghost use Rattle.balise_cli.specs.Faults.{IsFault};
 ghost use Rattle.balise_cli.specs.Output.{Ended, TooLong};
 
 use crate::fault::RunFault;
-use crate::flags::Flags;
-use crate::machine::{After, Machine};
+use crate::machine::Machine;
 use crate::status::Status;
+use balise_arguments::Flags;
 use balise_lines::{Counted, LineFault, Lines, Next};
 use std::alloc::Global;
 use std::io::{Read, Write};
 
-/// Reads a plan and commands, answers each command before the next line is looked at, and writes the plan.
+/// Reads a plan, perhaps its journal, and commands; answers each command before the next line is looked at; and writes
+/// the plan, and the journal and the view where they are asked for.
 ///
 /// A fault leaves a beginning of the output for what was read.
 pub fn run<R: Read, W: Write>(
     alloc: Global,
     reader: &mut Counted<R>,
     writer: &mut Counted<W>,
-    _flags: Flags,
+    flags: Flags,
 ) -> Result<Status, RunFault>
-    ensures ok { IfOk result (λ status. WritesOutput (R.remaining reader.old.inner) (W.contents writer.old.inner) (W.contents writer.new.inner) (Ended status)) }
+    ensures ok { IfOk result (λ status. WritesOutput flags (R.remaining reader.old.inner) (W.contents writer.old.inner) (W.contents writer.new.inner) (Ended status)) }
     ensures unread { OnOk result (reader.new.failed ≡ reader.old.failed) }
     ensures unwritten { OnOk result (writer.new.failed ≡ writer.old.failed) }
-    ensures long { IsErrOf result RunFault.InputTooLong → WritesOutput (R.remaining reader.old.inner) (W.contents writer.old.inner) (W.contents writer.new.inner) TooLong }
+    ensures long { IsErrOf result RunFault.InputTooLong → WritesOutput flags (R.remaining reader.old.inner) (W.contents writer.old.inner) (W.contents writer.new.inner) TooLong }
     ensures fault { IfErr result (IsFault reader.old.failed reader.new.failed writer.old.failed writer.new.failed) }
-    ensures some { OnErr result (WritesSome (R.remaining reader.old.inner) (R.remaining reader.new.inner) (W.contents writer.old.inner) (W.contents writer.new.inner)) }
+    ensures some { OnErr result (WritesSome flags (R.remaining reader.old.inner) (R.remaining reader.new.inner) (W.contents writer.old.inner) (W.contents writer.new.inner)) }
 {
     let mut lines = Lines::new();
     let mut machine = Machine::new();
@@ -36,13 +37,13 @@ pub fn run<R: Read, W: Write>(
         match lines.next(reader) {
             Err(LineFault::TooLong) => return Err(RunFault::InputTooLong),
             Err(LineFault::Read) => return Err(RunFault::ReadFault),
-            Ok(Next::End) => return machine.finish(number, writer),
+            Ok(Next::End) => return machine.finish(alloc, flags, number, writer),
             Ok(Next::Line { is_ended: _ }) => {
-                machine = match machine.step(alloc, number, lines.line(), writer) {
+                match machine.step(alloc, flags, number, lines.line(), writer) {
                     Err(fault) => return Err(fault),
-                    Ok(After::Over(status)) => return Ok(status),
-                    Ok(After::On(next)) => next,
-                };
+                    Ok(Some(status)) => return Ok(status),
+                    Ok(None) => {}
+                }
             }
         }
     }

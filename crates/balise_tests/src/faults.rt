@@ -70,11 +70,11 @@ fn each_write_fails(rt: HostRuntime) {
     }
 }
 
-/// Three bytes and then a fault: `ok` and a space are held.
+/// Three bytes in two calls, and then a fault: `ok` and a space are held.
 #[test]
 fn a_beginning_is_written(rt: HostRuntime) -> Result<(), Fail> {
     let mut reader = Slow::new(INPUT, 4096, 0);
-    let mut writer = Narrow::new(rt.alloc(), 2);
+    let mut writer = Narrow::new(rt.alloc(), 3);
     let answer = run(rt.alloc(), &mut reader, &mut writer, Flags::default());
     assert_eq!(rt; answer, Err(RunFault::WriteFault));
     assert_eq!(rt; writer.inner().text.as_slice(), b"ok ".as_slice());

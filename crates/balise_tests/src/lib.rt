@@ -10,4 +10,6 @@ mod faults;
 #[cfg(test)]
 mod plans;
 #[cfg(test)]
+mod rows;
+#[cfg(test)]
 mod sessions;

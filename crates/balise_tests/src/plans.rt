@@ -10,12 +10,23 @@ const LONG_INPUT: &str =
 const LONG_OUTPUT: &str =
     "plan 1\ngroup\na1007f80a0327ffffffffffffffffffffffffffffffffffffffffffffffffffffffffffffffffffffffffffffffffffffffffffffffffffffffffffffffffffffffffffffffffffffffffffffffffffffffffffffffffffffffffffffffffffffffffffffffffffc\n";
 
-const REFUSED: [(&str, &str); 17] = [
+const REFUSED: [(&str, &str); 22] = [
     ("", "bad 1 1 BadLine\n"),
     ("plan 2\n", "bad 1 1 BadLine\n"),
     ("plan 1", "bad 2 1 BadLine\n"),
     ("plan 1\ngroup\nedits\n", "bad 2 10 GroupSize\n"),
-    ("plan 1\njournal 1 2\n", "bad 2 1 BadLine\n"),
+    ("plan 1\njournal 1 2\n", "bad 3 1 BadLine\n"),
+    ("plan 1\njournal 3 0\nedits\n", "bad 2 1 BadLine\n"),
+    ("plan 1\njournal 1 0\nedits\n", "bad 2 27 JournalMismatch\n"),
+    (
+        "plan 1\njournal 2 2\nundone 1\nedits\n",
+        "bad 3 27 JournalMismatch\n",
+    ),
+    (
+        "plan 1\njournal 1 2\nundone 1\nedits\n",
+        "bad 3 1 BadLine\n",
+    ),
+    ("plan 1\njournal 1 2\ngroup\nedits\n", "bad 3 1 BadLine\n"),
     (
         "plan 1\ngroup\na1007f80a0327fffffffffffffffffffffffffffffffffffffffc1\nedits\n",
         "bad 3 4 SpareBits\n",
@@ -58,11 +69,11 @@ const REFUSED: [(&str, &str); 17] = [
     ),
     (
         "plan 1\ngroup\na1007f80a0327fffffffffffffffffffffffffffffffffffffffc0\njournal 1 2\n",
-        "bad 4 1 BadLine\n",
+        "bad 5 1 BadLine\n",
     ),
     (
         "plan 1\ngroup\na1007f80a0327fffffffffffffffffffffffffffffffffffffffc0\na1007f80a0327fffffffffffffffffffffffffffffffffffffffc0\n",
-        "bad 4 10 GroupSize\n",
+        "bad 2 11 HeaderDisagrees\n",
     ),
 ];
 

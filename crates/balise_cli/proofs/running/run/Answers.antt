@@ -1,9 +1,8 @@
-use Rattle.std.proofs.Common.{◌∙◌, ℕ, Err, ap, subst, refl}
+use Rattle.std.proofs.Common.{◌∙◌, ℕ, Err, Some, None, ap, subst, refl}
 use Rattle.balise_lines.specs.Reading.{Took, ahead, is_over, line_of, number_of, place_of}
 use Rattle.balise_lines.specs.declared.lines.Next.TheVariants.{End}
 use Rattle.balise_lines.specs.Writing.{AppendsSome}
 use Rattle.balise_cli.specs.Ends.{WritesOutput}
-use Rattle.balise_cli.specs.declared.machine.After.TheVariants as after
 use Rattle.balise_lines.proofs.InputsLeft.{left_at_first}
 use Rattle.balise_cli.specs.Machine.{DidEnd, DidSome, DidStep, last_text, phase_of}
 use Rattle.balise_cli.specs.Output.{at_end, Ended}
@@ -14,20 +13,20 @@ pub lines-init : goal.lines-init
 lines-init g c =
     let new = c.new-lines.ensures in
     let remaining = g.R.Read.remaining c.args.reader.now.inner in
-    (refl, refl, λ o. absurd cc, begins _ _ _ _ _ _ _ (left_at_first c.new-lines.result remaining new.ahead) c.new-machine.ensures new.number new.place)
+    (refl, refl, λ o. absurd cc, begins c.args.flags _ _ _ _ _ _ _ (left_at_first c.new-lines.result remaining new.ahead) c.new-machine.ensures new.number new.place)
 
 pub returns-in-Err-TooLong-clause-long : goal.returns-in-Err-TooLong-clause-long
-returns-in-Err-TooLong-clause-long g c = λ _. too_long _ _ _ _ _ _ _ _ (c.in-Err-TooLong.ensures.long (ap Err c.in-Err-TooLong.field-0-is)) c.in-Err-TooLong.ensures.first c.lines.invariant.3
+returns-in-Err-TooLong-clause-long g c = λ _. too_long c.args.flags _ _ _ _ _ _ _ _ (c.in-Err-TooLong.ensures.long (ap Err c.in-Err-TooLong.field-0-is)) c.in-Err-TooLong.ensures.first c.lines.invariant.3
 
 pub returns-in-Err-TooLong-clause-some : goal.returns-in-Err-TooLong-clause-some
 returns-in-Err-TooLong-clause-some g c =
     let inv = c.lines.invariant in
-    fault_before _ _ _ _ _ (ahead c.next.new.self) (is_over c.lines.lines) (phase_of c.lines.machine) (number_of c.lines.lines) (place_of c.lines.lines) c.in-Err-TooLong.ensures.kept inv.2 inv.3
+    fault_before c.args.flags _ _ _ _ _ (ahead c.next.new.self) (is_over c.lines.lines) (phase_of c.lines.machine) (number_of c.lines.lines) (place_of c.lines.lines) c.in-Err-TooLong.ensures.kept inv.2 inv.3
 
 pub returns-in-Err-Read-clause-some : goal.returns-in-Err-Read-clause-some
 returns-in-Err-Read-clause-some g c =
     let inv = c.lines.invariant in
-    fault_before _ _ _ _ _ (ahead c.next.new.self) (is_over c.lines.lines) (phase_of c.lines.machine) (number_of c.lines.lines) (place_of c.lines.lines) c.in-Err-Read.ensures.kept inv.2 inv.3
+    fault_before c.args.flags _ _ _ _ _ (ahead c.next.new.self) (is_over c.lines.lines) (phase_of c.lines.machine) (number_of c.lines.lines) (place_of c.lines.lines) c.in-Err-Read.ensures.kept inv.2 inv.3
 
 pub returns-in-Ok-End-clause-ok : goal.returns-in-Ok-End-clause-ok
 returns-in-Ok-End-clause-ok g c =
@@ -36,8 +35,8 @@ returns-in-Ok-End-clause-ok g c =
     let now = g.W.Write.contents c.lines.writer.inner in
     let new = g.W.Write.contents c.finish.new.writer.inner in
     let took : Took End c.lines.lines (g.R.Read.remaining c.lines.reader.inner) c.next.new.self (g.R.Read.remaining c.next.new.reader.inner) = subst (λ x. Took x c.lines.lines (g.R.Read.remaining c.lines.reader.inner) c.next.new.self (g.R.Read.remaining c.next.new.reader.inner)) c.in-Ok-End.field-0-is c.in-Ok-End.ensures.took in
-    on_ok c.finish.result (λ status. DidEnd p c.number-number.result now new status) (λ status. WritesOutput (g.R.Read.remaining c.args.reader.now.inner) (g.W.Write.contents c.args.writer.now.inner) new (Ended status))
-    (λ status did. ended _ _ _ now new (is_over c.lines.lines) p (number_of c.lines.lines) (place_of c.lines.lines) status took.at_end (subst (λ (k : ℕ). DidEnd p k now new status) c.number-number.ensures did) inv.3)
+    on_ok c.finish.result (λ status. DidEnd c.args.flags p c.number-number.result now new status) (λ status. WritesOutput c.args.flags (g.R.Read.remaining c.args.reader.now.inner) (g.W.Write.contents c.args.writer.now.inner) new (Ended status))
+    (λ status did. ended c.args.flags _ _ _ now new (is_over c.lines.lines) p (number_of c.lines.lines) (place_of c.lines.lines) status took.at_end (subst (λ (k : ℕ). DidEnd c.args.flags p k now new status) c.number-number.ensures did) inv.3)
     c.finish.ensures.ok
 
 pub returns-in-Ok-End-clause-some : goal.returns-in-Ok-End-clause-some
@@ -47,8 +46,8 @@ returns-in-Ok-End-clause-some g c =
     let now = g.W.Write.contents c.lines.writer.inner in
     let new = g.W.Write.contents c.finish.new.writer.inner in
     let took : Took End c.lines.lines (g.R.Read.remaining c.lines.reader.inner) c.next.new.self (g.R.Read.remaining c.next.new.reader.inner) = subst (λ x. Took x c.lines.lines (g.R.Read.remaining c.lines.reader.inner) c.next.new.self (g.R.Read.remaining c.next.new.reader.inner)) c.in-Ok-End.field-0-is c.in-Ok-End.ensures.took in
-    on_err c.finish.result (AppendsSome now new (last_text (at_end p c.number-number.result))) _
-    (λ w. fault_ending _ _ _ _ now new (ahead c.next.new.self) (is_over c.lines.lines) p (number_of c.lines.lines) (place_of c.lines.lines) took.kept took.at_end (subst (λ (k : ℕ). AppendsSome now new (last_text (at_end p k))) c.number-number.ensures w) inv.3)
+    on_err c.finish.result (AppendsSome now new (last_text (at_end c.args.flags p c.number-number.result))) _
+    (λ w. fault_ending c.args.flags _ _ _ _ now new (ahead c.next.new.self) (is_over c.lines.lines) p (number_of c.lines.lines) (place_of c.lines.lines) took.kept took.at_end (subst (λ (k : ℕ). AppendsSome now new (last_text (at_end c.args.flags p k))) c.number-number.ensures w) inv.3)
     c.finish.ensures.written
 
 pub returns-in-Err-clause-some : goal.returns-in-Err-clause-some
@@ -60,11 +59,11 @@ returns-in-Err-clause-some g c =
     let new = g.W.Write.contents c.step.new.writer.inner in
     let line_took = subst (λ x. Took x c.lines.lines (g.R.Read.remaining c.lines.reader.inner) c.next.new.self (g.R.Read.remaining c.next.new.reader.inner)) c.in-Ok-Line.field-0-is c.in-Ok-Line.ensures.took in
     let took = took_it _ c.lines.lines c.next.new.self (g.R.Read.remaining c.lines.reader.inner) (g.R.Read.remaining c.next.new.reader.inner) line_took in
-    let did : DidSome p n (line_of c.next.new.self) now new = at_line (λ k xs. DidSome p k xs now new) c.number-number.result n c.line.result.now (line_of c.next.new.self) c.number-number.ensures c.line.ensures c.in-Err.ensures.written in
-    fault_in _ _ _ _ now new (ahead c.next.new.self) (is_over c.lines.lines) (is_over c.next.new.self) p n (place_of c.lines.lines) _ line_took.before took c.in-Ok-Line.ensures.over did inv.3
+    let did : DidSome c.args.flags p n (line_of c.next.new.self) now new = at_line (λ k xs. DidSome c.args.flags p k xs now new) c.number-number.result n c.line.result.now (line_of c.next.new.self) c.number-number.ensures c.line.ensures c.in-Err.ensures.written in
+    fault_in c.args.flags _ _ _ _ now new (ahead c.next.new.self) (is_over c.lines.lines) (is_over c.next.new.self) p n (place_of c.lines.lines) _ line_took.before took c.in-Ok-Line.ensures.over did inv.3
 
-pub returns-in-Ok-Over-clause-ok : goal.returns-in-Ok-Over-clause-ok
-returns-in-Ok-Over-clause-ok g c =
+pub returns-in-Ok-Some-clause-ok : goal.returns-in-Ok-Some-clause-ok
+returns-in-Ok-Some-clause-ok g c =
     let inv = c.lines.invariant in
     let p = phase_of c.lines.machine in
     let n = number_of c.lines.lines in
@@ -72,10 +71,10 @@ returns-in-Ok-Over-clause-ok g c =
     let new = g.W.Write.contents c.step.new.writer.inner in
     let line_took = subst (λ x. Took x c.lines.lines (g.R.Read.remaining c.lines.reader.inner) c.next.new.self (g.R.Read.remaining c.next.new.reader.inner)) c.in-Ok-Line.field-0-is c.in-Ok-Line.ensures.took in
     let took = took_it _ c.lines.lines c.next.new.self (g.R.Read.remaining c.lines.reader.inner) (g.R.Read.remaining c.next.new.reader.inner) line_took in
-    let status = c.in-Ok-Over.status in
-    let is : DidStep p c.number-number.result c.line.result.now now new (after.Over status) = subst (DidStep p c.number-number.result c.line.result.now now new) c.in-Ok-Over.field-0-is c.in-Ok-Over.ensures.ok in
-    let did : DidStep p n (line_of c.next.new.self) now new (after.Over status) = at_line (λ k xs. DidStep p k xs now new (after.Over status)) c.number-number.result n c.line.result.now (line_of c.next.new.self) c.number-number.ensures c.line.ensures is in
-    over_at _ _ _ _ now new (is_over c.lines.lines) (is_over c.next.new.self) p n (place_of c.lines.lines) _ status line_took.before took c.in-Ok-Line.ensures.over did inv.3
+    let status = c.in-Ok-Some.status in
+    let is : DidStep c.args.flags p c.number-number.result c.line.result.now now new (phase_of c.step.new.self) (Some status) = subst (DidStep c.args.flags p c.number-number.result c.line.result.now now new (phase_of c.step.new.self)) c.in-Ok-Some.field-0-is c.in-Ok-Some.ensures.ok in
+    let did : DidStep c.args.flags p n (line_of c.next.new.self) now new (phase_of c.step.new.self) (Some status) = at_line (λ k xs. DidStep c.args.flags p k xs now new (phase_of c.step.new.self) (Some status)) c.number-number.result n c.line.result.now (line_of c.next.new.self) c.number-number.ensures c.line.ensures is in
+    over_at c.args.flags _ _ _ _ now new (is_over c.lines.lines) (is_over c.next.new.self) p (phase_of c.step.new.self) n (place_of c.lines.lines) _ status line_took.before took c.in-Ok-Line.ensures.over did inv.3
 
 pub lines-preserved : goal.lines-preserved
 lines-preserved g c =
@@ -86,11 +85,10 @@ lines-preserved g c =
     let new = g.W.Write.contents c.step.new.writer.inner in
     let line_took = subst (λ x. Took x c.lines.lines (g.R.Read.remaining c.lines.reader.inner) c.next.new.self (g.R.Read.remaining c.next.new.reader.inner)) c.in-Ok-Line.field-0-is c.in-Ok-Line.ensures.took in
     let took = took_it _ c.lines.lines c.next.new.self (g.R.Read.remaining c.lines.reader.inner) (g.R.Read.remaining c.next.new.reader.inner) line_took in
-    let m = c.in-Ok-On.next in
-    let is : DidStep p c.number-number.result c.line.result.now now new (after.On m) = subst (DidStep p c.number-number.result c.line.result.now now new) c.in-Ok-On.field-0-is c.in-Ok-On.ensures.ok in
-    let did : DidStep p n (line_of c.next.new.self) now new (after.On m) = at_line (λ k xs. DidStep p k xs now new (after.On m)) c.number-number.result n c.line.result.now (line_of c.next.new.self) c.number-number.ensures c.line.ensures is in (
+    let is : DidStep c.args.flags p c.number-number.result c.line.result.now now new (phase_of c.step.new.self) None = subst (DidStep c.args.flags p c.number-number.result c.line.result.now now new (phase_of c.step.new.self)) c.in-Ok-None.field-0-is c.in-Ok-None.ensures.ok in
+    let did : DidStep c.args.flags p n (line_of c.next.new.self) now new (phase_of c.step.new.self) None = at_line (λ k xs. DidStep c.args.flags p k xs now new (phase_of c.step.new.self) None) c.number-number.result n c.line.result.now (line_of c.next.new.self) c.number-number.ensures c.line.ensures is in (
       c.in-Ok-Line.ensures.unfailed ∙ inv.0,
-      c.in-Ok-On.ensures.unfailed ∙ inv.1,
+      c.in-Ok-None.ensures.unfailed ∙ inv.1,
       c.in-Ok-Line.ensures.over,
-      stepped _ _ _ _ now new (is_over c.lines.lines) (is_over c.next.new.self) p m n _ (place_of c.lines.lines) _ _ line_took.before took did line_took.numbered line_took.placed inv.3,
+      stepped c.args.flags _ _ _ _ now new (is_over c.lines.lines) (is_over c.next.new.self) p (phase_of c.step.new.self) n _ (place_of c.lines.lines) _ _ line_took.before took did line_took.numbered line_took.placed inv.3,
     )

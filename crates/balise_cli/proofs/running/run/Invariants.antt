@@ -6,7 +6,7 @@ use Rattle.balise_cli.proofs.running.run.Given as goal
 
 abbrev pub invariant-lines : goal.invariant-lines
 invariant-lines g l = (l.reader.failed ≡ l.fn.reader.failed) × (l.writer.failed ≡ l.fn.writer.failed) × OverAtEnd l.lines (g.R.Read.remaining l.reader.inner)
-    × GoesOn (g.R.Read.remaining l.fn.reader.inner) (left l.lines (g.R.Read.remaining l.reader.inner)) (g.W.Write.contents l.fn.writer.inner) (g.W.Write.contents l.writer.inner) (is_over l.lines) (phase_of l.machine)
+    × GoesOn l.flags (g.R.Read.remaining l.fn.reader.inner) (left l.lines (g.R.Read.remaining l.reader.inner)) (g.W.Write.contents l.fn.writer.inner) (g.W.Write.contents l.writer.inner) (is_over l.lines) (phase_of l.machine)
     (number_of l.lines) (place_of l.lines)
 
 abbrev pub decreases-lines : goal.decreases-lines

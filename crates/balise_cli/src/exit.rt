@@ -1,0 +1,66 @@
+//! How the program ends: its exit status, and the fault that it tells of.
+
+ghost use Rattle.std.specs.Prelude.{◌≡◌, None, Some};
+ghost use Rattle.balise_cli.specs.Exits.{exit_behind_arguments, exit_of};
+
+use crate::fault::RunFault;
+use crate::status::Status;
+use balise_arguments::ArgumentsFault;
+use balise_history::Refusal;
+
+/// How the program ends: its exit status, and the fault, 29 to 32, that is told on standard error.
+#[derive(Clone, Copy, Debug, PartialEq, Eq)]
+pub struct Exit {
+    pub code: u8,
+    pub fault: Option<Refusal>,
+}
+
+/// How it ends behind a run, by whether the output could be flushed: 0, 1 and 2 as the run ended, 3 at a fault. Output
+/// that couldn't be flushed is a fault of the writer.
+pub fn exit_of(ended: Result<Status, RunFault>, flushed: bool) -> Exit
+    ensures { result ≡ exit_of ended flushed }
+{
+    match ended {
+        Err(fault) => Exit {
+            code: 3,
+            fault: Some(fault.refusal()),
+        },
+        Ok(status) => {
+            if flushed {
+                return Exit {
+                    code: status.code(),
+                    fault: None,
+                };
+            }
+            Exit {
+                code: 3,
+                fault: Some(Refusal::WriteFault),
+            }
+        }
+    }
+}
+
+/// How it ends where the arguments ask for no run: 0 behind help and version, 64 where they aren't the program's, and 3
+/// where memory is wanting.
+pub fn exit_behind_arguments(fault: &ArgumentsFault) -> Exit
+    ensures { result ≡ exit_behind_arguments fault.now }
+{
+    match fault {
+        ArgumentsFault::Help(_) => Exit {
+            code: 0,
+            fault: None,
+        },
+        ArgumentsFault::Version(_) => Exit {
+            code: 0,
+            fault: None,
+        },
+        ArgumentsFault::Memory => Exit {
+            code: 3,
+            fault: Some(Refusal::OutOfMemory),
+        },
+        ArgumentsFault::Other(_) => Exit {
+            code: 64,
+            fault: None,
+        },
+    }
+}

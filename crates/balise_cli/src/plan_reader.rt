@@ -1,0 +1,126 @@
+//! The lines of the plan.
+
+ghost use Rattle.std.specs.Prelude.{◌≡◌, ◌≢◌, IfErr, IfOk, Ok, Err, OnErr, OnOk};
+ghost use Rattle.balise_cli.specs.Machine.{DidRead};
+ghost use Rattle.balise_cli.specs.Output.{between, closed, first_line, in_group, telegram};
+ghost use Rattle.balise_cli.specs.PlanRead.{with_line};
+ghost use Rattle.balise_text.specs.PlanLines.{plan_line_of};
+
+use crate::base_plan::BasePlan;
+use crate::fault::RunFault;
+use crate::journal_reader::begin_journal;
+use crate::machine::{Machine, Taken};
+use balise_history::{Bits, Refusal};
+use balise_plan::GroupReader;
+use balise_text::{PlanLine, read_plan_line};
+use std::alloc::Global;
+
+/// The plan's first line.
+pub(crate) fn read_first_line(alloc: Global, number: u64, line: &[u8]) -> Taken
+    ensures { DidRead (first_line number (plan_line_of line.now)) result }
+{
+    match read_plan_line(line) {
+        PlanLine::FirstLine => Taken::Good(Machine::Between(BasePlan::new(alloc))),
+        _ => Taken::Bad(number, Refusal::BadLine),
+    }
+}
+
+/// A line between groups.
+pub(crate) fn read_between(
+    alloc: Global,
+    plan: BasePlan,
+    number: u64,
+    kind: PlanLine,
+    line: &[u8],
+) -> Taken
+    ensures { DidRead (between plan number kind line.now) result }
+{
+    match kind {
+        PlanLine::GroupLine => {
+            Taken::Good(Machine::InGroup(plan, number, GroupReader::new(alloc)))
+        }
+        PlanLine::EditsLine => Taken::Good(Machine::Commands(plan.session(alloc), false)),
+        PlanLine::JournalLine => begin_journal(alloc, plan, number, line),
+        _ => Taken::Bad(number, Refusal::BadLine),
+    }
+}
+
+// The group ends, and another line follows.
+fn close(
+    alloc: Global,
+    plan: BasePlan,
+    group_number: u64,
+    group: GroupReader,
+    number: u64,
+    kind: PlanLine,
+    line: &[u8],
+) -> Result<Taken, RunFault>
+    ensures ok { IfOk result (DidRead (closed plan group_number group (λ p. between p number kind line.now))) }
+    ensures fault { IfErr result (λ e. e ≡ RunFault.OutOfMemory) }
+{
+    let mut plan = plan;
+    match plan.push(group) {
+        Ok(()) => Ok(read_between(alloc, plan, number, kind, line)),
+        Err(Refusal::OutOfMemory) => Err(RunFault::OutOfMemory),
+        Err(refusal) => Ok(Taken::Bad(group_number, refusal)),
+    }
+}
+
+// Adds the telegram of a line. A ninth line isn't looked at.
+fn add_telegram(alloc: Global, group: &mut GroupReader, line: &[u8]) -> Result<(), Refusal>
+    ensures ok { OnOk result (with_line group.old line.now ≡ Ok group.new) }
+    ensures fault { IfErr result (λ r. r ≢ Refusal.OutOfMemory → with_line group.old line.now ≡ Err r) }
+{
+    if group.count() >= 8 {
+        return Err(Refusal::GroupSize);
+    }
+    let due = if line.len() == 208 { 830 } else { 210 };
+    let bits = Bits::from_hex_bytes(alloc, line, due)?;
+    match group.push(bits) {
+        Ok(()) => Ok(()),
+        Err(refusal) => Err(refusal),
+    }
+}
+
+// A telegram's line.
+fn read_telegram(
+    alloc: Global,
+    plan: BasePlan,
+    group_number: u64,
+    group: GroupReader,
+    number: u64,
+    line: &[u8],
+) -> Result<Taken, RunFault>
+    ensures ok { IfOk result (DidRead (telegram plan group_number group number line.now)) }
+    ensures fault { IfErr result (λ e. e ≡ RunFault.OutOfMemory) }
+{
+    let mut group = group;
+    match add_telegram(alloc, &mut group, line) {
+        Ok(()) => Ok(Taken::Good(Machine::InGroup(plan, group_number, group))),
+        Err(Refusal::OutOfMemory) => Err(RunFault::OutOfMemory),
+        Err(refusal) => Ok(Taken::Bad(number, refusal)),
+    }
+}
+
+/// A line in a group.
+pub(crate) fn read_in_group(
+    alloc: Global,
+    plan: BasePlan,
+    group_number: u64,
+    group: GroupReader,
+    number: u64,
+    line: &[u8],
+) -> Result<Taken, RunFault>
+    ensures ok { IfOk result (DidRead (in_group plan group_number group number (plan_line_of line.now) line.now)) }
+    ensures fault { IfErr result (λ e. e ≡ RunFault.OutOfMemory) }
+{
+    let kind = read_plan_line(line);
+    match kind {
+        PlanLine::FirstLine => read_telegram(alloc, plan, group_number, group, number, line),
+        PlanLine::TelegramLine => read_telegram(alloc, plan, group_number, group, number, line),
+        PlanLine::GroupLine => close(alloc, plan, group_number, group, number, kind, line),
+        PlanLine::EditsLine => close(alloc, plan, group_number, group, number, kind, line),
+        PlanLine::JournalLine => close(alloc, plan, group_number, group, number, kind, line),
+        PlanLine::Empty => close(alloc, plan, group_number, group, number, kind, line),
+    }
+}

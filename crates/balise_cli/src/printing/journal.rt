@@ -1,0 +1,74 @@
+//! Writes the journal.
+
+ghost use Rattle.std.specs.Prelude.{◌≡◌, IfErr, OnErr, OnOk, map};
+ghost use Rattle.std.specs.Io.KnownBytes.{Appends};
+ghost use Rattle.balise_cli.specs.Faults.{IsCause};
+ghost use Rattle.balise_cli.specs.PlanTexts.{journal_text, undone_line};
+ghost use Rattle.balise_cli.specs.Private.{entry_line};
+ghost use Rattle.balise_lines.specs.Counts.{one_more};
+ghost use Rattle.balise_lines.specs.Writing.{AppendsSome};
+ghost use Rattle.balise_text.specs.Texts.{text_of};
+
+use crate::fault::RunFault;
+use balise_history::{Line, Session};
+use balise_lines::{Counted, WriteFault};
+use balise_text::{put_entry, put_head, put_undone};
+use std::io::Write;
+
+// Writes the lines of entries.
+fn put_entries<W: Write>(writer: &mut Counted<W>, lines: &[Line]) -> Result<(), WriteFault>
+    ensures ok { OnOk result (Appends (W.contents writer.old.inner) (W.contents writer.new.inner) (text_of (map entry_line lines.now))) }
+    ensures unfailed { OnOk result (writer.new.failed ≡ writer.old.failed) }
+    ensures cause { OnErr result (writer.new.failed ≡ one_more writer.old.failed) }
+    ensures written { OnErr result (AppendsSome (W.contents writer.old.inner) (W.contents writer.new.inner) (text_of (map entry_line lines.now))) }
+{
+    for line in lines {
+        if let Err(fault) = put_entry(writer, line) {
+            return Err(fault);
+        }
+    }
+    Ok(())
+}
+
+// Writes the serials of what was undone or struck.
+fn put_all_undone<W: Write>(writer: &mut Counted<W>, serials: &[u32]) -> Result<(), WriteFault>
+    ensures ok { OnOk result (Appends (W.contents writer.old.inner) (W.contents writer.new.inner) (text_of (map undone_line serials.now))) }
+    ensures unfailed { OnOk result (writer.new.failed ≡ writer.old.failed) }
+    ensures cause { OnErr result (writer.new.failed ≡ one_more writer.old.failed) }
+    ensures written { OnErr result (AppendsSome (W.contents writer.old.inner) (W.contents writer.new.inner) (text_of (map undone_line serials.now))) }
+{
+    for serial in serials {
+        if let Err(fault) = put_undone(writer, *serial) {
+            return Err(fault);
+        }
+    }
+    Ok(())
+}
+
+/// Writes the journal.
+pub(crate) fn put_journal<W: Write>(
+    writer: &mut Counted<W>,
+    session: &Session,
+) -> Result<(), RunFault>
+    ensures ok { OnOk result (Appends (W.contents writer.old.inner) (W.contents writer.new.inner) (journal_text session.now.state)) }
+    ensures unfailed { OnOk result (writer.new.failed ≡ writer.old.failed) }
+    ensures cause { IfErr result (IsCause writer.old.failed writer.new.failed) }
+    ensures written { OnErr result (AppendsSome (W.contents writer.old.inner) (W.contents writer.new.inner) (journal_text session.now.state)) }
+{
+    let Ok(lines) = session.lines() else {
+        return Err(RunFault::OutOfMemory);
+    };
+    let Ok(undone) = session.undone() else {
+        return Err(RunFault::OutOfMemory);
+    };
+    if let Err(fault) = put_head(writer, session.next_serial()) {
+        return Err(RunFault::from(fault));
+    }
+    if let Err(fault) = put_entries(writer, &lines) {
+        return Err(RunFault::from(fault));
+    }
+    match put_all_undone(writer, &undone) {
+        Ok(()) => Ok(()),
+        Err(fault) => Err(RunFault::from(fault)),
+    }
+}

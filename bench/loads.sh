@@ -1,0 +1,52 @@
+#!/usr/bin/env bash
+# Times the program on one load after another: bench/loads.sh [OTHER]. Another program that reads the same text may be
+# named: it is timed in turn, and the outputs are compared. Processor time, the least of five runs, and memory.
+set -eu
+cd "$(dirname "$0")/.."
+
+program=$PWD/crates/baliseplan/out/baliseplan
+other=${1:-}
+mkdir -p crates/baliseplan/out
+(cd crates/baliseplan && rt run < stdin > out/run.stdout 2> out/run.log)
+
+folder=$(mktemp -d)
+trap 'rm -rf "$folder"' EXIT
+
+# load NAME COUNT [FLAG ..]
+load() {
+    local name=$1 count=$2
+    shift 2
+    python3 bench/make_load.py "$name" "$count" > "$folder/input"
+    python3 - "$folder" "$program" "$other" "$name $count $*" "$@" <<'MEASURE'
+import filecmp, os, subprocess, sys
+folder, program, other, title, *flags = sys.argv[1:]
+runs = {"program": program}
+if other:
+    runs["other"] = other
+times, most = {name: [] for name in runs}, dict.fromkeys(runs, 0)
+for _ in range(5):
+    for name, path in runs.items():
+        with open(f"{folder}/input", "rb") as text, open(f"{folder}/{name}", "wb") as out:
+            run = subprocess.Popen([path, *flags], stdin=text, stdout=out)
+            _, _, usage = os.wait4(run.pid, 0)
+        times[name].append(usage.ru_utime + usage.ru_stime)
+        most[name] = max(most[name], usage.ru_maxrss)
+line = f"{title}: {min(times['program']):.3f} s, {most['program'] / 1000:.0f} MB"
+if other:
+    ratio = min(times["program"]) / min(times["other"]), most["program"] / most["other"]
+    same = "the same output" if filecmp.cmp(f"{folder}/program", f"{folder}/other", shallow=False) else "ANOTHER OUTPUT"
+    line += f"; beside the other {ratio[0]:.1f} and {ratio[1]:.1f}, {same}"
+print(line, flush=True)
+MEASURE
+}
+
+load plan 590000
+load plan 100000 --json
+load commands 1000000
+load mixed 1000000
+load redo 900000
+load strikes 100000
+load neighbours 2000
+load renumber 200000
+load turn 400000
+load drops 20000

@@ -42,6 +42,58 @@ fn most_commands(rt: HostRuntime) {
     }
 }
 
+/// The millionth command is the last that is done, whatever comes behind it.
+#[test]
+fn replies_at_the_limit(rt: HostRuntime) {
+    let flags = Flags {
+        quiet: true,
+        ..Flags::default()
+    };
+    let part = b"seth 5.100 0 M_MCOUNT 7\nundo\n";
+    let plan = "plan 1\ngroup\na1007f80a0327fffffffffffffffffffffffffffffffffffffffc0\n";
+    for (times, replies) in [
+        (500_000, ""),
+        (500_001, "refused 28 Worn\nrefused 28 Worn\n"),
+    ] {
+        let mut reader = Repeated::new(GROUP, part, times);
+        let mut writer = Counted::new(Vec::new(rt.alloc()));
+        let answer = run(rt.alloc(), &mut reader, &mut writer, flags);
+        assert!(rt; answer.is_ok());
+        let text = writer.inner().as_slice();
+        assert!(rt; text.starts_with(replies.as_bytes()));
+        assert_eq!(rt; text.len(), replies.len().saturating_add(plan.len()));
+        assert!(rt; text.ends_with(plan.as_bytes()));
+    }
+}
+
+/// 1,000 edits, all undone, give the plan that was read.
+#[test]
+fn a_thousand_edits_undone(rt: HostRuntime) -> Result<(), Fail> {
+    let mut input = String::new(rt.alloc());
+    input.push_str(
+        "plan 1\ngroup\na1007f80a0327fffffffffffffffffffffffffffffffffffffffc0\nedits\n",
+    )?;
+    for _ in 0..1_000 {
+        input.push_str("turn 5.100\n")?;
+    }
+    for _ in 0..1_000 {
+        input.push_str("undo\n")?;
+    }
+    let flags = Flags {
+        quiet: true,
+        ..Flags::default()
+    };
+    let mut reader = Counted::new(input.as_bytes());
+    let mut writer = Counted::new(Vec::new(rt.alloc()));
+    let answer = run(rt.alloc(), &mut reader, &mut writer, flags);
+    assert_eq!(rt; answer, Ok(Status::Accepted));
+    assert_eq!(rt;
+        writer.inner().as_slice(),
+        b"plan 1\ngroup\na1007f80a0327fffffffffffffffffffffffffffffffffffffffc0\n".as_slice()
+    );
+    Ok(())
+}
+
 /// An input without end is too long at last.
 #[test]
 fn longest_input(rt: HostRuntime) {

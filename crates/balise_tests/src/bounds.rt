@@ -66,6 +66,22 @@ fn replies_at_the_limit(rt: HostRuntime) {
     }
 }
 
+/// A line that is no command is refused as that behind the millionth command, too.
+#[test]
+fn bad_lines_at_the_limit(rt: HostRuntime) {
+    let flags = Flags {
+        quiet: true,
+        ..Flags::default()
+    };
+    let part = b"seth 5.100 0 M_MCOUNT 7\nundo\nfrobnicate\n";
+    let end = "refused 1 BadLine\nrefused 28 Worn\nrefused 28 Worn\nrefused 1 BadLine\nplan 1\ngroup\na1007f80a0327fffffffffffffffffffffffffffffffffffffffc0\n";
+    let mut reader = Repeated::new(GROUP, part, 500_001);
+    let mut writer = Counted::new(Vec::new(rt.alloc()));
+    let answer = run(rt.alloc(), &mut reader, &mut writer, flags);
+    assert_eq!(rt; answer, Ok(Status::SomeRefused));
+    assert!(rt; writer.inner().as_slice().ends_with(end.as_bytes()));
+}
+
 /// 1,000 edits, all undone, give the plan that was read.
 #[test]
 fn a_thousand_edits_undone(rt: HostRuntime) -> Result<(), Fail> {

@@ -1,6 +1,7 @@
 //! The variables of packets and headers.
 
-ghost use Rattle.std.specs.Prelude.{◌≡◌, ◌≤◌};
+ghost use Rattle.std.specs.Prelude.{◌≡◌, ◌≤◌, Some};
+ghost use Rattle.balise_rules.specs.declared.variable.Var.{Var};
 ghost use Rattle.balise_rules.specs.Variables.{name_of, steers, var_named, width_of};
 
 /// A variable of a packet (SUBSET-026, chapter 7) or of a header (8.4.2), by its name there.
@@ -84,47 +85,89 @@ pub enum Var {
     QLink,
 }
 
-/// All variables, those of packets first.
-const VARIABLES: [Var; 38] = [
+/// The variables, each at the place of its name; NID_PACKET also where no name has its place.
+static BY_PLACE: [Var; 68] = [
+    Var::DGradient,
+    Var::MDup,
+    Var::NidPacket,
+    Var::MVersion,
+    Var::NIter,
+    Var::NidPacket,
+    Var::NidTsr,
+    Var::NidPacket,
+    Var::QMedia,
+    Var::NidPacket,
+    Var::NidPacket,
+    Var::NidPacket,
+    Var::LTsr,
+    Var::DStatic,
+    Var::NidPacket,
+    Var::MLeveltr,
+    Var::QLocacc,
+    Var::NidPacket,
+    Var::NidPacket,
+    Var::MMcount,
+    Var::QScale,
+    Var::QDiff,
+    Var::QNewcountry,
+    Var::NidPacket,
+    Var::LPacket,
+    Var::NidC,
+    Var::LAckleveltr,
+    Var::NidPacket,
+    Var::NidPacket,
+    Var::NidNtc,
+    Var::VTsr,
+    Var::NidPacket,
+    Var::NidPacket,
+    Var::DLink,
+    Var::NidPacket,
+    Var::NidPacket,
+    Var::QLink,
+    Var::NPig,
+    Var::NcDiff,
+    Var::NidBg,
+    Var::NidPacket,
+    Var::NidPacket,
+    Var::NcCddiff,
+    Var::NidPacket,
+    Var::NidPacket,
+    Var::NidPacket,
+    Var::NidPacket,
+    Var::NidPacket,
+    Var::NidPacket,
+    Var::QUpdown,
+    Var::GA,
+    Var::NidPacket,
+    Var::DTsr,
+    Var::NidPacket,
     Var::NidPacket,
     Var::QDir,
-    Var::LPacket,
-    Var::QScale,
-    Var::NIter,
-    Var::NidC,
-    Var::NidBg,
-    Var::DLink,
-    Var::QNewcountry,
-    Var::QLinkorientation,
-    Var::QLinkreaction,
-    Var::QLocacc,
-    Var::DGradient,
-    Var::QGdir,
-    Var::GA,
-    Var::DStatic,
-    Var::VStatic,
-    Var::QFront,
-    Var::QDiff,
-    Var::NcCddiff,
-    Var::NcDiff,
-    Var::VDiff,
-    Var::DLeveltr,
-    Var::MLeveltr,
-    Var::NidNtc,
-    Var::LAckleveltr,
-    Var::NidTsr,
-    Var::DTsr,
-    Var::LTsr,
-    Var::VTsr,
-    Var::QUpdown,
-    Var::MVersion,
-    Var::QMedia,
-    Var::NPig,
     Var::NTotal,
-    Var::MDup,
-    Var::MMcount,
-    Var::QLink,
+    Var::QGdir,
+    Var::NidPacket,
+    Var::VStatic,
+    Var::DLeveltr,
+    Var::QLinkreaction,
+    Var::NidPacket,
+    Var::NidPacket,
+    Var::VDiff,
+    Var::QFront,
+    Var::NidPacket,
+    Var::QLinkorientation,
 ];
+
+// The variable that alone may have this name: by its length, first and last byte it has a place of its own in a table,
+// with factors that were found by trial.
+fn candidate(name: &[u8]) -> Option<Var>
+    ensures { (var : Var) → name_of var ≡ name.now → result ≡ Some var }
+{
+    let [first, .., last] = name else {
+        return None;
+    };
+    let place = name.len() % 32 * 2 + usize::from(*first) * 63 + usize::from(*last) * 3;
+    Some(BY_PLACE[place % 68])
+}
 
 impl Var {
     /// How many bits a value takes.
@@ -233,10 +276,11 @@ impl Var {
     pub fn from_bytes(name: &[u8]) -> Option<Var>
         ensures { result ≡ var_named name.now }
     {
-        VARIABLES
-            .iter()
-            .copied()
-            .find(|var| var.name().as_bytes() == name)
+        let var = candidate(name)?;
+        if var.name().as_bytes() == name {
+            return Some(var);
+        }
+        None
     }
 
     /// Whether no edit sets the variable of a packet in place, since its value says what follows, or since another edit sets it.

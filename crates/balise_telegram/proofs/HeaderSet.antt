@@ -20,7 +20,7 @@ refused_wide v n w old fs there free e h =
     let big : ltb n (2 ^ width_of v) ≡ false = le-ltb _ _ wide in
     rw (there, free, big) refl
 
-fit : (v : Var) (n w : ℕ) → w ≡ width_of v → n / 2 ^ w ≡ 0 → n < 2 ^ width_of v
+pub fit : (v : Var) (n w : ℕ) → w ≡ width_of v → n / 2 ^ w ≡ 0 → n < 2 ^ width_of v
 fit v n w e h = subst (λ (k : ℕ). n < 2 ^ k) e (nothing_left n w h)
 
 pub header_set : (v : Var) (n w old : ℕ) (fs now : Fields) → field_of v 0 fs ≡ Some old → is_free_in_header v ≡ true → w ≡ width_of v → n / 2 ^ w ≡ 0 → now ≡ with_value v 0 n fs → SetsFields v n fs (Ok old) now

@@ -13,5 +13,6 @@ pub mod Shifting
 pub mod ShiftingBefore
 pub mod Changing
 pub mod PackedPlaces
+pub mod HeaderPlaces
 pub mod PackedChanges
 pub mod PackedFields

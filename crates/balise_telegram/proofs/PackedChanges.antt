@@ -1,20 +1,17 @@
 -- Another value put where a field of a packet stands, in a telegram that is held as its bits.
 -- From what is put over the spelling of one packet, with all that stands behind it as it is.
-use Rattle.std.proofs.Common.{◌≡◌, ◌∙◌, ℕ, ◌+◌, ◌^◌, ◌<◌, Bool, true, false, not, ltb, cond, List, [], ◌∷◌, ◌++◌, length, drop, Some, None, is_none, Ok, refl, sym, ap, subst, append_assoc, length-append, arith}
+use Rattle.std.proofs.Common.{◌≡◌, ◌∙◌, ℕ, ◌+◌, ◌^◌, ◌<◌, Bool, true, false, cond, List, [], ◌∷◌, ◌++◌, length, drop, Some, None, Ok, refl, sym, ap, subst, append_assoc, length-append, arith}
 use Rattle.std.specs.Prelude.{All}
-use Rattle.std.proofs.lemmas.Bool.{ltb-true}
 use Rattle.std.proofs.lemmas.List.Elements.{All-head, All-tail}
 use Rattle.balise_rules.specs.declared.tag.Tag.{Tag}
 use Rattle.balise_rules.specs.declared.variable.Var.{Var}
-use Rattle.balise_rules.specs.declared.refusal.Refusal.TheVariants.{NoSuchVariable, Steering, ValueTooWide}
-use Rattle.balise_rules.specs.Variables.{width_of, steers, is_free_in_header}
+use Rattle.balise_rules.specs.Variables.{width_of, steers}
 use Rattle.balise_rules.specs.Bits.{bits, ones, put_at}
-use Rattle.balise_rules.specs.Forms.{Fields, Matches, Numbered, spelling}
+use Rattle.balise_rules.specs.Forms.{Matches, Numbered, spelling}
 use Rattle.balise_rules.specs.Tagged.{find, each, Distinct}
 use Rattle.balise_rules.specs.Tags.{Key, same_tag}
-use Rattle.balise_rules.specs.Packet.{Packet, bits_of, field_of, width, with_value, IsSpelt}
-use Rattle.balise_rules.specs.Telegram.{Telegram, header, is_balise, packets_bits, read_header, read_telegram, shown, used, version_of, IsLength, IsRead, TaggedFrom}
-use Rattle.balise_rules.specs.Doing.{when, first_of}
+use Rattle.balise_rules.specs.Packet.{Packet, bits_of, width, with_value, IsSpelt}
+use Rattle.balise_rules.specs.Telegram.{Telegram, header, is_balise, packets_bits, read_telegram, shown, used, version_of, IsLength, IsRead, TaggedFrom}
 use Rattle.balise_rules.proofs.AllItems.{all-each}
 use Rattle.balise_rules.proofs.Cases.{unsome}
 use Rattle.balise_rules.proofs.Each.{each-absent}
@@ -29,9 +26,10 @@ use Rattle.balise_layout.specs.Held.{before, further, with_field as with_packet_
 use Rattle.balise_layout.proofs.Places.{further_is, put_further, put_spelling}
 use Rattle.balise_layout.proofs.Setting.{IsSpelt-with_field}
 use Rattle.balise_telegram.specs.Packed.{packet_place, place_from, telegram_of, IsTelegram}
-use Rattle.balise_telegram.specs.Setting.{fields_refusal, with_changed, with_field, with_head}
+use Rattle.balise_telegram.specs.HeaderFields.{head_place}
+use Rattle.balise_telegram.specs.Setting.{with_changed, with_field, with_head}
 use Rattle.balise_telegram.proofs.HeaderForms.{IsAside, header_kept, version_kept, balise_kept}
-use Rattle.balise_telegram.proofs.PackedPlaces.{head_is}
+use Rattle.balise_telegram.proofs.HeaderPlaces.{head_replaced}
 use Rattle.balise_telegram.proofs.Settings.{as_wide, telegram}
 use Rattle.balise_telegram.proofs.Tagging.{Packets, with_packet}
 
@@ -190,21 +188,11 @@ head_read b y v n r aside fit =
     })
 
 -- what is held then, and what it is seen as
-pub head_put : (b : List Bool) (y : Telegram) (v : Var) (n : ℕ) (head after : Fields) (new : List Bool) → IsRead b y → head ≡ read_header b → IsAside v → n < 2 ^ width_of v → after ≡ with_value v 0 n head → new ≡ spelling after ++ drop 50 b → IsTelegram new × (telegram_of (read_telegram new) ≡ with_head v n y)
-head_put b y v n head after new r h aside fit e f =
-    let same : new ≡ spelling (with_value v 0 n y.head) ++ drop 50 b = f ∙ ap (λ (x : Fields). spelling x ++ drop 50 b) (e ∙ ap (with_value v 0 n) (h ∙ head_is b y r)) in
+pub head_put : (b : List Bool) (y : Telegram) (v : Var) (n at : ℕ) (new : List Bool) → IsRead b y → head_place v ≡ Some at → IsAside v → n < 2 ^ width_of v → new ≡ put_at at (bits (width_of v) n) b → IsTelegram new × (telegram_of (read_telegram new) ≡ with_head v n y)
+head_put b y v n at new r place aside fit e =
+    let same : new ≡ spelling (with_value v 0 n y.head) ++ drop 50 b = e ∙ head_replaced b y v n at r place in
     let a = held_again _ _ (head_read b y v n r aside fit) in
     (subst IsTelegram (sym same) a.0, ap (λ (l : List Bool). telegram_of (read_telegram l)) same ∙ a.1)
-
--- what isn't refused is a variable that is set, and a value that fits
-pub free_fits : (v : Var) (n : ℕ) (fs : Fields) → fields_refusal v n fs ≡ None → (is_free_in_header v ≡ true) × (n < 2 ^ width_of v)
-free_fits v n fs e = by (is_none (field_of v 0 fs)) (is_free_in_header v) (ltb n (2 ^ width_of v)) refl refl e
-  where
-    by : (a b c : Bool) → is_free_in_header v ≡ b → ltb n (2 ^ width_of v) ≡ c → first_of (when a NoSuchVariable ∷ when (not b) Steering ∷ when (not c) ValueTooWide ∷ []) ≡ None → (is_free_in_header v ≡ true) × (n < 2 ^ width_of v)
-    by true b c p q h = absurd cc
-    by false false c p q h = absurd cc
-    by false true false p q h = absurd cc
-    by false true true p q h = (p, ltb-true n (2 ^ width_of v) q)
 
 -- ---- what the changes are, where the packet is found
 

@@ -7,6 +7,7 @@ ghost use Rattle.balise_rules.specs.Packet.{field_of, value, with_value};
 ghost use Rattle.balise_rules.specs.Telegram.{is_balise, read_header};
 ghost use Rattle.balise_rules.specs.Variables.{is_free_in_header, width_of};
 ghost use Rattle.balise_rules.specs.declared.variable.Var.TheVariants.{MVersion, NidBg, NidC, NPig};
+ghost use Rattle.balise_telegram.specs.HeaderFields.{head_place};
 ghost use Rattle.balise_telegram.specs.Setting.{SetsFields};
 
 use crate::fault::TelegramFault;
@@ -210,9 +211,29 @@ impl Header {
     }
 }
 
-// Whether a header's variable is set in place.
+/// How many bits of a header stand before a variable, where a header has it.
+#[tactic(auto, unfolding(balise_rules::specs::Variables::width_of))]
+pub(crate) fn head_place(var: Var) -> Option<usize>
+    ensures { result ≡ head_place var }
+{
+    match var {
+        Var::QUpdown => Some(0),
+        Var::MVersion => Some(1),
+        Var::QMedia => Some(8),
+        Var::NPig => Some(9),
+        Var::NTotal => Some(12),
+        Var::MDup => Some(15),
+        Var::MMcount => Some(17),
+        Var::NidC => Some(25),
+        Var::NidBg => Some(35),
+        Var::QLink => Some(49),
+        _ => None,
+    }
+}
+
+/// Whether a header's variable is set in place.
 #[tactic(auto, unfolding(balise_rules::specs::Variables::is_free_in_header))]
-fn is_free(var: Var) -> bool
+pub(crate) fn is_free(var: Var) -> bool
     ensures { result ≡ is_free_in_header var }
 {
     matches!(var, Var::MDup | Var::MMcount | Var::QLink)

@@ -11,7 +11,7 @@ ghost use Rattle.balise_rules.specs.declared.tag.Tag.{Tag};
 ghost use Rattle.balise_telegram.specs.Faults.{refusal_of};
 
 use crate::fault::TelegramFault;
-use crate::header::Header;
+use crate::header::{Header, head_place};
 use crate::telegram::Telegram;
 use balise_bits::Bits;
 use balise_layout::Packet;
@@ -102,7 +102,11 @@ impl PackedTelegram {
     pub fn head(&self, var: Var) -> Option<u32>
         ensures { result ≡ field_of var 0 self.now.head }
     {
-        self.header().get(var)
+        let bits = &self.packed;
+        let Some(at) = head_place(var) else {
+            return None;
+        };
+        Some(bits.number(at, var.width()))
     }
 
     /// The identity of its group, as the header has it.

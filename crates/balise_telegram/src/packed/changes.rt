@@ -1,7 +1,7 @@
 //! What is changed in a telegram that is held as its bits: all that keeps its layout. Takes no memory.
 
-ghost use Rattle.std.specs.Prelude.{◌≡◌, ◌⊎◌, ◌<◌, ◌^◌, ℕ, false, Some};
-ghost use Rattle.balise_rules.specs.Variables.{steers, width_of};
+ghost use Rattle.std.specs.Prelude.{◌≡◌, ◌⊎◌, ◌<◌, ◌^◌, ℕ, false, true, Some};
+ghost use Rattle.balise_rules.specs.Variables.{is_free_in_header, steers, width_of};
 ghost use Rattle.balise_rules.specs.declared.variable.Var.TheVariants.{NPig, NidBg};
 ghost use Rattle.balise_rules.specs.declared.tag.Tag.{Tag};
 ghost use Rattle.balise_layout.specs.Setting.{flipped, renamed, turned};
@@ -10,7 +10,7 @@ ghost use Rattle.balise_telegram.specs.Setting.{with_changed, with_field, with_h
 
 use crate::PacketTag;
 use crate::fault::TelegramFault;
-use crate::header::Header;
+use crate::header::{head_place, is_free};
 use crate::packed::PackedTelegram;
 use balise_rules::Var;
 
@@ -51,9 +51,16 @@ impl PackedTelegram {
     pub fn set_head(&mut self, var: Var, value: u32) -> Result<u32, TelegramFault>
         ensures { SetsHead var value self.old result self.new }
     {
-        let mut header = Header::read(&self.packed);
-        let old = header.set(var, value)?;
-        header.put_over(&mut self.packed);
+        let Some(old) = self.head(var) else {
+            return Err(TelegramFault::NoSuchVariable);
+        };
+        if !is_free(var) {
+            return Err(TelegramFault::Steering);
+        }
+        if value >> var.width() != 0 {
+            return Err(TelegramFault::ValueTooWide);
+        }
+        self.put_in_head(var, value);
         Ok(old)
     }
 
@@ -63,9 +70,18 @@ impl PackedTelegram {
         requires fits { value < 2 ^ width_of var }
         ensures { self.new ≡ with_head var value self.old }
     {
-        let mut header = Header::read(&self.packed);
-        header.put(var, value);
-        header.put_over(&mut self.packed);
+        self.put_in_head(var, value);
+    }
+
+    // Puts a value where a variable of the header stands.
+    fn put_in_head(&mut self, var: Var, value: u32)
+        requires var { (is_free_in_header var ≡ true) ⊎ ((var ≡ NPig) ⊎ (var ≡ NidBg)) }
+        requires fits { value < 2 ^ width_of var }
+        ensures { self.new ≡ with_head var value self.old }
+    {
+        if let Some(at) = head_place(var) {
+            self.packed.put(at, var.width(), value);
+        }
     }
 
     /// Exchanges the directions 0 and 1 in Q_DIR of the packet with this tag, where it stands.

@@ -15,3 +15,4 @@ pub mod EntriesBack
 pub mod LinesBack
 pub mod PrintedLines
 pub mod Reading
+pub mod NumberLines

@@ -1,50 +1,9 @@
--- The names of variables are read back, and no byte in them is below `$`.
-use Rattle.std.proofs.Common.{◌≡◌, true, Some, refl}
+-- No byte in the names of variables is below `$`.
+use Rattle.std.proofs.Common.{◌≡◌, true, refl}
 use Rattle.balise_rules.specs.declared.variable.Var.{Var}
 use Rattle.balise_rules.specs.declared.variable.Var.TheVariants.{NidPacket, QDir, LPacket, QScale, NIter, NidC, NidBg, DLink, QNewcountry, QLinkorientation, QLinkreaction, QLocacc, DGradient, QGdir, GA, DStatic, VStatic, QFront, QDiff, NcCddiff, NcDiff, VDiff, DLeveltr, MLeveltr, NidNtc, LAckleveltr, NidTsr, DTsr, LTsr, VTsr, QUpdown, MVersion, QMedia, NPig, NTotal, MDup, MMcount, QLink}
-use Rattle.balise_rules.specs.Variables.{name_of, var_named}
+use Rattle.balise_rules.specs.Variables.{name_of}
 use Rattle.balise_text.proofs.High.{is_high}
-
-pub name_read : (v : Var) → var_named (name_of v) ≡ Some v
-unfolding name_of
-name_read NidPacket = refl
-name_read QDir = refl
-name_read LPacket = refl
-name_read QScale = refl
-name_read NIter = refl
-name_read NidC = refl
-name_read NidBg = refl
-name_read DLink = refl
-name_read QNewcountry = refl
-name_read QLinkorientation = refl
-name_read QLinkreaction = refl
-name_read QLocacc = refl
-name_read DGradient = refl
-name_read QGdir = refl
-name_read GA = refl
-name_read DStatic = refl
-name_read VStatic = refl
-name_read QFront = refl
-name_read QDiff = refl
-name_read NcCddiff = refl
-name_read NcDiff = refl
-name_read VDiff = refl
-name_read DLeveltr = refl
-name_read MLeveltr = refl
-name_read NidNtc = refl
-name_read LAckleveltr = refl
-name_read NidTsr = refl
-name_read DTsr = refl
-name_read LTsr = refl
-name_read VTsr = refl
-name_read QUpdown = refl
-name_read MVersion = refl
-name_read QMedia = refl
-name_read NPig = refl
-name_read NTotal = refl
-name_read MDup = refl
-name_read MMcount = refl
-name_read QLink = refl
 
 pub name_high : (v : Var) → is_high (name_of v) ≡ true
 unfolding name_of

@@ -22,6 +22,7 @@ mod digits;
 mod journal_text;
 pub mod laws;
 mod printing;
+mod refused;
 mod replies;
 mod reply;
 mod reviews;

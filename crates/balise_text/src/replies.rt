@@ -1,17 +1,54 @@
 //! Prints replies, and why a plan, a journal or a run is refused. No memory is taken.
 
-ghost use Rattle.std.specs.Prelude.{◌≡◌, OnErr, OnOk};
+ghost use Rattle.std.specs.Prelude.{◌≡◌, ◌≤◌, ◌∷◌, [], OnErr, OnOk, decimal, drop, length};
 ghost use Rattle.std.specs.Io.KnownBytes.{Appends};
 ghost use Rattle.balise_lines.specs.Counts.{one_more};
 ghost use Rattle.balise_lines.specs.Writing.{AppendsSome};
 ghost use Rattle.balise_text.specs.Answers.{reply_of};
 ghost use Rattle.balise_text.specs.Replies.{bad_line, fault_line, refused_line, reply_line};
+ghost use Rattle.balise_text.specs.Texts.{whole_line};
 
 use crate::printing::{Word, put_line};
+use crate::refused::refused_text;
 use crate::reply::Reply;
-use balise_lines::{Counted, WriteFault};
+use balise_lines::{Counted, WriteFault, put};
 use balise_rules::Refusal;
+use itoa::write_digits;
 use std::io::Write;
+
+/// The bytes of a line of a name and a number: at most 8, a space, at most 10, the line's end.
+const ROOM: usize = 20;
+
+// Puts the line of a name and a number together, from its end, and answers where it begins.
+fn number_line(line: &mut [u8; ROOM], name: &[u8], number: u32) -> usize
+    requires { length name.now ≤ 8 }
+    ensures within { result ≤ 20 }
+    ensures line { drop result line.new ≡ whole_line (name.now ∷ decimal number ∷ []) }
+{
+    line[ROOM - 1] = b'\n';
+    let digits = write_digits(u64::from(number), line, ROOM - 1);
+    line[digits - 1] = b' ';
+    let start = digits - 1 - name.len();
+    line[start..digits - 1].copy_from_slice(name);
+    start
+}
+
+// Writes the line of a name and a number, in one call.
+fn put_number_line<W: Write>(
+    writer: &mut Counted<W>,
+    name: &[u8],
+    number: u32,
+) -> Result<(), WriteFault>
+    requires { length name.now ≤ 8 }
+    ensures ok { OnOk result (Appends (W.contents writer.old.inner) (W.contents writer.new.inner) (whole_line (name.now ∷ decimal number ∷ []))) }
+    ensures unfailed { OnOk result (writer.new.failed ≡ writer.old.failed) }
+    ensures cause { OnErr result (writer.new.failed ≡ one_more writer.old.failed) }
+    ensures written { OnErr result (AppendsSome (W.contents writer.old.inner) (W.contents writer.new.inner) (whole_line (name.now ∷ decimal number ∷ []))) }
+{
+    let mut line = [0; ROOM];
+    let start = number_line(&mut line, name, number);
+    put(writer, &line[start..])
+}
 
 // The line of a command that is refused.
 fn put_refused<W: Write>(writer: &mut Counted<W>, refusal: Refusal) -> Result<(), WriteFault>
@@ -20,12 +57,12 @@ fn put_refused<W: Write>(writer: &mut Counted<W>, refusal: Refusal) -> Result<()
     ensures cause { OnErr result (writer.new.failed ≡ one_more writer.old.failed) }
     ensures written { OnErr result (AppendsSome (W.contents writer.old.inner) (W.contents writer.new.inner) (refused_line refusal)) }
 {
-    let number = Word::Number(refusal.number());
-    let name = Word::Name(refusal.name().as_bytes());
     if let Refusal::DependsOn(serial) = refusal {
+        let number = Word::Number(refusal.number());
+        let name = Word::Name(refusal.name().as_bytes());
         return put_line(writer, b"refused", &[number, name, Word::Number(serial)]);
     }
-    put_line(writer, b"refused", &[number, name])
+    put(writer, refused_text(refusal).as_bytes())
 }
 
 /// Writes the line that answers a command, with its end.
@@ -36,10 +73,10 @@ pub fn put_reply<W: Write>(writer: &mut Counted<W>, reply: Reply) -> Result<(), 
     ensures written { OnErr result (AppendsSome (W.contents writer.old.inner) (W.contents writer.new.inner) (reply_line (reply_of reply))) }
 {
     match reply {
-        Reply::Done(serial) => put_line(writer, b"ok", &[Word::Number(serial)]),
-        Reply::Undone(serial) => put_line(writer, b"undone", &[Word::Number(serial)]),
-        Reply::Redone(serial) => put_line(writer, b"redone", &[Word::Number(serial)]),
-        Reply::Struck(serial) => put_line(writer, b"struck", &[Word::Number(serial)]),
+        Reply::Done(serial) => put_number_line(writer, b"ok", serial),
+        Reply::Undone(serial) => put_number_line(writer, b"undone", serial),
+        Reply::Redone(serial) => put_number_line(writer, b"redone", serial),
+        Reply::Struck(serial) => put_number_line(writer, b"struck", serial),
         Reply::Refused(refusal) => put_refused(writer, refusal),
     }
 }

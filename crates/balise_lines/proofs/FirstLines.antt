@@ -1,6 +1,6 @@
 -- The first line of an input, from the bytes at its front.
-use Rattle.std.proofs.Common.{◌≡◌, ◌≢◌, ◌==◌, ℕ, suc, ◌≤◌, ◌<◌, List, [], ◌∷◌, ◌++◌, false, length, refl, sym, ap, subst, ◌∙◌, arith, rules}
-use Rattle.std.proofs.lemmas.List.Elements.{All-head, All-tail}
+use Rattle.std.proofs.Common.{◌≡◌, ◌≢◌, ◌==◌, ℕ, suc, ◌≤◌, ◌<◌, List, [], ◌∷◌, ◌++◌, false, length, All, refl, sym, ap, subst, ◌∙◌, arith, rules}
+use Rattle.std.proofs.lemmas.List.Elements.{All-cons, All-head, All-nil, All-tail}
 use Rattle.balise_lines.specs.Lines.{HasNoEnd, Line, ended, lines_of, onto_first, unended}
 
 head_is : (x : ℕ) (xs : List ℕ) → HasNoEnd (x ∷ xs) → (x == 10) ≡ false
@@ -23,6 +23,13 @@ pub lines_of-unended : (xs : List ℕ) → HasNoEnd xs → 0 < length xs → lin
 lines_of-unended [] none some = absurd (omega arith)
 lines_of-unended (x ∷ []) none some = onto x [] [] none
 lines_of-unended (x ∷ y ∷ xs) none some = onto x (y ∷ xs) (y ∷ xs) none ∙ ap (onto_first x) (lines_of-unended (y ∷ xs) (tail x (y ∷ xs) none) (omega arith))
+
+-- no line of what has no line feed has an end
+pub lines_of-open : (xs : List ℕ) → HasNoEnd xs → All (λ (line : Line). line.is_ended ≡ false) (lines_of xs)
+lines_of-open [] none = All-nil (λ (line : Line). line.is_ended ≡ false)
+lines_of-open (x ∷ xs) none =
+    subst (All (λ (line : Line). line.is_ended ≡ false)) (sym (lines_of-unended (x ∷ xs) none (omega arith)))
+    (All-cons (λ (line : Line). line.is_ended ≡ false) (unended (x ∷ xs)) [] refl (All-nil (λ (line : Line). line.is_ended ≡ false)))
 
 -- the first line has at least so many bytes
 pub record BeginsLong (n : ℕ) (all : List Line) : Type 0 where

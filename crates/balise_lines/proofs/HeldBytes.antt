@@ -1,9 +1,13 @@
 -- The bytes held, after a read behind them or a step past their front.
 use Rattle.std.proofs.Common.{◌≡◌, ℕ, ◌+◌, ◌-◌, ◌≤◌, List, ◌++◌, length, take, drop, slice_range, Option, Some, None, refl, sym, ap, ◌∙◌, arith, append_assoc}
-use Rattle.std.proofs.lemmas.List.{take_at, drop_at, take-append-le, drop-append-le, drop-take, drop-drop, length-take-le, length-drop}
+use Rattle.std.proofs.lemmas.List.{take_at, drop_at, take-append-le, drop-append-le, drop-take, drop-drop, length-take, length-take-le, length-drop}
 use Rattle.std.specs.Io.KnownBytes.{Keeps, Consumes, prepend_known}
 use borrow.Rule.Slice.PartMut.{put_mid, post_of}
 use lib.Seq.{take-add}
+use Rattle.balise_lines.specs.LineBuffer.{held}
+use Rattle.balise_lines.specs.Reading.{ahead}
+use Rattle.balise_lines.specs.declared.line_buffer.LineBuffer.{LineBuffer}
+use Rattle.balise_lines.specs.declared.lines.Lines.{Lines}
 
 -- a read behind the part from start to end makes it longer by what it gave
 pub grown : (xs ys : List ℕ) (start end k n : ℕ) → start ≤ end → end ≤ length xs → n ≤ length ys
@@ -32,3 +36,17 @@ pub Keeps-read : (a b : Option (List ℕ)) (xs ys zs more : List ℕ) → Consum
 Keeps-read None b xs ys zs more p e f = tt
 Keeps-read (Some a) None xs ys zs more p e f = absurd p
 Keeps-read (Some a) (Some b) xs ys zs more p e f = ap (λ t. t ++ b) f ∙ append_assoc ys more b ∙ ap (λ t. t ++ (more ++ b)) e ∙ ap (λ t. xs ++ t) (sym p)
+
+-- at most a longest line with its end is held
+pub held_few : (b : LineBuffer) → length (held b) ≤ 4097
+held_few b =
+    let within : b.end ≤ 4097 = b.within in
+    let size = length-take (b.end - b.start) (drop b.start b.bytes) in
+    omega (arith, within, size)
+
+-- so at most as much is read ahead
+pub ahead_few : (l : Lines) → length (ahead l) ≤ 4097
+ahead_few l =
+    let most : length (held l.buffer) ≤ 4097 = held_few l.buffer in
+    let size : length (ahead l) ≡ length (held l.buffer) - l.taken = length-drop l.taken (held l.buffer) in
+    omega (arith, most, size)

@@ -47,13 +47,23 @@ pub some_input : (left : Option (List ℕ)) (over : Bool) → (over ≡ true →
 some_input None over end = ([], (tt, λ _. refl))
 some_input (Some xs) over end = (xs, (refl, end))
 
--- what was read ahead is what the reader gave, and it is nothing where the reading is over
-pub ahead_read : (left lower : Option (List ℕ)) (ahead : List ℕ) (over : Bool) → Keeps left (prepend_known ahead lower) → (over ≡ true → IsAtEnd left)
-    → (rest : List ℕ) × (Consumes left lower rest × (over ≡ true → rest ≡ []))
-ahead_read None lower ahead over k end = ([], (tt, λ _. refl))
-ahead_read (Some xs) None ahead over k end = absurd k
-ahead_read (Some xs) (Some ys) ahead over k end = (ahead, (sym k, λ o. front ahead ys (k ∙ end o)))
+-- what was read ahead is what the reader gave, and it is nothing where the reading is over; where nothing is known of it, it may be taken for nothing
+pub ahead_such : (P : List ℕ → Type 0) (left lower : Option (List ℕ)) (ahead : List ℕ) (over : Bool) → Keeps left (prepend_known ahead lower) → (over ≡ true → IsAtEnd left) → P [] → P ahead
+    → (rest : List ℕ) × (Consumes left lower rest × (over ≡ true → rest ≡ []) × P rest)
+ahead_such P None lower ahead over k end p q = ([], (tt, λ _. refl, p))
+ahead_such P (Some xs) None ahead over k end p q = absurd k
+ahead_such P (Some xs) (Some ys) ahead over k end p q = (ahead, (sym k, λ o. front ahead ys (k ∙ end o), q))
   where
     front : (xs bs : List ℕ) → xs ++ bs ≡ [] → xs ≡ []
     front [] bs e = refl
     front (x ∷ xs) bs e = absurd cc
+
+pub ahead_read : (left lower : Option (List ℕ)) (ahead : List ℕ) (over : Bool) → Keeps left (prepend_known ahead lower) → (over ≡ true → IsAtEnd left)
+    → (rest : List ℕ) × (Consumes left lower rest × (over ≡ true → rest ≡ []))
+ahead_read left lower ahead over k end = let r = ahead_such (λ _. Unit {0}) left lower ahead over k end tt tt in (r.0, (r.1.0, r.1.1))
+
+-- the reader is at its end where nothing is left
+pub reader_ended : (lower : Option (List ℕ)) (ahead : List ℕ) → IsAtEnd (prepend_known ahead lower) → IsAtEnd lower
+reader_ended None ahead e = tt
+reader_ended (Some ys) [] e = e
+reader_ended (Some ys) (x ∷ xs) e = absurd cc

@@ -10,6 +10,10 @@ use Rattle.balise_lines.specs.declared.line_buffer.Look.TheVariants.{Line, Last,
 abbrev pub held : LineBuffer → List ℕ
 held b = slice_range b.bytes b.start b.end
 
+-- the bytes don't show a line yet: none ends in them, and they aren't more than a longest line has
+abbrev pub NeedsMore : List ℕ → Type 0
+NeedsMore bytes = HasNoEnd bytes × (length bytes ≤ 4096)
+
 -- what stands at the front of the bytes held and what the reader has left
 abbrev pub Sees : Look → List ℕ → Option (List ℕ) → Type 0
 Sees (Line n) bytes rest = (n ≤ 4096) × EndsAt bytes n

@@ -27,7 +27,7 @@ place_of l = l.next_place
 abbrev pub number_of : Lines → ℕ
 number_of l = l.next_number
 
--- whether a last line without an end was read
+-- whether the input's end was seen: a last line without an end was read, or no line was left
 abbrev pub is_over : Lines → Bool
 is_over l = l.over
 
@@ -35,7 +35,7 @@ is_over l = l.over
 abbrev pub SamePlace : Lines → Lines → Type 0
 SamePlace old new = (place_of new ≡ place_of old) × (number_of new ≡ number_of old) × (is_over new ≡ is_over old)
 
--- after a last line without an end nothing is left
+-- where the end was seen nothing is left
 abbrev pub OverAtEnd : Lines → Option (List ℕ) → Type 0
 OverAtEnd l remaining = is_over l ≡ true → IsAtEnd (left l remaining)
 
@@ -49,11 +49,13 @@ pub record TookLine (old : Lines) (had : Option (List ℕ)) (line : Line) (new :
   pub before : is_over old ≡ false
   pub over : is_over new ≡ not line.is_ended
 
--- nothing was left, and it stays so
+-- nothing was left, and it stays so: the end was seen
 pub record TookNone (old : Lines) (had : Option (List ℕ)) (new : Lines) (has : Option (List ℕ)) : Type 0 where
   pub at_end : IsAtEnd (left old had)
   pub kept : Keeps (left old had) (left new has)
-  pub same : SamePlace old new
+  pub placed : place_of new ≡ place_of old
+  pub numbered : number_of new ≡ number_of old
+  pub over : is_over new ≡ true
   pub none : line_of new ≡ []
 
 -- what the reading came to

@@ -1,6 +1,6 @@
 //! The bytes that were read and not yet used: at most a longest line with its end.
 
-ghost use Rattle.std.specs.Prelude.{◌≡◌, ◌≢◌, ◌+◌, ◌<◌, ◌≤◌, [], length, take, drop, All, MatchOption, IfErr, IfOk, OnOk, OnErr};
+ghost use Rattle.std.specs.Prelude.{◌≡◌, ◌≢◌, ◌⊎◌, ◌+◌, ◌<◌, ◌≤◌, [], length, take, drop, All, MatchOption, IfErr, IfOk, OnOk, OnErr};
 ghost use Rattle.std.specs.Io.{StartsWith};
 ghost use Rattle.std.specs.Io.KnownBytes.{Keeps, IsAtEnd, prepend_known};
 ghost use Rattle.balise_lines.specs.Counts.{one_more};
@@ -45,7 +45,7 @@ fn find_end(bytes: &[u8], searched: usize) -> Option<usize>
 }
 
 impl LineBuffer {
-    ghost use Rattle.balise_lines.specs.LineBuffer.{held, Sees};
+    ghost use Rattle.balise_lines.specs.LineBuffer.{held, NeedsMore, Sees};
 
     pub(crate) fn new() -> LineBuffer
         ensures { held result ≡ [] }
@@ -96,6 +96,7 @@ impl LineBuffer {
         ensures unfailed { OnOk result (reader.new.failed ≡ reader.old.failed) }
         ensures fault { IfErr result (λ e. e ≡ LineFault.Read) }
         ensures cause { OnErr result (reader.new.failed ≡ one_more reader.old.failed) }
+        ensures kept { OnErr result (held self.new ≡ held self.old) }
     {
         self.move_to_front();
         let end = self.end;
@@ -108,14 +109,16 @@ impl LineBuffer {
         }
     }
 
-    /// Reads on until it shows what stands at the front.
+    /// Reads on until it shows what stands at the front, and reads nothing where what is held shows it.
     pub(crate) fn look<R: Read>(&mut self, reader: &mut Counted<R>) -> Result<Look, LineFault>
         ensures bytes { Keeps (prepend_known (held self.old) (R.remaining reader.old.inner))
             (prepend_known (held self.new) (R.remaining reader.new.inner)) }
         ensures sees { IfOk result (λ look. Sees look (held self.new) (R.remaining reader.new.inner)) }
+        ensures needed { NeedsMore (held self.old) ⊎ (reader.new ≡ reader.old) }
         ensures unfailed { OnOk result (reader.new.failed ≡ reader.old.failed) }
         ensures fault { IfErr result (λ e. e ≡ LineFault.Read) }
         ensures cause { OnErr result (reader.new.failed ≡ one_more reader.old.failed) }
+        ensures short { OnErr result (NeedsMore (held self.old) × NeedsMore (held self.new)) }
     {
         let mut searched = 0;
         'reads: loop {

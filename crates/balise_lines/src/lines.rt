@@ -1,9 +1,9 @@
 //! The lines of an input, one at a time.
 
-ghost use Rattle.std.specs.Prelude.{◌≡◌, ◌+◌, ◌<◌, ◌≤◌, [], length, false, IfErr, IfOk, OnOk, OnErr, IsErrOf};
+ghost use Rattle.std.specs.Prelude.{◌≡◌, ◌⊎◌, ◌+◌, ◌<◌, ◌≤◌, [], length, true, false, IfErr, IfOk, OnOk, OnErr, IsErrOf};
 ghost use Rattle.std.specs.Io.KnownBytes.{Keeps};
 ghost use Rattle.balise_lines.specs.Counts.{one_more};
-ghost use Rattle.balise_lines.specs.LineBuffer.{held};
+ghost use Rattle.balise_lines.specs.LineBuffer.{held, NeedsMore};
 
 use crate::counted::Counted;
 use crate::fault::LineFault;
@@ -33,7 +33,7 @@ pub struct Lines {
     taken: usize,
     next_place: u64,
     next_number: u64,
-    /// Whether the last line was read and had no end.
+    /// Whether the input's end was seen: the last line was read and had no end, or there was none.
     over: bool,
     ghost within: { taken ≤ length (held buffer) },
     ghost inside: { len ≤ taken },
@@ -120,12 +120,17 @@ impl Lines {
     ///
     /// A fault is that the line is too long, or that a call of the reader failed, also one that was only
     /// interrupted. No line is taken then, and the next call looks at the same place of the input again.
+    ///
+    /// The reader is called only where what was read ahead doesn't show the next line, and not once the end was seen.
     pub fn next<R: Read>(&mut self, reader: &mut Counted<R>) -> Result<Next, LineFault>
         requires over { OverAtEnd self.old (R.remaining reader.old.inner) }
         ensures over { OverAtEnd self.new (R.remaining reader.new.inner) }
         ensures took { IfOk result (λ next. Took next self.old (R.remaining reader.old.inner) self.new (R.remaining reader.new.inner)) }
         ensures long { IsErrOf result LineFault.TooLong → LongNext (left self.old (R.remaining reader.old.inner)) (place_of self.old) }
         ensures cause { IsErrOf result LineFault.Read → reader.new.failed ≡ one_more reader.old.failed }
+        ensures needed { NeedsMore (ahead self.old) ⊎ (reader.new ≡ reader.old) }
+        ensures ended { is_over self.old ≡ true → reader.new ≡ reader.old }
+        ensures short { IsErrOf result LineFault.Read → NeedsMore (ahead self.old) × NeedsMore (ahead self.new) }
         ensures unfailed { OnOk result (reader.new.failed ≡ reader.old.failed) }
         ensures uncounted { IsErrOf result LineFault.TooLong → reader.new.failed ≡ reader.old.failed }
         ensures kept { OnErr result (Keeps (left self.old (R.remaining reader.old.inner)) (left self.new (R.remaining reader.new.inner))) }
@@ -140,7 +145,10 @@ impl Lines {
         match self.buffer.look(reader) {
             Err(fault) => Err(fault),
             Ok(Look::TooLong) => Err(LineFault::TooLong),
-            Ok(Look::End) => Ok(Next::End),
+            Ok(Look::End) => {
+                self.over = true;
+                Ok(Next::End)
+            }
             Ok(Look::Last) => {
                 let len = self.buffer.as_slice().len();
                 self.take_line(len, len, true)?;

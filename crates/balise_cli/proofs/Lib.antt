@@ -5,5 +5,7 @@ pub mod Answered
 pub mod ItemTexts
 pub mod GroupsClosed
 pub mod OneLine
+pub mod LinesDone
 pub mod LineByLine
+pub mod LinesRead
 pub mod Headline

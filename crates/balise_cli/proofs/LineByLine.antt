@@ -1,7 +1,8 @@
 -- What a run keeps from line to line.
-use Rattle.std.proofs.Common.{◌≡◌, inl, inr, ℕ, ◌+◌, [], ◌∷◌, ◌++◌, Bool, true, false, not, length, Option, Some, None, Result, Ok, Err, IfOk, OnErr, refl, sym, ap, subst, ◌∙◌, append_assoc, append-nil}
+use Rattle.std.proofs.Common.{◌≡◌, inl, inr, ℕ, ◌+◌, List, [], ◌∷◌, ◌++◌, Bool, true, false, not, length, Option, Some, None, Result, Ok, Err, IfOk, OnErr, refl, sym, ap, subst, ◌∙◌, arith, append_assoc, append-nil, length-append}
 use Rattle.std.specs.Io.KnownBytes.{Appends, Consumes, IsAtEnd, Keeps, prepend_known}
 use Rattle.std.proofs.KnownBytes.{Appends-trans, Appends-nil, Consumes-nil, Consumes-trans, Keeps-refl}
+use Rattle.balise_lines.specs.Laws.{joined}
 use Rattle.balise_lines.specs.Lines.{Fits, IsLine, Line, lines_of, whole}
 use Rattle.balise_lines.specs.Reading.{LongNext, Took, is_over, left, line_of, place_of}
 use Rattle.balise_lines.specs.declared.lines.Lines.{Lines}
@@ -12,31 +13,47 @@ use Rattle.balise_lines.proofs.WrittenTexts.{some_after, some_front, some_nothin
 use Rattle.balise_arguments.specs.declared.options.Flags.{Flags}
 use Rattle.balise_text.specs.Texts.{Text}
 use Rattle.balise_cli.specs.Output.{Ended, Ending, Header, IsOutput, IsStep, Next, On, Over, Phase, TooLong, at_end}
-use Rattle.balise_cli.specs.Ends.{IsOutputOf, WritesOutput, WritesSome}
+use Rattle.balise_cli.specs.Ends.{IsOutputOf, Steps, WritesOutput, WritesSome}
 use Rattle.balise_cli.specs.Machine.{DidEnd, DidSome, DidStep, last_text}
 use Rattle.balise_cli.specs.declared.fault.RunFault.{RunFault}
 use Rattle.balise_cli.specs.declared.status.Status.{Status}
+use Rattle.balise_cli.proofs.LinesDone.{joined-append, steps_lead, steps_on}
 use Rattle.balise_cli.proofs.Outputs.{ends_over, some_output}
 
--- what comes from here on, behind what was read and written, is a run of the whole; after a last line without an end nothing comes
-abbrev pub Leads : Flags → Text → Text → Bool → Phase → ℕ → ℕ → Type 0
-Leads flags read written over p n place = (rest more : Text) (e : Ending) → (over ≡ true → rest ≡ []) → IsOutput flags true p n place (lines_of rest) more e → IsOutputOf flags (read ++ rest) (written ++ more) e
-
+-- These lines were read, and done one after another; whatever comes behind them are further lines, and after a last line without an end nothing comes.
 pub record GoesOn (flags : Flags) (had left old now : Option Text) (over : Bool) (p : Phase) (n place : ℕ) : Type 0 where
   pub read : Text
   pub written : Text
+  pub lines : List Line
   pub consumed : Consumes had left read
+  pub cut : (rest : Text) → (over ≡ true → rest ≡ []) → lines_of (read ++ rest) ≡ lines ++ lines_of rest
   pub appended : Appends old now written
-  pub leads : Leads flags read written over p n place
+  pub steps : Steps flags Header 1 0 lines written p
+  pub numbered : n ≡ length lines + 1
+  pub placed : place ≡ length (joined lines)
+
+-- what comes from here on, behind what was read and written, is a run of the whole
+leads : (flags : Flags) (had left old now : Option Text) (over : Bool) (p : Phase) (n place : ℕ) (go : GoesOn flags had left old now over p n place) (rest more : Text) (e : Ending) → (over ≡ true → rest ≡ [])
+    → IsOutput flags true p n place (lines_of rest) more e → IsOutputOf flags (go.read ++ rest) (go.written ++ more) e
+leads flags had left old now over p n place go rest more e none o =
+    let number : n ≡ 1 + length go.lines = let k = go.numbered in omega (arith, k) in
+    let at : place ≡ 0 + length (joined go.lines) = let k = go.placed in omega (arith, k) in
+    let here : IsOutput flags true p (1 + length go.lines) (0 + length (joined go.lines)) (lines_of rest) more e =
+    subst (λ (k : ℕ). IsOutput flags true p k (0 + length (joined go.lines)) (lines_of rest) more e) number (subst (λ (k : ℕ). IsOutput flags true p n k (lines_of rest) more e) at o) in
+    subst (λ (ls : List Line). IsOutput flags true Header 1 0 ls (go.written ++ more) e) (sym (go.cut rest none)) (steps_lead flags Header p 1 0 go.lines (lines_of rest) go.written more e go.steps here)
 
 -- at first
 pub begins : (flags : Flags) (had left old : Option Text) (over : Bool) (p : Phase) (n place : ℕ) → left ≡ had → p ≡ Header → n ≡ 1 → place ≡ 0 → GoesOn flags had left old old over p n place
 begins flags had left old over p n place e f g h = record {
   read = [];
   written = [];
+  lines = [];
   consumed = subst (λ t. Consumes had t []) (sym e) (Consumes-nil had);
+  cut = λ rest none. refl;
   appended = Appends-nil old;
-  leads = λ rest more e _ o. subst (λ t. IsOutput flags true t 1 0 (lines_of rest) more e) f (subst (λ (t : ℕ). IsOutput flags true p t 0 (lines_of rest) more e) g (subst (λ (t : ℕ). IsOutput flags true p n t (lines_of rest) more e) h o));
+  steps = (refl, f);
+  numbered = g;
+  placed = h;
 }
 
 -- A line that was taken.
@@ -66,6 +83,25 @@ on_err (Err e) P Q f p = f p
 lines_left : (left next : Option Text) (over : Bool) (place : ℕ) (line : Line) (rest : Text) → TookIt left next over place line → (over ≡ true → rest ≡ []) → lines_of (whole line ++ rest) ≡ line ∷ lines_of rest
 lines_left left next over place line rest took none = lines_of-line line rest took.is_line (λ f. none (took.over ∙ ap not f))
 
+-- in what was read, and the line behind it
+pub line_cut : (flags : Flags) (had left next old now : Option Text) (before over : Bool) (p : Phase) (n place : ℕ) (line : Line) → before ≡ false → TookIt left next over place line
+    → (go : GoesOn flags had left old now before p n place) (rest : Text) → (over ≡ true → rest ≡ []) → lines_of (go.read ++ (whole line ++ rest)) ≡ go.lines ++ line ∷ lines_of rest
+line_cut flags had left next old now before over p n place line first took go rest none =
+    go.cut (whole line ++ rest) (λ b. absurd cc) ∙ ap (λ (ls : List Line). go.lines ++ ls) (lines_left left next over place line rest took none)
+
+-- the same line, by the lines before it
+fits_here : (flags : Flags) (had left next old now : Option Text) (before over : Bool) (p : Phase) (n place : ℕ) (line : Line) → TookIt left next over place line → (go : GoesOn flags had left old now before p n place)
+    → Fits (0 + length (joined go.lines)) line
+fits_here flags had left next old now before over p n place line took go =
+    let at : place ≡ 0 + length (joined go.lines) = let k = go.placed in omega (arith, k) in
+    subst (λ (k : ℕ). Fits k line) at took.fits
+
+step_here : (flags : Flags) (had left old now : Option Text) (before : Bool) (p : Phase) (n place : ℕ) (go : GoesOn flags had left old now before p n place) (line out : Text) (next : Next) → IsStep flags true p n line out next
+    → IsStep flags true p (1 + length go.lines) line out next
+step_here flags had left old now before p n place go line out next is =
+    let number : n ≡ 1 + length go.lines = let k = go.numbered in omega (arith, k) in
+    subst (λ (k : ℕ). IsStep flags true p k line out next) number is
+
 -- How a run goes on and ends.
 
 -- a line was done, and the run goes on
@@ -74,14 +110,18 @@ pub stepped : (flags : Flags) (had left next old now new : Option Text) (before 
 stepped flags had left next old now new before over p q n k place to line first took did e f go = record {
   read = go.read ++ whole line;
   written = go.written ++ did.0;
+  lines = go.lines ++ line ∷ [];
   consumed = Consumes-trans had left next _ _ go.consumed took.consumed;
+  cut = λ rest none.
+      ap lines_of (append_assoc go.read (whole line) rest) ∙ line_cut flags had left next old now before over p n place line first took go rest none
+      ∙ sym (append_assoc go.lines (line ∷ []) (lines_of rest));
   appended = Appends-trans old now new _ _ go.appended did.1.1;
-  leads = λ rest more end none o.
-      let o' : IsOutput flags true (q) (n + 1) (place + length (whole line)) (lines_of rest) more end = subst (λ (t : ℕ). IsOutput flags true (q) t (place + length (whole line)) (lines_of rest) more end) e (subst (λ (t : ℕ). IsOutput flags true (q) k t (lines_of rest) more end) f o) in
-      let here : IsOutput flags true p n place (lines_of (whole line ++ rest)) (did.0 ++ more) end = rw (lines_left left next over place line rest took none) (inr (took.fits, (did.0, (On q, (more, (did.1.0, refl, o')))))) in
-      let all : IsOutputOf flags (go.read ++ (whole line ++ rest)) (go.written ++ (did.0 ++ more)) end = go.leads (whole line ++ rest) (did.0 ++ more) end (λ b. absurd cc) here in
-      subst (λ (w : Text). IsOutputOf flags ((go.read ++ whole line) ++ rest) w end) (sym (append_assoc go.written did.0 more))
-      (subst (λ (r : Text). IsOutputOf flags r (go.written ++ (did.0 ++ more)) end) (sym (append_assoc go.read (whole line) rest)) all);
+  steps = steps_on flags Header p q 1 0 go.lines line go.written did.0 go.steps (fits_here flags had left next old now before over p n place line took go) (step_here flags had left old now before p n place go line.bytes did.0 (On q) did.1.0);
+  numbered = let m = go.numbered in omega (arith, e, m, length-append go.lines (line ∷ []));
+  placed = let m = go.placed in
+      let more : length (joined (go.lines ++ line ∷ [])) ≡ length (joined go.lines) + length (whole line) =
+      ap length (joined-append go.lines (line ∷ [])) ∙ length-append (joined go.lines) (joined (line ∷ [])) ∙ ap (λ (t : Text). length (joined go.lines) + length t) (append-nil (whole line)) in
+      omega (arith, f, m, more);
 }
 
 -- the input ended
@@ -92,7 +132,7 @@ ended flags had left old now new over p n place status end did go =
       input = go.read ++ [];
       is_input = input_read had left go.read [] go.consumed (input_at_end left end);
       out = go.written ++ did.0;
-      is_output = go.leads [] did.0 (Ended status) (λ _. refl) here;
+      is_output = leads flags had left old now over p n place go [] did.0 (Ended status) (λ _. refl) here;
       appended = Appends-trans old now new _ _ go.appended did.1.1;
     }
 
@@ -103,7 +143,7 @@ too_long flags had left old now over p n place next first go =
       input = go.read ++ next.input;
       is_input = input_read had left go.read next.input go.consumed next.is_input;
       out = go.written ++ [];
-      is_output = go.leads next.input [] TooLong (λ b. absurd cc) here;
+      is_output = leads flags had left old now over p n place go next.input [] TooLong (λ b. absurd cc) here;
       appended = Appends-trans old now now _ _ go.appended (Appends-nil now);
     }
 
@@ -116,7 +156,7 @@ over_at flags had left next old now new before over p q n place line status firs
       input = go.read ++ (whole line ++ rest);
       is_input = input_read had left go.read (whole line ++ rest) go.consumed (input_read left next (whole line) rest took.consumed is);
       out = go.written ++ (did.0 ++ did.1.0);
-      is_output = go.leads (whole line ++ rest) _ _ (λ b. absurd cc) here;
+      is_output = leads flags had left old now before p n place go (whole line ++ rest) _ _ (λ b. absurd cc) here;
       appended = Appends-trans old now new _ _ go.appended did.1.1.1;
     }
 
@@ -130,7 +170,7 @@ fault_at flags had left has old now new over p n place rest more e none o took w
   consumed = Consumes-trans had left has _ _ go.consumed took;
   out = go.written ++ more;
   e = e;
-  is_output = go.leads rest more e none o;
+  is_output = leads flags had left old now over p n place go rest more e none o;
   written = some_after old now new go.written more go.appended wrote;
 }
 

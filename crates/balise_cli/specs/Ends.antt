@@ -1,12 +1,14 @@
 -- How a run ends: what was read of the input, and what was written.
-use Rattle.std.specs.Prelude.{true, Option}
-use Rattle.std.specs.Io.KnownBytes.{Appends, Consumes}
-use Rattle.balise_lines.specs.Lines.{lines_of}
+use Rattle.std.specs.Prelude.{◌≡◌, ◌+◌, ◌≤◌, ℕ, true, false, List, [], ◌∷◌, ◌++◌, length, All, Option}
+use Rattle.std.specs.Io.KnownBytes.{Appends, Consumes, IsAtEnd}
+use Rattle.balise_lines.specs.Laws.{joined}
+use Rattle.balise_lines.specs.Lines.{Fits, Line, lines_of, whole}
 use Rattle.balise_lines.specs.Reading.{IsInput}
 use Rattle.balise_lines.specs.Writing.{AppendsSome}
 use Rattle.balise_arguments.specs.declared.options.Flags.{Flags}
 use Rattle.balise_text.specs.Texts.{Text}
-use Rattle.balise_cli.specs.Output.{Ending, Header, IsOutput}
+use Rattle.balise_cli.specs.Output.{Ending, Header, IsOutput, IsStep, On, Over, Phase, at_end}
+use Rattle.balise_cli.specs.declared.status.Status.{Status}
 
 -- this input may have this output, and the run end so
 abbrev pub IsOutputOf : Flags → Text → Text → Ending → Type 0
@@ -28,3 +30,33 @@ pub record WritesSome (flags : Flags) (had has old new : Option Text) : Type 0 w
   pub e : Ending
   pub is_output : IsOutputOf flags read out e
   pub written : AppendsSome old new out
+
+-- From this phase, where line n comes next and begins at this place of the input, these lines are done one after another: they print this, and the run goes on in the phase q.
+abbrev pub Steps : Flags → Phase → ℕ → ℕ → List Line → Text → Phase → Type 0
+Steps flags p n place [] out q = (out ≡ []) × (q ≡ p)
+Steps flags p n place (line ∷ lines) out q =
+    Fits place line × ((now : Text) × ((next : Phase) × ((more : Text) × (IsStep flags true p n line.bytes now (On next) × (out ≡ now ++ more) × Steps flags next (n + 1) (place + length (whole line)) lines more q))))
+
+-- Of what was read the first lines were done, and what they print was written, and then a last text. P says how the run ended there: by its phase, the number of the next line, the lines behind them, and that text.
+pub record DidLines (flags : Flags) (had has old new : Option Text) (P : Phase → ℕ → List Line → Text → Type 0) : Type 0 where
+  pub read : Text
+  pub consumed : Consumes had has read
+  pub done : List Line
+  pub behind : List Line
+  pub cut : lines_of read ≡ done ++ behind
+  pub out : Text
+  pub phase : Phase
+  pub steps : Steps flags Header 1 0 done out phase
+  pub last : Text
+  pub ends : P phase (length done + 1) behind last
+  pub appended : Appends old new (out ++ last)
+
+-- the input ended, or the next line ended the run, and of what is behind it at most 4,097 bytes were read
+abbrev pub ComesToEnd : Flags → Option Text → Status → Phase → ℕ → List Line → Text → Type 0
+ComesToEnd flags has status p n [] last = IsAtEnd has × (at_end flags p n ≡ Over last status)
+ComesToEnd flags has status p n (line ∷ behind) last =
+    (length (joined behind) ≤ 4097) × ((now : Text) × ((text : Text) × (IsStep flags true p n line.bytes now (Over text status) × (last ≡ now ++ text))))
+
+-- no complete line is behind them, and nothing else was written
+abbrev pub NoneComplete : Phase → ℕ → List Line → Text → Type 0
+NoneComplete p n behind last = All (λ (line : Line). line.is_ended ≡ false) behind × (last ≡ [])

@@ -1,7 +1,7 @@
 //! The run: reads lines, and does each as it comes.
 
 ghost use Rattle.std.specs.Prelude.{◌≡◌, IfErr, IfOk, IsErrOf, OnErr, OnOk};
-ghost use Rattle.balise_cli.specs.Ends.{WritesOutput, WritesSome};
+ghost use Rattle.balise_cli.specs.Ends.{ComesToEnd, DidLines, NoneComplete, WritesOutput, WritesSome};
 ghost use Rattle.balise_cli.specs.Faults.{IsFault};
 ghost use Rattle.balise_cli.specs.Output.{Ended, TooLong};
 
@@ -16,7 +16,8 @@ use std::io::{Read, Write};
 /// Reads a plan, perhaps its journal, and commands; answers each command before the next line is looked at; and writes
 /// the plan, and the journal and the view where they are asked for.
 ///
-/// A fault leaves a beginning of the output for what was read.
+/// A fault leaves a beginning of the output for what was read; where the reader failed, it is all that the complete
+/// lines give.
 pub fn run<R: Read, W: Write>(
     alloc: Global,
     reader: &mut Counted<R>,
@@ -24,10 +25,12 @@ pub fn run<R: Read, W: Write>(
     flags: Flags,
 ) -> Result<Status, RunFault>
     ensures ok { IfOk result (λ status. WritesOutput flags (R.remaining reader.old.inner) (W.contents writer.old.inner) (W.contents writer.new.inner) (Ended status)) }
+    ensures read { IfOk result (λ status. DidLines flags (R.remaining reader.old.inner) (R.remaining reader.new.inner) (W.contents writer.old.inner) (W.contents writer.new.inner) (ComesToEnd flags (R.remaining reader.new.inner) status)) }
     ensures unread { OnOk result (reader.new.failed ≡ reader.old.failed) }
     ensures unwritten { OnOk result (writer.new.failed ≡ writer.old.failed) }
     ensures long { IsErrOf result RunFault.InputTooLong → WritesOutput flags (R.remaining reader.old.inner) (W.contents writer.old.inner) (W.contents writer.new.inner) TooLong }
     ensures fault { IfErr result (IsFault reader.old.failed reader.new.failed writer.old.failed writer.new.failed) }
+    ensures complete { IsErrOf result RunFault.ReadFault → DidLines flags (R.remaining reader.old.inner) (R.remaining reader.new.inner) (W.contents writer.old.inner) (W.contents writer.new.inner) NoneComplete }
     ensures some { OnErr result (WritesSome flags (R.remaining reader.old.inner) (R.remaining reader.new.inner) (W.contents writer.old.inner) (W.contents writer.new.inner)) }
 {
     let mut lines = Lines::new();

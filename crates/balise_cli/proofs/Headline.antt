@@ -1,110 +1,143 @@
 -- What a whole run prints: from the plan's first line on, each session is one of which all is promised.
-use Rattle.std.proofs.Common.{◌≡◌, ◌⊎◌, ◌∙◌, inl, inr, ℕ, ◌+◌, ◌≤◌, Bool, true, false, cond, ◌&&◌, ◌||◌, IsTrue, List, [], ◌∷◌, ◌++◌, length, Option, Some, None, Result, Ok, Err, refl, sym, ap, subst, append_assoc}
-use Rattle.std.proofs.lemmas.List.{append-nil}
+use Rattle.std.proofs.Common.{◌≡◌, ◌⊎◌, ◌∙◌, inl, inr, ℕ, ◌+◌, ◌≤◌, ◌<◌, Bool, true, false, cond, ◌&&◌, ◌||◌, IsTrue, List, [], ◌∷◌, ◌++◌, length, is_some, Option, Some, None, Result, Ok, Err, refl, sym, ap, subst, append_assoc, arith, length-append}
 use Rattle.balise_rules.specs.declared.refusal.Refusal.{Refusal}
-use Rattle.balise_rules.specs.declared.refusal.Refusal.TheVariants.{BadLine, OutOfMemory}
+use Rattle.balise_rules.specs.declared.refusal.Refusal.TheVariants.{BadLine, GroupTwice, OutOfMemory}
+use Rattle.balise_rules.specs.declared.tag.Tag.TheVariants.{Base}
 use Rattle.balise_rules.specs.Opening.{opened_at, with_entry, with_undone}
-use Rattle.balise_rules.specs.Plan.{Group, Plan, pushed, pushed_all, read_plan}
-use Rattle.balise_rules.specs.Refusals.{and_then}
-use Rattle.balise_rules.specs.Session.{Call, Reply, Refused, State, answer, opened}
-use Rattle.balise_rules.proofs.Cases.{unok, unsome}
+use Rattle.balise_rules.specs.Plan.{Group, Plan, group_named, identity_of, with_group}
+use Rattle.balise_rules.specs.Session.{Call, Reply, Refused, State}
+use Rattle.balise_rules.proofs.Cases.{unok}
 use Rattle.balise_edit_laws.proofs.PlansRead.{plan_read}
 use Rattle.balise_strike_laws.specs.Headline.{Promised}
 use Rattle.balise_strike_laws.specs.Sessions.{IsSession}
 use Rattle.balise_strike_laws.proofs.Promises.{sessions_promised}
 use Rattle.balise_strike_laws.proofs.SessionsKept.{openings_begin, openings_kept, sessions_begin, sessions_kept}
-use Rattle.balise_lines.specs.Lines.{Fits, Line, lines_of, whole}
-use Rattle.balise_plan.specs.GroupReading.{WereRead, group_of, with_read, with_telegram}
+use Rattle.balise_lines.specs.Lines.{Fits, Line, end_of, lines_of, whole}
+use Rattle.balise_plan.specs.GroupReading.{WereRead, group_of, with_read}
 use Rattle.balise_plan.proofs.Reading.{group_pushed, none_read}
 use Rattle.balise_arguments.specs.declared.options.Flags.{Flags}
 use Rattle.balise_text.specs.Commands.{call_of, reads_digits}
 use Rattle.balise_text.specs.Heads.{read_head}
 use Rattle.balise_text.specs.JournalLines.{JournalLine, EntryLine, UndoneLine, EditsLine as EndLine, journal_line_of}
 use Rattle.balise_text.specs.PlanLines.{plan_line_of}
-use Rattle.balise_text.specs.Replies.{bad_line, is_refused}
+use Rattle.balise_text.specs.Replies.{is_refused}
 use Rattle.balise_text.specs.Texts.{Text}
+use Rattle.balise_text.specs.Words.{most_number}
 use Rattle.balise_text.specs.declared.head.Head.{Head}
 use Rattle.balise_text.specs.declared.part.Part.{Part}
 use Rattle.balise_text.specs.declared.plan_line.PlanLine.{PlanLine}
 use Rattle.balise_text.specs.declared.plan_line.PlanLine.TheVariants.{FirstLine, GroupLine, EditsLine, JournalLine as HeadLine, Empty, TelegramLine}
-use Rattle.balise_cli.specs.Laws.{Answered, GoesOn, IsAt, Opens, PrintsAll, PrintsBad, PrintsHeld, PrintsStandingEdits}
-use Rattle.balise_cli.specs.Output.{Phase, Header, Between, InGroup, InJournal, Commands, Read, Good, Bad, Next, On, Over, Ended, Follows, IsOutput, IsStep, MayAnswer, after_command, after_read, answer_line, at_end, between, closed, closed_as, first_line, if_fits, in_group, in_journal, journal_begun, one_more, read_line, reply_text, reviewed, telegram, wants_memory}
+use Rattle.balise_cli.specs.Laws.{GoesOn, Opens, PrintsAll, PrintsBad, PrintsHeld, PrintsStandingEdits}
+use Rattle.balise_cli.specs.Output.{Phase, Header, Between, InGroup, InJournal, Commands, Read, Good, Bad, Next, On, Over, Ended, Follows, IsOutput, IsStep, MayAnswer, after_command, after_read, answer_line, at_end, between, closed, closed_as, first_line, if_fits, in_group, in_journal, journal_begun, one_more, read_line, reply_text, reviewed, wants_memory}
 use Rattle.balise_cli.specs.PlanRead.{WasRead, with_line}
 use Rattle.balise_cli.specs.PlanTexts.{end_text}
 use Rattle.balise_cli.specs.declared.status.Status.{Status}
 use Rattle.balise_cli.specs.declared.status.Status.TheVariants.{BadInput, SomeRefused}
 use Rattle.balise_cli.proofs.BasePlans.{added_read, read_last}
+use Rattle.balise_cli.proofs.JournalTexts.{IsOpened, journal_read_back, opened_base, opened_over}
 use Rattle.balise_cli.proofs.OneLine.{IsReading}
 
 -- Each phase keeps what was read, or a session.
 
-abbrev IsKept : Phase → Type 0
-IsKept Header = Unit {0}
-IsKept (Between plan) = WasRead plan
-IsKept (InGroup plan g ys) = WasRead plan × WereRead ys
-IsKept (InJournal part s) = IsSession s
-IsKept (Commands s refused) = IsSession s
+-- of an input up to this place; a plan has fewer groups than the input has bytes
+abbrev IsKept : ℕ → Phase → Type 0
+IsKept at Header = Unit {0}
+IsKept at (Between plan) = WasRead plan × (length plan ≤ at)
+IsKept at (InGroup plan g ys) = WasRead plan × (length plan < at) × WereRead ys
+IsKept at (InJournal part s) = IsOpened s
+IsKept at (Commands s refused) = IsOpened s
 
-abbrev ReadKept : Read → Type 0
-ReadKept (Good p) = IsKept p
-ReadKept (Bad n r) = Unit {0}
+abbrev ReadKept : ℕ → Read → Type 0
+ReadKept at (Good p) = IsKept at p
+ReadKept at (Bad n r) = Unit {0}
 
-fits_kept : (n : ℕ) (part : Part) (o : Option State) → ((s : State) → o ≡ Some s → IsSession s) → ReadKept (if_fits n part o)
-fits_kept n part None h = tt
-fits_kept n part (Some s) h = h s refl
+fits_kept : (at n : ℕ) (part : Part) (o : Option State) → ((s : State) → o ≡ Some s → IsOpened s) → ReadKept at (if_fits n part o)
+fits_kept at n part None h = tt
+fits_kept at n part (Some s) h = h s refl
 
-begun_kept : (plan : Plan) (n : ℕ) (h : Result Head Refusal) → WasRead plan → ReadKept (journal_begun plan n h)
-begun_kept plan n (Err r) w = tt
-begun_kept plan n (Ok h) w = let p = plan_read w.0 plan w.1 in fits_kept n _ (opened_at plan h.next) (λ s e. openings_begin plan h.next s p.0 p.1 e)
+begun_kept : (at : ℕ) (plan : Plan) (n : ℕ) (h : Result Head Refusal) → WasRead plan → length plan ≤ most_number → ReadKept at (journal_begun plan n h)
+begun_kept at plan n (Err r) w few = tt
+begun_kept at plan n (Ok h) w few =
+    let p = plan_read w.0 plan w.1 in
+    fits_kept at n _ (opened_at plan h.next) (λ s e. opened_over plan s w few (openings_begin plan h.next s p.0 p.1 e) (opened_base plan h.next s e))
 
-journal_kept : (part : Part) (s : State) (n : ℕ) (l : Result JournalLine Refusal) → IsSession s → ReadKept (in_journal part s n l)
-journal_kept part s n (Err r) h = tt
-journal_kept part s n (Ok (EntryLine l)) h = fits_kept n part (with_entry s l) (λ t e. (openings_kept.0 l s t h e).0)
-journal_kept part s n (Ok (UndoneLine k)) h = fits_kept n _ (with_undone s k) (λ t e. (openings_kept.1 k s t h e).0)
-journal_kept part s n (Ok EndLine) h = h
+journal_kept : (at : ℕ) (part : Part) (s : State) (n : ℕ) (l : Result JournalLine Refusal) → IsOpened s → ReadKept at (in_journal part s n l)
+journal_kept at part s n (Err r) h = tt
+journal_kept at part s n (Ok (EntryLine l)) h = fits_kept at n part (with_entry s l) (λ t e. let k = openings_kept.0 l s t h.session e in opened_over s.base t h.read h.few k.0 k.1)
+journal_kept at part s n (Ok (UndoneLine u)) h = fits_kept at n _ (with_undone s u) (λ t e. let k = openings_kept.1 u s t h.session e in opened_over s.base t h.read h.few k.0 k.1)
+journal_kept at part s n (Ok EndLine) h = h
 
-between_kept : (plan : Plan) (n : ℕ) (k : PlanLine) (line : Text) → WasRead plan → ReadKept (between plan n k line)
-between_kept plan n FirstLine line w = tt
-between_kept plan n GroupLine line w = (w, none_read)
-between_kept plan n EditsLine line w = let p = plan_read w.0 plan w.1 in sessions_begin plan p.0 p.1
-between_kept plan n HeadLine line w = begun_kept plan n (read_head line) w
-between_kept plan n Empty line w = tt
-between_kept plan n TelegramLine line w = tt
+-- a line that isn't empty takes a byte
+between_kept : (was at : ℕ) (plan : Plan) (n : ℕ) (k : PlanLine) (line : Text) → WasRead plan → length plan ≤ was → was ≤ at → at ≤ 67108864 → (k ≡ GroupLine → was < at) → ReadKept at (between plan n k line)
+between_kept was at plan n FirstLine line w few more most longer = tt
+between_kept was at plan n GroupLine line w few more most longer = let l = longer refl in (w, omega (arith, few, l), none_read)
+between_kept was at plan n EditsLine line w few more most longer = let p = plan_read w.0 plan w.1 in record { session = sessions_begin plan p.0 p.1; read = w; few = omega (arith, few, more, most) }
+between_kept was at plan n HeadLine line w few more most longer = begun_kept at plan n (read_head line) w (omega (arith, few, more, most))
+between_kept was at plan n Empty line w few more most longer = tt
+between_kept was at plan n TelegramLine line w few more most longer = tt
 
-closed_kept : (g : ℕ) (r : Result Plan Refusal) (next : Plan → Read) → ((p : Plan) → r ≡ Ok p → ReadKept (next p)) → ReadKept (closed_as g r next)
-closed_kept g (Err f) next h = tt
-closed_kept g (Ok p) next h = h p refl
+closed_kept : (at g : ℕ) (r : Result Plan Refusal) (next : Plan → Read) → ((p : Plan) → r ≡ Ok p → ReadKept at (next p)) → ReadKept at (closed_as g r next)
+closed_kept at g (Err f) next h = tt
+closed_kept at g (Ok p) next h = h p refl
 
 -- one group more
 grown : (plan more : Plan) (ys : Group) → WasRead plan → WereRead ys → with_read plan ys ≡ Ok more → WasRead more
 grown plan more ys w v e = let p = group_pushed plan more ys v e in (w.0 ++ p.0 ∷ [], read_last w.0 p.0 plan more w.1 p.1)
 
-telegram_kept : (plan : Plan) (g n : ℕ) (r : Result Group Refusal) → WasRead plan → ((ys : Group) → r ≡ Ok ys → WereRead ys) → ReadKept (one_more plan g n r)
-telegram_kept plan g n (Err f) w h = tt
-telegram_kept plan g n (Ok ys) w h = (w, h ys refl)
+grown_by : (plan more : Plan) (r : Result Group Refusal) → with_group plan r ≡ Ok more → length more ≡ length plan + 1
+grown_by plan more (Err f) e = absurd cc
+grown_by plan more (Ok ys) e = by (is_some (group_named (identity_of ys) plan)) e
+  where
+    by : (b : Bool) → cond b (Err GroupTwice) (Ok (plan ++ (Base (length plan), ys) ∷ [])) ≡ Ok more → length more ≡ length plan + 1
+    by true e = absurd cc
+    by false e = ap length (sym (unok e)) ∙ length-append plan ((Base (length plan), ys) ∷ [])
 
-group_kept : (plan : Plan) (g : ℕ) (ys : Group) (n : ℕ) (k : PlanLine) (line : Text) → WasRead plan → WereRead ys → ReadKept (in_group plan g ys n k line)
-group_kept plan g ys n FirstLine line w v = telegram_kept plan g n (with_line ys line) w (λ zs e. added_read ys zs line v e)
-group_kept plan g ys n TelegramLine line w v = telegram_kept plan g n (with_line ys line) w (λ zs e. added_read ys zs line v e)
-group_kept plan g ys n GroupLine line w v = closed_kept g (with_read plan ys) _ (λ p e. between_kept p n GroupLine line (grown plan p ys w v e))
-group_kept plan g ys n EditsLine line w v = closed_kept g (with_read plan ys) _ (λ p e. between_kept p n EditsLine line (grown plan p ys w v e))
-group_kept plan g ys n HeadLine line w v = closed_kept g (with_read plan ys) _ (λ p e. between_kept p n HeadLine line (grown plan p ys w v e))
-group_kept plan g ys n Empty line w v = closed_kept g (with_read plan ys) _ (λ p e. between_kept p n Empty line (grown plan p ys w v e))
+-- a group that ends, and what follows it
+group_closed : (was at : ℕ) (plan : Plan) (g : ℕ) (ys : Group) (n : ℕ) (k : PlanLine) (line : Text) → WasRead plan → length plan < was → WereRead ys → was ≤ at → at ≤ 67108864 → (k ≡ GroupLine → was < at)
+    → ReadKept at (closed plan g ys (λ p. between p n k line))
+group_closed was at plan g ys n k line w few v more most longer =
+    closed_kept at g (with_read plan ys) (λ p. between p n k line)
+    (λ p e. let size = grown_by plan p (group_of ys) e in between_kept was at p n k line (grown plan p ys w v e) (omega (arith, size, few)) more most longer)
 
-first_kept : (n : ℕ) (k : PlanLine) → ReadKept (first_line n k)
-first_kept n FirstLine = ([], refl)
-first_kept n GroupLine = tt
-first_kept n EditsLine = tt
-first_kept n HeadLine = tt
-first_kept n Empty = tt
-first_kept n TelegramLine = tt
+telegram_kept : (at : ℕ) (plan : Plan) (g n : ℕ) (r : Result Group Refusal) → WasRead plan → length plan < at → ((ys : Group) → r ≡ Ok ys → WereRead ys) → ReadKept at (one_more plan g n r)
+telegram_kept at plan g n (Err f) w few h = tt
+telegram_kept at plan g n (Ok ys) w few h = (w, few, h ys refl)
 
-line_kept : (p : Phase) (n : ℕ) (line : Text) → IsKept p → ReadKept (read_line p n line)
-line_kept Header n line h = first_kept n (plan_line_of line)
-line_kept (Between plan) n line h = between_kept plan n (plan_line_of line) line h
-line_kept (InGroup plan g ys) n line h = group_kept plan g ys n (plan_line_of line) line h.0 h.1
-line_kept (InJournal part s) n line h = journal_kept part s n (journal_line_of part line) h
-line_kept (Commands s refused) n line h = h
+group_kept : (was at : ℕ) (plan : Plan) (g : ℕ) (ys : Group) (n : ℕ) (k : PlanLine) (line : Text) → WasRead plan → length plan < was → WereRead ys → was ≤ at → at ≤ 67108864 → (k ≡ GroupLine → was < at)
+    → ReadKept at (in_group plan g ys n k line)
+group_kept was at plan g ys n FirstLine line w few v more most longer = telegram_kept at plan g n (with_line ys line) w (omega (arith, few, more)) (λ zs e. added_read ys zs line v e)
+group_kept was at plan g ys n TelegramLine line w few v more most longer = telegram_kept at plan g n (with_line ys line) w (omega (arith, few, more)) (λ zs e. added_read ys zs line v e)
+group_kept was at plan g ys n GroupLine line w few v more most longer = group_closed was at plan g ys n GroupLine line w few v more most longer
+group_kept was at plan g ys n EditsLine line w few v more most longer = group_closed was at plan g ys n EditsLine line w few v more most longer
+group_kept was at plan g ys n HeadLine line w few v more most longer = group_closed was at plan g ys n HeadLine line w few v more most longer
+group_kept was at plan g ys n Empty line w few v more most longer = group_closed was at plan g ys n Empty line w few v more most longer
+
+first_kept : (at n : ℕ) (k : PlanLine) → ReadKept at (first_line n k)
+first_kept at n FirstLine = (([], refl), omega arith)
+first_kept at n GroupLine = tt
+first_kept at n EditsLine = tt
+first_kept at n HeadLine = tt
+first_kept at n Empty = tt
+first_kept at n TelegramLine = tt
+
+-- the line of a group isn't empty
+some_bytes : (line : Line) → plan_line_of line.bytes ≡ GroupLine → 1 ≤ length (whole line)
+some_bytes line e = by line.bytes e
+  where
+    by : (bytes : Text) → plan_line_of bytes ≡ GroupLine → 1 ≤ length (bytes ++ end_of line.is_ended)
+    by [] e = absurd cc
+    by (b ∷ bs) e = omega arith
+
+line_kept : (p : Phase) (n place : ℕ) (line : Line) → Fits place line → IsKept place p → ReadKept (place + length (whole line)) (read_line p n line.bytes)
+line_kept Header n place line fits h = first_kept (place + length (whole line)) n (plan_line_of line.bytes)
+line_kept (Between plan) n place line fits h =
+    let most = fits.1 in
+    between_kept place (place + length (whole line)) plan n (plan_line_of line.bytes) line.bytes h.0 h.1 (omega arith) most (λ e. let l = some_bytes line e in omega (arith, l))
+line_kept (InGroup plan g ys) n place line fits h =
+    let most = fits.1 in
+    group_kept place (place + length (whole line)) plan g ys n (plan_line_of line.bytes) line.bytes h.0 h.1 h.2 (omega arith) most (λ e. let l = some_bytes line e in omega (arith, l))
+line_kept (InJournal part s) n place line fits h = journal_kept (place + length (whole line)) part s n (journal_line_of part line.bytes) h
+line_kept (Commands s refused) n place line fits h = h
 
 -- The commands.
 
@@ -132,9 +165,10 @@ more_held flags scarce s u line lines r now out more may base is e h = record {
   answered = (u, (h.printed, (may, ap (λ (t : Text). t ++ h.printed) is, h.answered)));
   whole = e ∙ ap (λ (t : Text). now ++ t) h.whole ∙ sym (append_assoc now h.printed (end_text flags h.held));
   promised = subst (λ b. Promised b h.held) base h.promised;
+  read_back = h.read_back;
 }
 
-none_held : (flags : Flags) (scarce : Bool) (s : State) (lines : List Line) (out : Text) → IsSession s → out ≡ end_text flags s → PrintsHeld flags scarce s lines out
+none_held : (flags : Flags) (scarce : Bool) (s : State) (lines : List Line) (out : Text) → IsOpened s → out ≡ end_text flags s → PrintsHeld flags scarce s lines out
 none_held flags scarce s lines out h e = record {
   done = [];
   left = lines;
@@ -144,12 +178,13 @@ none_held flags scarce s lines out h e = record {
   held = s;
   answered = (refl, refl);
   whole = e;
-  promised = sessions_promised s h;
+  promised = sessions_promised s h.session;
+  read_back = journal_read_back s h;
 }
 
 -- a command whose run is over, or goes on
 command_held : (flags : Flags) (scarce : Bool) (s u : State) (line : Line) (lines : List Line) (r : Reply) (refused : Bool) (now out more : Text) (status : Status) (goes : Phase → Text → Type 0)
-    → ((q : Bool) (rest : Text) → goes (Commands u q) rest → PrintsHeld flags scarce u lines rest) → IsSession u → MayAnswer scarce line.bytes s r u → u.base ≡ s.base
+    → ((q : Bool) (rest : Text) → goes (Commands u q) rest → PrintsHeld flags scarce u lines rest) → IsOpened u → MayAnswer scarce line.bytes s r u → u.base ≡ s.base
     → now ≡ reply_text flags.quiet r (reviewed (call_of line.bytes) r s) → out ≡ now ++ more → Follows goes (after_command flags r u refused) more (Ended status) → PrintsHeld flags scarce s (line ∷ lines) out
 command_held flags scarce s u line lines r refused now out more status goes again session may base is e follows = by (flags.stop && is_refused r) follows
   where
@@ -157,13 +192,14 @@ command_held flags scarce s u line lines r refused now out more status goes agai
     by true f = more_held flags scarce s u line lines r now out more may base is e (none_held flags scarce u lines more session f.0)
     by false f = more_held flags scarce s u line lines r now out more may base is e (again (refused || is_refused r) more f)
 
-commands_held : (flags : Flags) (scarce : Bool) (s : State) (refused : Bool) (n place : ℕ) (lines : List Line) (out : Text) (status : Status) → IsSession s → IsOutput flags scarce (Commands s refused) n place lines out (Ended status) → PrintsHeld flags scarce s lines out
+commands_held : (flags : Flags) (scarce : Bool) (s : State) (refused : Bool) (n place : ℕ) (lines : List Line) (out : Text) (status : Status) → IsOpened s → IsOutput flags scarce (Commands s refused) n place lines out (Ended status) → PrintsHeld flags scarce s lines out
 commands_held flags scarce s refused n place [] out status h o = none_held flags scarce s [] out h o.0
 commands_held flags scarce s refused n place (line ∷ lines) out status h (inl o) = absurd cc
 commands_held flags scarce s refused n place (line ∷ lines) out status h (inr (fits, (now, (next, (more, ((r, (u, (may, is, e))), whole_is, follows)))))) =
-    let kept = answer_kept scarce line.bytes s u r h may in
+    let answered = answer_kept scarce line.bytes s u r h.session may in
+    let kept = opened_over s.base u h.read h.few answered.0 answered.1 in
     command_held flags scarce s u line lines r refused now out more status (λ q rest. IsOutput flags scarce q (n + 1) (place + length (whole line)) lines rest (Ended status))
-    (λ q rest x. commands_held flags scarce u q (n + 1) (place + length (whole line)) lines rest status kept.0 x) kept.0 may kept.1 is whole_is
+    (λ q rest x. commands_held flags scarce u q (n + 1) (place + length (whole line)) lines rest status kept x) kept may answered.1 is whole_is
     (subst (λ (x : Next). Follows (λ q rest. IsOutput flags scarce q (n + 1) (place + length (whole line)) lines rest (Ended status)) x more (Ended status)) e follows)
 
 -- The lines before the commands.
@@ -179,17 +215,17 @@ opens_before flags scarce p q n line lines out more status e o (inr a) =
     inr (a.0, (a.1.0, (inr (subst (λ (x : Read). GoesOn x (λ k. Opens k (n + 1) lines a.0 a.1.0)) (sym e) a.1.1.0), subst (λ (t : Text). PrintsHeld flags scarce a.0 a.1.0 t) (sym o) a.1.1.1)))
 
 -- a line of the plan or the journal, and what follows
-reading_step : (flags : Flags) (scarce : Bool) (p : Phase) (n : ℕ) (line : Line) (lines : List Line) (out more : Text) (status : Status) (goes : Phase → Text → Type 0)
-    → ((q : Phase) (rest : Text) → IsKept q → goes q rest → PrintsBad rest status ⊎ PrintsAll flags scarce q (n + 1) lines rest) → ReadKept (read_line p n line.bytes) → out ≡ [] ++ more
+reading_step : (flags : Flags) (scarce : Bool) (p : Phase) (n : ℕ) (line : Line) (lines : List Line) (out more : Text) (status : Status) (at : ℕ) (goes : Phase → Text → Type 0)
+    → ((q : Phase) (rest : Text) → IsKept at q → goes q rest → PrintsBad rest status ⊎ PrintsAll flags scarce q (n + 1) lines rest) → ReadKept at (read_line p n line.bytes) → out ≡ [] ++ more
     → Follows goes (after_read (read_line p n line.bytes)) more (Ended status) → PrintsBad out status ⊎ PrintsAll flags scarce p n (line ∷ lines) out
-reading_step flags scarce p n line lines out more status goes again kept o follows = by (read_line p n line.bytes) refl kept follows
+reading_step flags scarce p n line lines out more status at goes again kept o follows = by (read_line p n line.bytes) refl kept follows
   where
-    by : (rd : Read) → read_line p n line.bytes ≡ rd → ReadKept rd → Follows goes (after_read rd) more (Ended status) → PrintsBad out status ⊎ PrintsAll flags scarce p n (line ∷ lines) out
+    by : (rd : Read) → read_line p n line.bytes ≡ rd → ReadKept at rd → Follows goes (after_read rd) more (Ended status) → PrintsBad out status ⊎ PrintsAll flags scarce p n (line ∷ lines) out
     by (Bad m r) e k f = inl (m, (r, o ∙ f.0, ended f.1))
     by (Good q) e k f = opens_before flags scarce p q n line lines out more status e o (again q more k f)
 
 -- at the commands
-at_commands : (flags : Flags) (scarce : Bool) (s : State) (refused : Bool) (n place : ℕ) (lines : List Line) (out : Text) (status : Status) → IsSession s → IsOutput flags scarce (Commands s refused) n place lines out (Ended status)
+at_commands : (flags : Flags) (scarce : Bool) (s : State) (refused : Bool) (n place : ℕ) (lines : List Line) (out : Text) (status : Status) → IsOpened s → IsOutput flags scarce (Commands s refused) n place lines out (Ended status)
     → PrintsAll flags scarce (Commands s refused) n lines out
 at_commands flags scarce s refused n place [] out status h o = (s, ([], ((refl, refl), commands_held flags scarce s refused n place [] out status h o)))
 at_commands flags scarce s refused n place (line ∷ lines) out status h o = (s, (line ∷ lines, (inl (refl, refl), commands_held flags scarce s refused n place (line ∷ lines) out status h o)))
@@ -213,16 +249,16 @@ read_as flags scarce (InGroup plan g ys) n line now next i step = step
 read_as flags scarce (InJournal part s) n line now next i step = step
 read_as flags scarce (Commands s refused) n line now next i step = absurd i
 
-prints_read : (flags : Flags) (scarce : Bool) (p : Phase) (n place : ℕ) (line : Line) (lines : List Line) (out : Text) (status : Status) → IsReading p → IsKept p
-    → ((q : Phase) (rest : Text) → IsKept q → IsOutput flags scarce q (n + 1) (place + length (whole line)) lines rest (Ended status) → PrintsBad rest status ⊎ PrintsAll flags scarce q (n + 1) lines rest)
+prints_read : (flags : Flags) (scarce : Bool) (p : Phase) (n place : ℕ) (line : Line) (lines : List Line) (out : Text) (status : Status) → IsReading p → IsKept place p
+    → ((q : Phase) (rest : Text) → IsKept (place + length (whole line)) q → IsOutput flags scarce q (n + 1) (place + length (whole line)) lines rest (Ended status) → PrintsBad rest status ⊎ PrintsAll flags scarce q (n + 1) lines rest)
     → IsOutput flags scarce p n place (line ∷ lines) out (Ended status) → PrintsBad out status ⊎ PrintsAll flags scarce p n (line ∷ lines) out
 prints_read flags scarce p n place line lines out status i kept again (inl o) = absurd cc
 prints_read flags scarce p n place line lines out status i kept again (inr (fits, (now, (next, (more, (step, o, follows)))))) =
     let goes : Phase → Text → Type 0 = λ q rest. IsOutput flags scarce q (n + 1) (place + length (whole line)) lines rest (Ended status) in
     let read = read_as flags scarce p n line.bytes now next i step in
-    reading_step flags scarce p n line lines out more status goes again (line_kept p n line.bytes kept) (o ∙ ap (λ (t : Text). t ++ more) read.0) (subst (λ (x : Next). Follows goes x more (Ended status)) read.1 follows)
+    reading_step flags scarce p n line lines out more status (place + length (whole line)) goes again (line_kept p n place line fits kept) (o ∙ ap (λ (t : Text). t ++ more) read.0) (subst (λ (x : Next). Follows goes x more (Ended status)) read.1 follows)
 
-prints : (flags : Flags) (scarce : Bool) (p : Phase) (n place : ℕ) (lines : List Line) (out : Text) (status : Status) → IsKept p → IsOutput flags scarce p n place lines out (Ended status) → PrintsBad out status ⊎ PrintsAll flags scarce p n lines out
+prints : (flags : Flags) (scarce : Bool) (p : Phase) (n place : ℕ) (lines : List Line) (out : Text) (status : Status) → IsKept place p → IsOutput flags scarce p n place lines out (Ended status) → PrintsBad out status ⊎ PrintsAll flags scarce p n lines out
 prints flags scarce (Commands s refused) n place lines out status h o = inr (at_commands flags scarce s refused n place lines out status h o)
 prints flags scarce Header n place [] out status h o = inl (end_bad flags Header n out status tt o)
 prints flags scarce (Between plan) n place [] out status h o = inl (end_bad flags (Between plan) n out status tt o)

@@ -8,4 +8,7 @@ pub mod OneLine
 pub mod LinesDone
 pub mod LineByLine
 pub mod LinesRead
+pub mod SmallTags
+pub mod Printables
+pub mod JournalTexts
 pub mod Headline

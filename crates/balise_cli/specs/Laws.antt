@@ -1,15 +1,19 @@
 -- Laws of what a run prints.
-use Rattle.std.specs.Prelude.{◌≡◌, ◌⊎◌, ◌+◌, ℕ, Bool, false, List, [], ◌∷◌, ◌++◌}
+use Rattle.std.specs.Prelude.{◌≡◌, ◌⊎◌, ◌+◌, ◌≤◌, ℕ, Bool, false, List, [], ◌∷◌, ◌++◌, codes, Ok}
 use Rattle.balise_rules.specs.declared.refusal.Refusal.{Refusal}
+use Rattle.balise_rules.specs.Opening.{most_serial}
+use Rattle.balise_rules.specs.Plan.{Plan}
 use Rattle.balise_rules.specs.Session.{State, Reply}
 use Rattle.balise_strike_laws.specs.Headline.{Promised}
+use Rattle.balise_strike_laws.specs.Redoing.{counted}
 use Rattle.balise_lines.specs.Lines.{Line, lines_of}
+use Rattle.balise_plan.specs.GroupReading.{with_read}
 use Rattle.balise_arguments.specs.declared.options.Flags.{Flags}
 use Rattle.balise_text.specs.Commands.{call_of}
 use Rattle.balise_text.specs.Replies.{bad_line}
 use Rattle.balise_text.specs.Texts.{Text}
-use Rattle.balise_cli.specs.Output.{Phase, Header, Commands, Read, Good, Bad, Ending, Ended, IsOutput, MayAnswer, read_line, reply_text, reviewed}
-use Rattle.balise_cli.specs.PlanTexts.{end_text}
+use Rattle.balise_cli.specs.Output.{Phase, Header, Between, InGroup, Commands, Read, Good, Bad, Ending, Ended, IsOutput, MayAnswer, read_line, reply_text, reviewed}
+use Rattle.balise_cli.specs.PlanTexts.{end_text, journal_text}
 use Rattle.balise_cli.specs.declared.status.Status.{Status}
 use Rattle.balise_cli.specs.declared.status.Status.TheVariants.{BadInput}
 
@@ -39,7 +43,17 @@ Answered flags scarce s (line ∷ lines) (r ∷ rs) out t =
     (u : State) × ((more : Text) × (MayAnswer scarce line.bytes s r u × (out ≡ reply_text flags.quiet r (reviewed (call_of line.bytes) r s) ++ more) × Answered flags scarce u lines rs more t))
 Answered flags scarce s _ _ out t = ⊥
 
--- Over commands it prints the reply to each, up to the input's end or the refusal that stops the run, and then the plan that the session holds, and what else is asked for; and all that is promised of a session over the plan first read holds of it.
+-- this plan was read, but for the end of its last group
+abbrev pub HasRead : Phase → Plan → Type 0
+HasRead (Between plan) base = plan ≡ base
+HasRead (InGroup plan g ys) base = with_read plan ys ≡ Ok base
+HasRead p base = ⊥
+
+-- What is printed for the journal of a session, put behind the plan that was first read, is read, line by line, as that session: its standing edits, its stack and its next serial, where that is one that a journal may have, of which nothing is counted; and then the commands begin.
+abbrev pub ReadsBack : State → Type 0
+ReadsBack s = s.serial ≤ most_serial → (p : Phase) → (n : ℕ) → HasRead p s.base → (commands : Text) → Opens p n (lines_of (journal_text s ++ (codes "edits\n" ++ commands))) (counted s 0) (lines_of commands)
+
+-- Over commands it prints the reply to each, up to the input's end or the refusal that stops the run, and then the plan that the session holds, and what else is asked for; all that is promised of a session over the plan first read holds of it; and the text of its journal is read back.
 pub record PrintsHeld (flags : Flags) (scarce : Bool) (opened : State) (commands : List Line) (out : Text) : Type 0 where
   pub done : List Line
   pub left : List Line
@@ -50,6 +64,7 @@ pub record PrintsHeld (flags : Flags) (scarce : Bool) (opened : State) (commands
   pub answered : Answered flags scarce opened done replies printed held
   pub whole : out ≡ printed ++ end_text flags held
   pub promised : Promised opened.base held
+  pub read_back : ReadsBack held
 
 abbrev pub PrintsAll : Flags → Bool → Phase → ℕ → List Line → Text → Type 0
 PrintsAll flags scarce p n lines out = (opened : State) × ((commands : List Line) × (Opens p n lines opened commands × PrintsHeld flags scarce opened commands out))

@@ -11,7 +11,7 @@ pub fn one_output()
 /// or a reply to each command, and then the plan that the session holds. Of that session all holds that is promised: its
 /// plan is, bit for bit and padding included, what the standing edits alone, in order, make of the plan first read; each
 /// undo, redo and strike is taken back exactly by its counterpart; a strike is refused as dependent exactly where a
-/// later edit isn't independent; and a refused command changes nothing.
+/// later edit isn't independent; a refused command changes nothing; and the text of its journal is read back.
 pub fn prints_standing_edits()
     ensures { PrintsStandingEdits }
 {}

@@ -31,8 +31,8 @@ use Rattle.balise_text.specs.declared.plan_line.PlanLine.{PlanLine}
 use Rattle.balise_text.specs.declared.plan_line.PlanLine.TheVariants.{JournalLine as HeadLine}
 use Rattle.balise_text.proofs.LinesBack.{head_reads_as_printed, prints_lines, reads_as_printed, undone_reads_as_printed}
 use Rattle.balise_text.specs.Words.{most_number}
-use Rattle.balise_cli.specs.Laws.{GoesOn, HasRead, Opens, ReadsBack}
-use Rattle.balise_cli.specs.Output.{Phase, Header, Between as BetweenGroups, InGroup, InJournal, Commands, Read, Good, between, closed_as, if_fits, in_group, in_journal, journal_begun, read_line}
+use Rattle.balise_cli.specs.Laws.{GoesOn, HasRead, Opens, ReadsBack, ReadsPlan}
+use Rattle.balise_cli.specs.Output.{Phase, Header, Between as BetweenGroups, InGroup, InJournal, Commands, Read, Good, Bad, between, closed_as, if_fits, in_group, in_journal, journal_begun, read_line}
 use Rattle.balise_cli.specs.PlanRead.{WasRead}
 use Rattle.balise_cli.specs.PlanTexts.{entry_line, journal_text, undone_line, with_end}
 use Rattle.balise_cli.proofs.Printables.{entries_printable}
@@ -168,8 +168,8 @@ opened_base plan next s e = by (nat_le 1 next && nat_le next most_serial) e
     by true e = ap (λ (t : State). t.base) (sym (unsome e))
     by false e = absurd cc
 
-pub journal_read_back : (s : State) → IsOpened s → ReadsBack s
-journal_read_back s o most p n has commands = by (opened_at s.base s.serial) refl ((sessions_promised s o.session).read_back most)
+behind_plan_read : (s : State) → IsOpened s → s.serial ≤ most_serial → (p : Phase) (n : ℕ) → HasRead p s.base → (commands : Text) → Opens p n (lines_of (journal_text s ++ (codes "edits\n" ++ commands))) (counted s 0) (lines_of commands)
+behind_plan_read s o most p n has commands = by (opened_at s.base s.serial) refl ((sessions_promised s o.session).read_back most)
   where
     small : (u : ℕ) → u < s.serial → IsNumber u
     small u h = omega (arith, h, most)
@@ -189,3 +189,17 @@ journal_read_back s o most p n has commands = by (opened_at s.base s.serial) ref
         → Opens p n (lines_of (journal_text s ++ (codes "edits\n" ++ commands))) (counted s 0) (lines_of commands)
     by None q f = absurd cc
     by (Some v) q f = journal_read s v (counted s 0) next printable numbers q f p n has commands
+
+-- behind the lines of the plan
+goes_on : (x : Read) (P Q : Phase → Type 0) → ((q : Phase) → P q → Q q) → GoesOn x P → GoesOn x Q
+goes_on (Bad n r) P Q f g = absurd g
+goes_on (Good q) P Q f g = f q g
+
+behind_lines : (p : Phase) (n : ℕ) (plan rest : List Line) (base : Plan) (t : State) (behind : List Line) → ReadsPlan p n plan base → ((q : Phase) (m : ℕ) → HasRead q base → Opens q m rest t behind) → Opens p n (plan ++ rest) t behind
+behind_lines p n [] rest base t behind r more = more p n r
+behind_lines p n (line ∷ lines) rest base t behind r more =
+    inr (goes_on (read_line p n line.bytes) (λ q. ReadsPlan q (n + 1) lines base) (λ q. Opens q (n + 1) (lines ++ rest) t behind) (λ q h. behind_lines q (n + 1) lines rest base t behind h more) r)
+
+pub journal_read_back : (s : State) → IsOpened s → ReadsBack s
+journal_read_back s o most plan reads commands =
+    behind_lines Header 1 plan (lines_of (journal_text s ++ (codes "edits\n" ++ commands))) s.base (counted s 0) (lines_of commands) reads (λ p n has. behind_plan_read s o most p n has commands)

@@ -43,15 +43,21 @@ Answered flags scarce s (line ∷ lines) (r ∷ rs) out t =
     (u : State) × ((more : Text) × (MayAnswer scarce line.bytes s r u × (out ≡ reply_text flags.quiet r (reviewed (call_of line.bytes) r s) ++ more) × Answered flags scarce u lines rs more t))
 Answered flags scarce s _ _ out t = ⊥
 
--- this plan was read, but for the end of its last group
+-- this plan was read; its last group may still be to be ended
 abbrev pub HasRead : Phase → Plan → Type 0
 HasRead (Between plan) base = plan ≡ base
 HasRead (InGroup plan g ys) base = with_read plan ys ≡ Ok base
 HasRead p base = ⊥
 
--- What is printed for the journal of a session, put behind the plan that was first read, is read, line by line, as that session: its standing edits, its stack and its next serial, where that is one that a journal may have, of which nothing is counted; and then the commands begin.
+-- from this phase, where line n comes next, these lines are read as this plan
+abbrev pub ReadsPlan : Phase → ℕ → List Line → Plan → Type 0
+ReadsPlan p n [] base = HasRead p base
+ReadsPlan p n (line ∷ lines) base = GoesOn (read_line p n line.bytes) (λ q. ReadsPlan q (n + 1) lines base)
+
+-- What is printed for the journal of a session, put behind lines that are read as the plan first read, is read, line by line, as that session: its standing edits, its stack and its next serial, where that is one that a journal may have, of which nothing is counted; and then the commands begin.
 abbrev pub ReadsBack : State → Type 0
-ReadsBack s = s.serial ≤ most_serial → (p : Phase) → (n : ℕ) → HasRead p s.base → (commands : Text) → Opens p n (lines_of (journal_text s ++ (codes "edits\n" ++ commands))) (counted s 0) (lines_of commands)
+ReadsBack s = s.serial ≤ most_serial → (plan : List Line) → ReadsPlan Header 1 plan s.base → (commands : Text)
+    → Opens Header 1 (plan ++ lines_of (journal_text s ++ (codes "edits\n" ++ commands))) (counted s 0) (lines_of commands)
 
 -- Over commands it prints the reply to each, up to the input's end or the refusal that stops the run, and then the plan that the session holds, and what else is asked for; all that is promised of a session over the plan first read holds of it; and the text of its journal is read back.
 pub record PrintsHeld (flags : Flags) (scarce : Bool) (opened : State) (commands : List Line) (out : Text) : Type 0 where

@@ -120,4 +120,5 @@ def main(load, count):
     print("\n".join(out))
 
 
-main(sys.argv[1], int(sys.argv[2]))
+if __name__ == "__main__":
+    main(sys.argv[1], int(sys.argv[2]))

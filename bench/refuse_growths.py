@@ -1,89 +1,113 @@
 #!/usr/bin/env python3
-"""Runs the program on an input once for each growth of memory, with that growth refused, and judges each run.
+"""Runs the program on inputs once for each growth of memory, with that growth refused, and judges each run.
 
-Usage: refuse_growths.py PROGRAM INPUT
+Usage: refuse_growths.py PROGRAM INPUT|FOLDER .. [--own-flags]
 
-A run has to end with status 3 and 'fault 30 OutOfMemory', what it wrote being a beginning of the output; or to answer
-one command 'refused 30 OutOfMemory' and the others as if that command weren't in the input. Needs cc.
+Each input is run with each set of flags (with --own-flags: with its own alone). Which line was in hand at the growth is
+known, since the input is given byte by byte. A growth before the commands, or behind the last of them, has to end the
+run with status 3 and 'fault 30 OutOfMemory', with nothing written, or with all replies and a beginning of the rest. A
+growth within a command has to be answered 'refused 30 OutOfMemory' there, and all else has to be as if the command
+weren't in the input. Words of which there is no run may also be answered as with ample memory. Needs cc.
 """
-import os
-import subprocess
 import sys
-import tempfile
-from pathlib import Path
+from collections import Counter
 
-# Loaded before the C library: the call of a number to malloc, calloc or realloc gets no memory.
-REFUSING = r"""
-#define _GNU_SOURCE
-#include <dlfcn.h>
-#include <stdio.h>
-#include <stdlib.h>
-static long calls;
-static int refused(void) {
-    const char *number = getenv("REFUSED_CALL");
-    calls++;
-    return number && calls == atol(number);
-}
-void *malloc(size_t size) {
-    static void *(*next)(size_t);
-    if (!next) next = (void *(*)(size_t)) dlsym(RTLD_NEXT, "malloc");
-    return refused() ? NULL : next(size);
-}
-void *realloc(void *old, size_t size) {
-    static void *(*next)(void *, size_t);
-    if (!next) next = (void *(*)(void *, size_t)) dlsym(RTLD_NEXT, "realloc");
-    return refused() ? NULL : next(old, size);
-}
-void *aligned_alloc(size_t alignment, size_t size) {
-    static void *(*next)(size_t, size_t);
-    if (!next) next = (void *(*)(size_t, size_t)) dlsym(RTLD_NEXT, "aligned_alloc");
-    return refused() ? NULL : next(alignment, size);
-}
-__attribute__((destructor)) static void report(void) {
-    if (getenv("COUNT_CALLS")) fprintf(stderr, "calls %ld\n", calls);
-}
-"""
+from hostile_runs import EVERY_SET, in_turn, inputs_of, replies_of
+
+SEEN = ("arguments", "before the commands", "commands", "behind the commands")
+FAULT = b"fault 30 OutOfMemory\n"
+REPLY = b"refused 30 OutOfMemory\n"
 
 
-def build(folder):
-    source, library = Path(folder) / "refusing.c", Path(folder) / "refusing.so"
-    source.write_text(REFUSING)
-    subprocess.run(["cc", "-O2", "-shared", "-fPIC", "-o", library, source, "-ldl"], check=True)
-    return str(library)
+class Judge:
+    """Judges the runs over one input with one set of flags."""
+
+    def __init__(self, runner, text, flags):
+        self.runner, self.flags = runner, flags
+        self.text = text
+        self.lines = text.splitlines(True)
+        self.has_commands = b"edits\n" in self.lines
+        self.commands = self.lines.index(b"edits\n") + 1 if self.has_commands else len(self.lines)
+        self.whole = runner.run(text, flags, read_step=1)
+        self.replies = b"".join(replies_of(self.whole.output))
+        self.answers = {}
+
+    def without(self, line):
+        """The output that answers the command on a line with want of memory."""
+        if line not in self.answers:
+            before, behind = self.lines[:line], self.lines[line + 1 :]
+            cut = self.runner.run(b"".join(before), self.flags).output
+            rest = cut if "--stop" in self.flags else self.runner.run(b"".join(before + behind), self.flags).output
+            at = len(replies_of(cut))
+            rest = rest.splitlines(True)
+            self.answers[line] = b"".join(rest[:at] + [REPLY] + rest[at:])
+        return self.answers[line]
+
+    def judge(self, done):
+        if not done.report:
+            return None
+        place, at_end = done.report["place"], done.report["at_end"]
+        in_hand = self.text.count(b"\n", 0, place)
+        has_fault = (done.status, done.error) == (3, FAULT)
+        if in_hand <= self.commands and not (at_end and self.has_commands):
+            return "before the commands" if has_fault and done.output == b"" else None
+        if has_fault:
+            is_behind = at_end or place == self.whole.report["taken"]
+            is_beginning = self.whole.output.startswith(done.output) and done.output.startswith(self.replies)
+            return "behind the commands" if is_behind and is_beginning else None
+        is_answered = done.status == 1 and done.error == b"" and done.output == self.without(in_hand - 1)
+        return "commands" if is_answered else None
 
 
-def run(program, text, **variables):
-    done = subprocess.run([program], input=text, capture_output=True, env={**os.environ, **variables}, timeout=60)
-    return done.returncode, done.stdout, done.stderr
+def judge_input(runner, name, text, flags):
+    """How many runs ended in which way, and what is wrong."""
+    judge = Judge(runner, text, flags)
+    seen, wrong = Counter(), []
+    growths = judge.whole.report["growths"]
+    for growth in range(1, growths + 1):
+        done = runner.run(text, flags, refused_growth=growth, read_step=1)
+        found = judge.judge(done)
+        seen[found or "wrong"] += 1
+        if found is None:
+            wrong.append(f"{name} {' '.join(flags)} growth {growth}: {done}")
+    past = runner.run(text, flags, refused_growth=growths + 1, read_step=1)
+    if past != judge.whole:
+        wrong.append(f"{name} {' '.join(flags)}: more growths than were counted")
+    return seen, wrong
 
 
-def without_command(program, text, output):
-    """The output for the input without the command that wanted memory, with that command's reply put in."""
-    lines, replies = text.splitlines(True), output.splitlines(True)
-    at = replies.index(b"refused 30 OutOfMemory\n")
-    command = lines.index(b"edits\n") + 1 + at
-    rest = run(program, b"".join(lines[:command] + lines[command + 1 :]))[1].splitlines(True)
-    return b"".join(rest[:at] + [b"refused 30 OutOfMemory\n"] + rest[at:])
+def judge_words(runner, words):
+    """The same for words of which there is no run: help, version, and what isn't an argument."""
+    seen, wrong = Counter(), []
+    whole = runner.run(b"", words)
+    for growth in range(1, whole.report["growths"] + 1):
+        done = runner.run(b"", words, refused_growth=growth)
+        seen["arguments"] += 1
+        if done[:3] not in ((3, b"", FAULT), whole[:3]):
+            wrong.append(f"{' '.join(words)} growth {growth}: {done}, due {whole}")
+    return seen, wrong
 
 
-def main(program, path):
-    text = Path(path).read_bytes()
-    with tempfile.TemporaryDirectory() as folder:
-        library = build(folder)
-        status, whole, error = run(program, text, LD_PRELOAD=library, COUNT_CALLS="1")
-        growths = int(error.split(b"calls ")[-1].split()[0])
-        faults = answered = wrong = 0
-        for call in range(1, growths + 1):
-            status, output, error = run(program, text, LD_PRELOAD=library, REFUSED_CALL=str(call))
-            if status == 3 and error == b"fault 30 OutOfMemory\n" and whole.startswith(output):
-                faults += 1
-            elif status == 1 and b"refused 30 OutOfMemory\n" in output and output == without_command(program, text, output):
-                answered += 1
-            else:
-                wrong += 1
-                print(f"growth {call}: status {status}, {output!r}, {error!r}")
-        print(f"{growths} growths: {faults} faults with a beginning of the output, {answered} commands refused, {wrong} wrong")
-        return 1 if wrong or not growths else 0
+def judge_unit(runner, *unit):
+    return judge_words(runner, unit[0]) if len(unit) == 1 else judge_input(runner, *unit)
+
+
+def main(program, *paths):
+    own = "--own-flags" in paths
+    units = [(words,) for words in (("--help",), ("--version",), ("--loud",), ("--quiet", "--quiet"))]
+    for item in inputs_of(path for path in paths if path != "--own-flags"):
+        text = item.text if item.text.endswith(b"\n") or item.text == b"" else item.text + b"\n"
+        for flags in [item.flags] if own else EVERY_SET:
+            units.append((item.name, text, flags))
+    seen, wrong = Counter(), 0
+    for some, faults in in_turn(program, judge_unit, units):
+        seen += some
+        wrong += len(faults)
+        for fault in faults[:5]:
+            print(fault)
+    told = ", ".join(f"{seen[name]} {name}" for name in SEEN)
+    print(f"growths: {len(units)} inputs with flags, {sum(seen.values())} runs: {told}; {wrong} wrong")
+    return 1 if wrong or not seen else 0
 
 
 if __name__ == "__main__":

@@ -1,0 +1,100 @@
+// Loaded before the C library: growths of memory, reads of standard input and writes of standard output that are told to
+// fail, or to give and take little. What is told stands in the environment; at the end one line is written to the
+// descriptor REPORT, with the numbers of growths, reads and writes, and where the input stood at the growth that failed.
+#define _GNU_SOURCE
+#include <dlfcn.h>
+#include <errno.h>
+#include <stdio.h>
+#include <stdlib.h>
+#include <string.h>
+#include <sys/resource.h>
+#include <unistd.h>
+
+static long growths, refused_growth, place_of_refusal = -1, end_at_refusal;
+static long reads, failed_read, read_step, read_error, taken, at_end, reads_behind;
+static long writes, failed_write, write_step, write_error, writes_behind;
+
+static long told(const char *name) {
+    const char *text = getenv(name);
+    return text ? atol(text) : 0;
+}
+
+__attribute__((constructor)) static void start(void) {
+    refused_growth = told("REFUSED_GROWTH");
+    failed_read = told("FAILED_READ");
+    read_step = told("READ_STEP");
+    read_error = told("READ_ERROR");
+    failed_write = told("FAILED_WRITE");
+    write_step = told("WRITE_STEP");
+    write_error = told("WRITE_ERROR");
+    struct rlimit seconds = {20, 20};
+    setrlimit(RLIMIT_CPU, &seconds);
+    growths = 0;
+}
+
+__attribute__((destructor)) static void report(void) {
+    char line[200];
+    int to = (int) told("REPORT");
+    int size = snprintf(line, sizeof line, "%ld %ld %ld %ld %ld %ld %ld %ld %ld\n", growths, place_of_refusal,
+                        end_at_refusal, reads, taken, at_end, reads_behind, writes, writes_behind);
+    ssize_t (*next)(int, const void *, size_t) = (ssize_t (*)(int, const void *, size_t)) dlsym(RTLD_NEXT, "write");
+    if (to > 0 && next(to, line, (size_t) size) < 0) return;
+}
+
+static int refused(void) {
+    growths++;
+    if (growths != refused_growth) return 0;
+    place_of_refusal = taken;
+    end_at_refusal = at_end;
+    return 1;
+}
+
+void *malloc(size_t size) {
+    static void *(*next)(size_t);
+    if (!next) next = (void *(*)(size_t)) dlsym(RTLD_NEXT, "malloc");
+    return refused() ? NULL : next(size);
+}
+
+void *realloc(void *old, size_t size) {
+    static void *(*next)(void *, size_t);
+    if (!next) next = (void *(*)(void *, size_t)) dlsym(RTLD_NEXT, "realloc");
+    return refused() ? NULL : next(old, size);
+}
+
+void *aligned_alloc(size_t alignment, size_t size) {
+    static void *(*next)(size_t, size_t);
+    if (!next) next = (void *(*)(size_t, size_t)) dlsym(RTLD_NEXT, "aligned_alloc");
+    return refused() ? NULL : next(alignment, size);
+}
+
+ssize_t read(int from, void *bytes, size_t size) {
+    static ssize_t (*next)(int, void *, size_t);
+    if (!next) next = (ssize_t (*)(int, void *, size_t)) dlsym(RTLD_NEXT, "read");
+    if (from != 0) return next(from, bytes, size);
+    reads++;
+    if (failed_read && reads > failed_read) reads_behind++;
+    if (reads == failed_read) {
+        errno = (int) read_error;
+        return -1;
+    }
+    if (read_step && size > (size_t) read_step) size = (size_t) read_step;
+    ssize_t count = next(from, bytes, size);
+    if (count > 0) taken += count;
+    if (count == 0) at_end = 1;
+    return count;
+}
+
+ssize_t write(int to, const void *bytes, size_t size) {
+    static ssize_t (*next)(int, const void *, size_t);
+    if (!next) next = (ssize_t (*)(int, const void *, size_t)) dlsym(RTLD_NEXT, "write");
+    if (to != 1) return next(to, bytes, size);
+    writes++;
+    if (failed_write && writes > failed_write) writes_behind++;
+    if (writes == failed_write) {
+        if (write_error == 0) return 0;
+        errno = (int) write_error;
+        return -1;
+    }
+    if (write_step && size > (size_t) write_step) size = (size_t) write_step;
+    return next(to, bytes, size);
+}

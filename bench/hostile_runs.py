@@ -1,0 +1,104 @@
+"""Inputs of a folder, and runs of a program over them in which calls fail that are told to."""
+import os
+import subprocess
+import tempfile
+from itertools import product
+from multiprocessing import Pool
+from pathlib import Path
+from typing import NamedTuple
+
+FLAGS = ("--quiet", "--stop", "--journal", "--json")
+EVERY_SET = [tuple(flag for flag, given in zip(FLAGS, chosen) if given) for chosen in product((False, True), repeat=4)]
+REPORT = 9
+
+
+class Input(NamedTuple):
+    name: str
+    text: bytes
+    flags: tuple
+
+
+def inputs_of(paths):
+    """The inputs of files and folders. NAME.args or NAME.flags beside an input has its flags, one a line."""
+    found = []
+    for path in map(Path, paths):
+        files = sorted(path.iterdir()) if path.is_dir() else [path]
+        for file in files:
+            if path.is_dir() and file.suffix not in ("", ".plan"):
+                continue
+            flags = ()
+            for beside in (file.with_name(file.name + ".args"), file.with_suffix(".flags")):
+                if beside.exists():
+                    flags = tuple(beside.read_text().split())
+            if set(flags) <= set(FLAGS):
+                found.append(Input(file.name, file.read_bytes(), flags))
+    return found
+
+
+class Done(NamedTuple):
+    """How a run ended. A status below 0 is a signal."""
+
+    status: int
+    output: bytes
+    error: bytes
+    report: dict
+
+
+COUNTS = ("growths", "place", "at_end", "reads", "taken", "ended", "reads_behind", "writes", "writes_behind")
+
+
+class Runner:
+    """Runs a program over inputs, in files of a folder of its own."""
+
+    def __init__(self, program):
+        self.program = os.path.abspath(program)
+        self.folder = tempfile.TemporaryDirectory()
+        self.files = [os.path.join(self.folder.name, name) for name in ("input", "output", "error", "report")]
+        self.held = None
+        self.library = os.path.join(self.folder.name, "failing_calls.so")
+        source = Path(__file__).with_name("failing_calls.c")
+        subprocess.run(["cc", "-O2", "-shared", "-fPIC", "-o", self.library, source, "-ldl"], check=True)
+
+    def run(self, text, flags, **told):
+        source, output, error, report = self.files
+        if text is not self.held:
+            Path(source).write_bytes(text)
+            self.held = text
+        create = os.O_WRONLY | os.O_CREAT | os.O_TRUNC
+        actions = [
+            (os.POSIX_SPAWN_OPEN, 0, source, os.O_RDONLY, 0),
+            (os.POSIX_SPAWN_OPEN, 1, output, create, 0o600),
+            (os.POSIX_SPAWN_OPEN, 2, error, create, 0o600),
+            (os.POSIX_SPAWN_OPEN, REPORT, report, create, 0o600),
+        ]
+        environment = {"LD_PRELOAD": self.library, "REPORT": str(REPORT)}
+        environment.update((name.upper(), str(value)) for name, value in told.items())
+        process = os.posix_spawn(self.program, [self.program, *flags], environment, file_actions=actions)
+        status = os.waitstatus_to_exitcode(os.waitpid(process, 0)[1])
+        output, error, report = (Path(path).read_bytes() for path in self.files[1:])
+        return Done(status, output, error, dict(zip(COUNTS, map(int, report.split()))))
+
+
+runner = None
+
+
+def begin(program):
+    global runner
+    runner = Runner(program)
+
+
+def in_turn(program, judge, units, processes=2):
+    """What `judge(runner, *unit)` answers for each unit, by processes with a runner each."""
+    with Pool(processes, begin, (program,)) as pool:
+        yield from pool.imap_unordered(judged, [(judge, unit) for unit in units], chunksize=4)
+
+
+def judged(work):
+    judge, unit = work
+    return judge(runner, *unit)
+
+
+def replies_of(output):
+    """The lines of an output before the plan."""
+    lines = output.splitlines(True)
+    return lines[: lines.index(b"plan 1\n")] if b"plan 1\n" in lines else []

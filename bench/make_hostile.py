@@ -1,0 +1,261 @@
+#!/usr/bin/env python3
+"""Prints an input that is made to take much: make_hostile.py LOAD COUNT.
+
+The part that the load repeats comes COUNT times, or where COUNT is 0 until the input is as long as one may be.
+"""
+import subprocess
+import sys
+import tempfile
+from itertools import count as numbers
+from pathlib import Path
+
+from make_load import field, group, header, name, telegram
+
+LONGEST_INPUT = 67_108_864
+LONGEST_LINE = 4_096
+EMPTY = "a1007f80a0327fffffffffffffffffffffffffffffffffffffffc0"
+
+# The serials, rising, whose tags the map of groups looks for at one place: it hashes with a seed that is known, by
+# multiplying to 128 bits and folding, and looks on from there slot by slot. Arguments: how many, and in how many places.
+COLLIDING = r"""
+#include <stdint.h>
+#include <stdio.h>
+#include <stdlib.h>
+static uint64_t fold(uint64_t a, uint64_t b) {
+    unsigned __int128 product = (unsigned __int128) a * b;
+    return (uint64_t) product ^ (uint64_t) (product >> 64);
+}
+int main(int count, char **words) {
+    long wanted = atol(words[1]), slots = atol(words[2]);
+    uint64_t multiplier = 0x9e3779b97f4a7c15, fresh = fold(0x243f6a8885a308d3 ^ 1, multiplier ^ 16);
+    long groups = 1;
+    while (9 * groups < wanted) groups *= 2;
+    for (uint64_t serial = 1; wanted > 0 && serial < 4000000000; serial++) {
+        uint64_t hash = fold(fresh ^ (serial | serial << 32), multiplier ^ 8);
+        if (((hash ^ hash >> 32) & (uint64_t) (groups - 1)) < (uint64_t) slots) {
+            printf("%lu\n", (unsigned long) serial);
+            wanted--;
+        }
+    }
+    return wanted > 0 && count > 0;
+}
+"""
+
+
+def colliding(wanted):
+    with tempfile.TemporaryDirectory() as folder:
+        source, program = Path(folder) / "colliding.c", Path(folder) / "colliding"
+        source.write_text(COLLIDING)
+        subprocess.run(["cc", "-O2", "-o", program, source], check=True)
+        places = str(max(1, wanted // 20_000))
+        return subprocess.run([program, str(wanted), places], check=True, capture_output=True, text=True).stdout.split()
+
+
+def long_telegram(head, packets):
+    """The digits of a telegram of 830 bits."""
+    bits = head + packets + "1" * 8
+    return f"{int(bits.ljust(830, '1') + '00', 2):0208x}"
+
+
+def links(count):
+    """A packet 5 whose elements name the group 0.0. The first says the country, which goes for those behind it."""
+    def element(country):
+        return field(500, 15) + country + field(0, 14) + "1" + "00" + field(12, 6)
+
+    elements = element("1" + field(0, 10)) + field(count - 1, 5) + element("0") * (count - 1)
+    return field(5, 8) + "01" + field(25 + len(elements), 13) + "01" + elements
+
+
+def one_plan(*groups):
+    """A plan of groups, each a list of telegrams, and the line behind it."""
+    yield "plan 1"
+    for telegrams in groups:
+        yield "group"
+        yield from telegrams
+    yield "edits"
+
+
+def groups(steps):
+    yield "plan 1"
+    for n in steps:
+        yield f"group\n{group(n)}"
+
+
+def groups_of_eight(steps):
+    yield "plan 1"
+    for n in steps:
+        heads = (header(n // 16000, n % 16000, pig, 7) for pig in range(8))
+        yield "\n".join(["group", *(telegram(head, "") for head in heads)])
+
+
+def groups_full_of_packets(steps):
+    yield "plan 1"
+    packets = (field(44, 8) + "01" + field(23, 13)) * 33
+    for n in steps:
+        yield f"group\n{long_telegram(header(n // 16000, n % 16000), packets)}"
+
+
+def groups_that_name_one(steps):
+    """Each of 18 elements, as many as a telegram has room for, names one group, the first."""
+    yield "plan 1"
+    for n in steps:
+        yield f"group\n{long_telegram(header(n // 16000, n % 16000), links(18))}"
+
+
+def telegrams_without_end(steps):
+    yield "plan 1\ngroup"
+    for _ in steps:
+        yield EMPTY
+
+
+def commands(*lines):
+    """A load that repeats lines behind a plan of one telegram."""
+    def load(steps):
+        yield from one_plan([EMPTY])
+        for _ in steps:
+            yield from lines
+
+    return load
+
+
+def settings(steps):
+    """Settings in one telegram, of which the first is independent of the others."""
+    yield from one_plan([group(0)])
+    yield "seth 0.0 0 Q_LINK 0"
+    for i in steps[1:]:
+        yield f"set 0.0 0 1 NID_TSR 0 {i % 256}"
+
+
+def strikes(steps):
+    """As many settings as strikes of the first of them and redos."""
+    yield from settings(steps)
+    for _ in steps[1::2]:
+        yield "strike 1\nredo"
+
+
+def refused_strikes(steps):
+    """As many settings, the last of which isn't independent of the first, as strikes of the first."""
+    yield from settings(steps)
+    yield "seth 0.0 0 Q_LINK 1"
+    for _ in steps:
+        yield "strike 1"
+
+
+def strikes_of_a_million(steps):
+    """999,000 settings, and strikes of the first of them and redos."""
+    yield from settings(range(999_000))
+    for _ in steps:
+        yield "strike 1\nredo"
+
+
+def strikes_of_a_million_elsewhere(steps):
+    """The same with settings in a hundred other groups behind the first."""
+    yield from one_plan(*([group(n)] for n in range(101)))
+    yield "seth 0.100 0 Q_LINK 0"
+    for i in range(999_000):
+        yield f"seth 0.{i % 100} 0 M_MCOUNT {i % 256}"
+    for _ in steps:
+        yield "strike 1\nredo"
+
+
+def undone_in_journal(steps):
+    """A journal of settings, all of them struck, the first one first."""
+    yield from groups(steps)
+    yield f"journal 2 {len(steps) + 1}"
+    for i in steps:
+        yield f"{i + 1} seth b{i}/0 M_MCOUNT 0 255"
+    for i in steps:
+        yield f"undone {i + 1}"
+
+
+def adds_in_the_middle(steps):
+    yield from one_plan(*([group(n)] for n in range(2)))
+    for i in steps:
+        yield f"add {i // 2 + 1} {group(i + 2)}"
+
+
+def drops_of_the_first(steps):
+    yield from one_plan(*([group(n)] for n in steps))
+    for n in steps:
+        yield f"drop {name(n)}"
+
+
+def renumberings_of_one_named(steps):
+    """A group that each of many elements names, renumbered as often as there are elements."""
+    yield from groups_that_name_one(steps[::18])
+    yield "edits"
+    for _ in steps[::2]:
+        yield "renumber 0.0 16000\nrenumber 0.16000 0"
+
+
+def turns_of_one_named(steps):
+    """A group that each of many elements names, turned as often as there are elements."""
+    yield from groups_that_name_one(steps[::18])
+    yield "edits"
+    for _ in steps:
+        yield "turn 0.0"
+
+
+def added_by_journal(serials):
+    """A journal that adds a group behind the last for each serial."""
+    yield "plan 1"
+    yield f"journal 2 {int(serials[-1]) + 1}"
+    last = "^"
+    for i, serial in enumerate(serials):
+        yield f"{serial} add {last} {group(i)}"
+        last = f"n{serial}"
+
+
+def added_by_rising_serials(steps):
+    yield from added_by_journal(range(1, len(steps) + 1))
+
+
+def added_by_colliding_serials(steps):
+    yield from added_by_journal(colliding(len(steps)))
+
+
+LOADS = {
+    "groups": groups,
+    "groups-of-eight": groups_of_eight,
+    "groups-full-of-packets": groups_full_of_packets,
+    "groups-that-name-one": groups_that_name_one,
+    "telegrams-without-end": telegrams_without_end,
+    "lines-without-words": commands("x" * LONGEST_LINE),
+    "lines-of-many-words": commands("add 0" + " 00" * 1_363),
+    "lines-of-telegrams": commands("add 0" + (" " + EMPTY) * 74),
+    "lines-of-digits": commands("insert 5.100 0 0 42403e0a" + "00" * 2_035),
+    "nothing-to-undo": commands("undo"),
+    "no-such-edit": commands("strike 4294967295"),
+    "values-too-wide": commands("seth 5.100 0 M_DUP 4"),
+    "set-and-undone": commands("seth 5.100 0 M_DUP 1", "undo"),
+    "put-in-and-undone": commands("insert 5.100 0 0 42403e0a", "undo"),
+    "turned": commands("turn 5.100"),
+    "strikes-of-a-million": strikes_of_a_million,
+    "strikes-of-a-million-elsewhere": strikes_of_a_million_elsewhere,
+    "strikes": strikes,
+    "refused-strikes": refused_strikes,
+    "undone-in-journal": undone_in_journal,
+    "adds-in-the-middle": adds_in_the_middle,
+    "drops-of-the-first": drops_of_the_first,
+    "renumberings-of-one-named": renumberings_of_one_named,
+    "turns-of-one-named": turns_of_one_named,
+    "added-by-rising-serials": added_by_rising_serials,
+    "added-by-colliding-serials": added_by_colliding_serials,
+}
+
+
+def main(load, count):
+    left = LONGEST_INPUT - len("edits\n")
+    has_commands = False
+    for line in LOADS[load](range(count) if count else numbers()):
+        left -= len(line) + 1
+        if left < 0:
+            break
+        has_commands |= line == "edits"
+        sys.stdout.write(line + "\n")
+    if not has_commands:
+        sys.stdout.write("edits\n")
+
+
+if __name__ == "__main__":
+    main(sys.argv[1], int(sys.argv[2]))

@@ -3,23 +3,35 @@
 use balise_cli::Counted;
 use std::alloc::Global;
 use std::io;
-use std::io::{Read, Write};
+use std::io::{ErrorKind, Read, Write};
 
 /// Gives at most `step` bytes a call, and fails at the call of a number.
 #[derive(Drop)]
 pub(crate) struct Slow<'a> {
-    bytes: &'a [u8],
+    /// What wasn't given yet.
+    pub(crate) bytes: &'a [u8],
     step: usize,
     fails_at: u64,
-    calls: u64,
+    kind: ErrorKind,
+    pub(crate) calls: u64,
 }
 
 impl<'a> Slow<'a> {
-    pub(crate) fn new(bytes: &'a [u8], step: usize, fails_at: u64) -> Counted<Slow<'a>> {
+    pub(crate) fn new(bytes: &'a [u8], step: usize) -> Counted<Slow<'a>> {
+        Slow::failing(bytes, step, 0, ErrorKind::Other)
+    }
+
+    pub(crate) fn failing(
+        bytes: &'a [u8],
+        step: usize,
+        fails_at: u64,
+        kind: ErrorKind,
+    ) -> Counted<Slow<'a>> {
         Counted::new(Slow {
             bytes,
             step,
             fails_at,
+            kind,
             calls: 0,
         })
     }
@@ -29,7 +41,7 @@ impl Read for Slow<'_> {
     fn read(&mut self, buf: &mut [u8]) -> io::Result<usize> {
         self.calls = self.calls.saturating_add(1);
         if self.calls == self.fails_at {
-            return Err(io::Error::from(io::ErrorKind::Other));
+            return Err(io::Error::from(self.kind));
         }
         let count = self.step.min(buf.len()).min(self.bytes.len());
         let (front, rest) = self.bytes.split_at(count);
@@ -71,20 +83,31 @@ impl Read for Repeated<'_> {
     }
 }
 
-/// Takes at most three bytes a call, and fails at the call of a number and ever after.
+/// How a write fails: by an error, or in that it takes nothing.
+#[derive(Clone, Copy)]
+pub(crate) enum Failure {
+    Error(ErrorKind),
+    Nothing,
+}
+
+/// Takes at most `step` bytes a call, and fails at the call of a number.
 #[derive(Drop)]
 pub(crate) struct Narrow {
     pub(crate) text: Vec<u8>,
-    calls: u64,
+    step: usize,
     fails_at: u64,
+    how: Failure,
+    pub(crate) calls: u64,
 }
 
 impl Narrow {
-    pub(crate) fn new(alloc: Global, fails_at: u64) -> Counted<Narrow> {
+    pub(crate) fn new(alloc: Global, step: usize, fails_at: u64, how: Failure) -> Counted<Narrow> {
         Counted::new(Narrow {
             text: Vec::new(alloc),
-            calls: 0,
+            step,
             fails_at,
+            how,
+            calls: 0,
         })
     }
 }
@@ -92,10 +115,13 @@ impl Narrow {
 impl Write for Narrow {
     fn write(&mut self, buf: &[u8]) -> io::Result<usize> {
         self.calls = self.calls.saturating_add(1);
-        if self.calls >= self.fails_at {
-            return Err(io::Error::from(io::ErrorKind::Other));
+        if self.calls == self.fails_at {
+            return match self.how {
+                Failure::Error(kind) => Err(io::Error::from(kind)),
+                Failure::Nothing => Ok(0),
+            };
         }
-        let count = buf.len().min(3);
+        let count = buf.len().min(self.step);
         self.text.extend_from_slice(&buf[..count])?;
         Ok(count)
     }

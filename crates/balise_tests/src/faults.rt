@@ -1,34 +1,87 @@
-//! Readers that give few bytes a call, and each call of a reader or a writer failing in turn.
+//! Readers that give few bytes a call and writers that take few, and each call of either failing in turn.
 
-use crate::devices::{Narrow, Slow};
+use crate::devices::{Failure, Narrow, Slow};
 use balise_cli::{Counted, Flags, RunFault, Status, run};
+use std::alloc::Global;
+use std::io::ErrorKind;
+use std::process::Abort;
 use std::test::Fail;
 
-const INPUT: &[u8] =
-    b"plan 1\ngroup\na1007f80a03250900f82ffffffffffffffffffffffffffffffffc0\nedits\nset 5.100 0 0 NID_TSR 0 9\nseth 5.100 0 M_MCOUNT 254\nundo\n";
-
-const OUTPUT: &[u8] =
-    b"ok 1\nok 2\nundone 2\nplan 1\ngroup\na1007f80a03250900f84ffffffffffffffffffffffffffffffffc0\n";
-
-#[test]
-fn same_output_by_small_reads(rt: HostRuntime) {
-    for step in [1, 2, 3, 4096] {
-        let mut reader = Slow::new(INPUT, step, 0);
-        let mut writer = Counted::new(Vec::new(rt.alloc()));
-        let answer = run(rt.alloc(), &mut reader, &mut writer, Flags::default());
-        assert_eq!(rt; answer, Ok(Status::Accepted));
-        assert_eq!(rt; writer.inner().as_slice(), OUTPUT);
-    }
+/// An input with so many lines before its commands, what each command is answered, and what is printed behind.
+struct Case {
+    flags: Flags,
+    input: &'static [u8],
+    front: usize,
+    answers: [&'static str; 3],
+    end: &'static str,
+    status: Status,
 }
 
-/// What has been written where so many lines were read.
-fn written(lines: usize) -> &'static [u8] {
-    match lines {
-        0..=4 => b"",
-        5 => b"ok 1\n",
-        6 => b"ok 1\nok 2\n",
-        _ => b"ok 1\nok 2\nundone 2\n",
+const CASES: [Case; 3] = [
+    Case {
+        flags: Flags {
+            quiet: false,
+            stop: false,
+            journal: false,
+            json: false,
+        },
+        input: b"plan 1\ngroup\na1007f80a03250900f82ffffffffffffffffffffffffffffffffc0\nedits\nset 5.100 0 0 NID_TSR 0 9\nseth 5.100 0 M_MCOUNT 254\nundo\n",
+        front: 4,
+        answers: ["ok 1\n", "ok 2\n", "undone 2\n"],
+        end: "plan 1\ngroup\na1007f80a03250900f84ffffffffffffffffffffffffffffffffc0\n",
+        status: Status::Accepted,
+    },
+    Case {
+        flags: Flags {
+            quiet: false,
+            stop: false,
+            journal: false,
+            json: false,
+        },
+        input: b"plan 1\ngroup\na104ff80a032505023a0a0320096047fffffffffffffffffffffc0\na1157f80a0324b0010697fffffffffffffffffffffffffffffffc0\na1247f80a0327fffffffffffffffffffffffffffffffffffffffc0\ngroup\na1007f80a032c15022a07d00326301ffffffffffffffffffffffc0\nedits\nturn 5.100\ninsert 5.100 0 0 42403e0a\nstrike 1\n",
+        front: 8,
+        answers: [
+            "ok 1\nreview 5.100 1 0 opaque 44\nreview 5.100 2 0 D_TSR 0 200\nreview 5.101 0 0 D_LINK 0 500\n",
+            "ok 2\n",
+            "refused 26 DependsOn 2\n",
+        ],
+        end: "plan 1\ngroup\na1047f80a03250900f82ffffffffffffffffffffffffffffffffc0\na114ff80a0324b1010697fffffffffffffffffffffffffffffffc0\na1257f80a032504023a0a0320096047fffffffffffffffffffffc0\ngroup\na1007f80a032c15022a07d00322301ffffffffffffffffffffffc0\n",
+        status: Status::SomeRefused,
+    },
+    Case {
+        flags: Flags {
+            quiet: false,
+            stop: false,
+            journal: true,
+            json: true,
+        },
+        input: b"plan 1\ngroup\na1007f80a03250900f82ffffffffffffffffffffffffffffffffc0\nedits\nset 5.100 0 0 NID_TSR 0 9\n",
+        front: 4,
+        answers: ["ok 1\n", "", ""],
+        end: "plan 1\ngroup\na1007f80a03250900f84ffffffffffffffffffffffffffffffffc0\njournal 2 2\n1 set b0/0/b0 NID_TSR 0 9 5\n{\"country\":5,\"number\":100,\"telegrams\":[{\"bits\":210,\"m_dup\":0,\"m_mcount\":255,\"m_version\":33,\"packets\":[{\"fields\":[[\"NID_PACKET\",66],[\"Q_DIR\",1],[\"L_PACKET\",31],[\"NID_TSR\",9]],\"known\":true}],\"q_link\":1,\"used\":89}]}\n",
+        status: Status::Accepted,
+    },
+];
+
+/// How many bytes a call gives or takes.
+const STEPS: [usize; 4] = [1, 2, 3, 4096];
+
+/// What has been written where so many lines were read, and the input goes on.
+fn written(alloc: Global, case: &Case, lines: usize) -> Result<String, Fail> {
+    let mut text = String::new(alloc);
+    for (i, answer) in case.answers.iter().enumerate() {
+        if case.front.saturating_add(i) < lines {
+            text.push_str(answer)?;
+        }
     }
+    Ok(text)
+}
+
+/// The whole output.
+fn output(alloc: Global, case: &Case) -> Result<String, Fail> {
+    let mut text = written(alloc, case, usize::MAX)?;
+    text.push_str(case.end)?;
+    Ok(text)
 }
 
 fn lines_in(bytes: &[u8]) -> usize {
@@ -41,42 +94,92 @@ fn lines_in(bytes: &[u8]) -> usize {
     lines
 }
 
-/// The replies to the commands whose lines came before the failing call have been written, and nothing else.
-#[test]
-fn each_read_fails(rt: HostRuntime) {
-    for given in 0..=INPUT.len() {
-        let mut reader = Slow::new(INPUT, 1, given as u64 + 1);
-        let mut writer = Counted::new(Vec::new(rt.alloc()));
-        let answer = run(rt.alloc(), &mut reader, &mut writer, Flags::default());
-        assert_eq!(rt; answer, Err(RunFault::ReadFault));
-        assert_eq!(rt; reader.failed(), 1);
-        assert_eq!(rt; writer.failed(), 0);
-        let lines = lines_in(&INPUT[..given]);
-        assert_eq!(rt; writer.inner().as_slice(), written(lines));
-    }
+/// Runs with reads of so many bytes, and answers how many there were.
+fn reads_of(rt: &impl Abort, alloc: Global, case: &Case, step: usize) -> Result<u64, Fail> {
+    let mut reader = Slow::new(case.input, step);
+    let mut writer = Counted::new(Vec::new(alloc));
+    let answer = run(alloc, &mut reader, &mut writer, case.flags);
+    assert_eq!(rt; answer, Ok(case.status));
+    assert_eq!(rt; writer.inner().as_slice(), output(alloc, case)?.as_bytes());
+    Ok(reader.inner().calls)
 }
 
+/// Runs with writes of so many bytes, and answers how many there were.
+fn writes_of(rt: &impl Abort, alloc: Global, case: &Case, step: usize) -> Result<u64, Fail> {
+    let mut reader = Slow::new(case.input, 4096);
+    let mut writer = Narrow::new(alloc, step, 0, Failure::Nothing);
+    let answer = run(alloc, &mut reader, &mut writer, case.flags);
+    assert_eq!(rt; answer, Ok(case.status));
+    assert_eq!(rt;
+        writer.inner().text.as_slice(),
+        output(alloc, case)?.as_bytes()
+    );
+    Ok(writer.inner().calls)
+}
+
+/// The replies to the commands whose lines came before the failing call have been written, and nothing else. No read
+/// comes behind it.
 #[test]
-fn each_write_fails(rt: HostRuntime) {
-    for call in 1..36u64 {
-        let mut reader = Slow::new(INPUT, 4096, 0);
-        let mut writer = Narrow::new(rt.alloc(), call);
-        let answer = run(rt.alloc(), &mut reader, &mut writer, Flags::default());
-        assert_eq!(rt; answer, Err(RunFault::WriteFault));
-        assert_eq!(rt; writer.failed(), 1);
-        let text = writer.inner().text.as_slice();
-        assert!(rt; text.len() < OUTPUT.len());
-        assert!(rt; OUTPUT.starts_with(text));
+fn each_read_fails(rt: HostRuntime) -> Result<(), Fail> {
+    for case in &CASES {
+        for step in STEPS {
+            for call in 1..=reads_of(&rt, rt.alloc(), case, step)? {
+                for kind in [
+                    ErrorKind::Other,
+                    ErrorKind::Interrupted,
+                    ErrorKind::WouldBlock,
+                ] {
+                    let mut reader = Slow::failing(case.input, step, call, kind);
+                    let mut writer = Counted::new(Vec::new(rt.alloc()));
+                    let answer = run(rt.alloc(), &mut reader, &mut writer, case.flags);
+                    assert_eq!(rt; answer, Err(RunFault::ReadFault));
+                    assert_eq!(rt; (reader.failed(), reader.inner().calls), (1, call));
+                    assert_eq!(rt; writer.failed(), 0);
+                    let given = case.input.len().saturating_sub(reader.inner().bytes.len());
+                    let lines = lines_in(case.input.get(..given).unwrap_or(case.input));
+                    let due = written(rt.alloc(), case, lines)?;
+                    assert_eq!(rt; writer.inner().as_slice(), due.as_bytes());
+                }
+            }
+        }
     }
+    Ok(())
+}
+
+/// What was written is a beginning of the output, which ends where the failing call came. No write comes behind it.
+#[test]
+fn each_write_fails(rt: HostRuntime) -> Result<(), Fail> {
+    for case in &CASES {
+        let whole = output(rt.alloc(), case)?;
+        for step in STEPS {
+            for call in 1..=writes_of(&rt, rt.alloc(), case, step)? {
+                for how in [
+                    Failure::Error(ErrorKind::Other),
+                    Failure::Error(ErrorKind::Interrupted),
+                    Failure::Nothing,
+                ] {
+                    let mut reader = Slow::new(case.input, 4096);
+                    let mut writer = Narrow::new(rt.alloc(), step, call, how);
+                    let answer = run(rt.alloc(), &mut reader, &mut writer, case.flags);
+                    assert_eq!(rt; answer, Err(RunFault::WriteFault));
+                    assert_eq!(rt; (writer.failed(), writer.inner().calls), (1, call));
+                    let text = writer.inner().text.as_slice();
+                    assert!(rt; text.len() < whole.len());
+                    assert!(rt; whole.as_bytes().starts_with(text));
+                }
+            }
+        }
+    }
+    Ok(())
 }
 
 /// Three bytes in two calls, and then a fault: `ok` and a space are held.
 #[test]
-fn a_beginning_is_written(rt: HostRuntime) -> Result<(), Fail> {
-    let mut reader = Slow::new(INPUT, 4096, 0);
-    let mut writer = Narrow::new(rt.alloc(), 3);
-    let answer = run(rt.alloc(), &mut reader, &mut writer, Flags::default());
+fn a_beginning_is_written(rt: HostRuntime) {
+    let [case, _, _] = &CASES;
+    let mut reader = Slow::new(case.input, 4096);
+    let mut writer = Narrow::new(rt.alloc(), 3, 3, Failure::Error(ErrorKind::Other));
+    let answer = run(rt.alloc(), &mut reader, &mut writer, case.flags);
     assert_eq!(rt; answer, Err(RunFault::WriteFault));
     assert_eq!(rt; writer.inner().text.as_slice(), b"ok ".as_slice());
-    Ok(())
 }

@@ -4,6 +4,8 @@
 #[cfg(test)]
 mod bounds;
 #[cfg(test)]
+mod cuts;
+#[cfg(test)]
 mod devices;
 #[cfg(test)]
 mod faults;

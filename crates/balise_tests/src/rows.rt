@@ -26,7 +26,7 @@ pub(crate) struct Row {
 pub(crate) fn check_rows(rt: &impl Abort, alloc: Global, rows: &[Row]) {
     for row in rows {
         for step in [1, 2, 3, 4096] {
-            let mut reader = Slow::new(row.input.as_bytes(), step, 0);
+            let mut reader = Slow::new(row.input.as_bytes(), step);
             let mut writer = Counted::new(Vec::new(alloc));
             let ended = run(alloc, &mut reader, &mut writer, row.flags);
             assert_eq!(rt; ended, Ok(row.status), "{}", row.input);

@@ -1,0 +1,146 @@
+//! An input with a turn, an insertion and a strike, cut behind each byte.
+
+use crate::devices::Slow;
+use balise_cli::{Counted, Flags, Status, run};
+use std::alloc::Global;
+use std::process::Abort;
+use std::test::Fail;
+
+const INPUT: &[u8] =
+    b"plan 1\ngroup\na104ff80a032505023a0a0320096047fffffffffffffffffffffc0\na1157f80a0324b0010697fffffffffffffffffffffffffffffffc0\na1247f80a0327fffffffffffffffffffffffffffffffffffffffc0\ngroup\na1007f80a032c15022a07d00326301ffffffffffffffffffffffc0\nedits\nturn 5.100\ninsert 5.100 0 0 42403e0a\nstrike 1\n";
+
+/// The plan that was read, the same turned, and with the packet put in.
+const READ: &str =
+    "plan 1\ngroup\na104ff80a032505023a0a0320096047fffffffffffffffffffffc0\na1157f80a0324b0010697fffffffffffffffffffffffffffffffc0\na1247f80a0327fffffffffffffffffffffffffffffffffffffffc0\ngroup\na1007f80a032c15022a07d00326301ffffffffffffffffffffffc0\n";
+
+const TURNED: &str =
+    "plan 1\ngroup\na1047f80a0327fffffffffffffffffffffffffffffffffffffffc0\na114ff80a0324b1010697fffffffffffffffffffffffffffffffc0\na1257f80a032504023a0a0320096047fffffffffffffffffffffc0\ngroup\na1007f80a032c15022a07d00322301ffffffffffffffffffffffc0\n";
+
+const PUT_IN: &str =
+    "plan 1\ngroup\na1047f80a03250900f82ffffffffffffffffffffffffffffffffc0\na114ff80a0324b1010697fffffffffffffffffffffffffffffffc0\na1257f80a032504023a0a0320096047fffffffffffffffffffffc0\ngroup\na1007f80a032c15022a07d00322301ffffffffffffffffffffffc0\n";
+
+/// What the turn is answered.
+const TURN: &str =
+    "ok 1\nreview 5.100 1 0 opaque 44\nreview 5.100 2 0 D_TSR 0 200\nreview 5.101 0 0 D_LINK 0 500\n";
+
+/// A run of lengths, from the first up to the last, all of them or each second one.
+type Lengths = (usize, usize, bool);
+
+/// What the plan is refused for where so many bytes are left of the input.
+const REFUSED: [(Lengths, &str); 20] = [
+    ((0, 5, true), "bad 1 1 BadLine\n"),
+    ((6, 11, true), "bad 2 1 BadLine\n"),
+    ((12, 13, true), "bad 2 10 GroupSize\n"),
+    ((14, 66, false), "bad 3 2 BadHex\n"),
+    ((15, 65, false), "bad 3 3 BadLength\n"),
+    ((67, 68, true), "bad 2 11 HeaderDisagrees\n"),
+    ((69, 121, false), "bad 4 2 BadHex\n"),
+    ((70, 120, false), "bad 4 3 BadLength\n"),
+    ((122, 123, true), "bad 2 11 HeaderDisagrees\n"),
+    ((124, 176, false), "bad 5 2 BadHex\n"),
+    ((125, 175, false), "bad 5 3 BadLength\n"),
+    ((177, 178, true), "bad 6 1 BadLine\n"),
+    ((179, 182, true), "bad 6 2 BadHex\n"),
+    ((183, 184, true), "bad 6 10 GroupSize\n"),
+    ((185, 237, false), "bad 7 2 BadHex\n"),
+    ((186, 236, false), "bad 7 3 BadLength\n"),
+    ((238, 239, true), "bad 8 1 BadLine\n"),
+    ((240, 242, false), "bad 8 2 BadHex\n"),
+    ((241, 241, true), "bad 8 3 BadLength\n"),
+    ((243, 243, true), "bad 8 2 BadHex\n"),
+];
+
+/// What is printed where the commands are reached: whether the turn is answered, what else is, and the plan.
+const ANSWERED: [(Lengths, bool, &str, &str, Status); 10] = [
+    ((244, 245, true), false, "", READ, Status::Accepted),
+    (
+        (246, 252, true),
+        false,
+        "refused 1 BadLine\n",
+        READ,
+        Status::SomeRefused,
+    ),
+    (
+        (253, 254, true),
+        false,
+        "refused 14 NoSuchGroup\n",
+        READ,
+        Status::SomeRefused,
+    ),
+    ((255, 256, true), true, "", TURNED, Status::Accepted),
+    (
+        (257, 273, true),
+        true,
+        "refused 1 BadLine\n",
+        TURNED,
+        Status::SomeRefused,
+    ),
+    (
+        (274, 280, false),
+        true,
+        "refused 2 BadHex\n",
+        TURNED,
+        Status::SomeRefused,
+    ),
+    (
+        (275, 279, false),
+        true,
+        "refused 7 PacketCut\n",
+        TURNED,
+        Status::SomeRefused,
+    ),
+    ((281, 282, true), true, "ok 2\n", PUT_IN, Status::Accepted),
+    (
+        (283, 289, true),
+        true,
+        "ok 2\nrefused 1 BadLine\n",
+        PUT_IN,
+        Status::SomeRefused,
+    ),
+    (
+        (290, 291, true),
+        true,
+        "ok 2\nrefused 26 DependsOn 2\n",
+        PUT_IN,
+        Status::SomeRefused,
+    ),
+];
+
+fn holds(lengths: Lengths, length: usize) -> bool {
+    let (first, last, is_each) = lengths;
+    first <= length && length <= last && (is_each || length % 2 == first % 2)
+}
+
+fn check(rt: &impl Abort, alloc: Global, length: usize, due: &str, status: Status) {
+    for step in [1, 4096] {
+        let mut reader = Slow::new(INPUT.get(..length).unwrap_or(&[]), step);
+        let mut writer = Counted::new(Vec::new(alloc));
+        let ended = run(alloc, &mut reader, &mut writer, Flags::default());
+        assert_eq!(rt; ended, Ok(status), "{length}");
+        assert_eq!(rt; writer.inner().as_slice(), due.as_bytes(), "{length}");
+    }
+}
+
+/// Each length is in one row of the tables, and what stands there is printed.
+#[test]
+fn each_cut(rt: HostRuntime) -> Result<(), Fail> {
+    for length in 0..=INPUT.len() {
+        let mut rows: u32 = 0;
+        for (lengths, text) in REFUSED {
+            if holds(lengths, length) {
+                rows = rows.saturating_add(1);
+                check(&rt, rt.alloc(), length, text, Status::BadInput);
+            }
+        }
+        for (lengths, is_turned, text, plan, status) in ANSWERED {
+            if holds(lengths, length) {
+                rows = rows.saturating_add(1);
+                let turn = if is_turned { TURN } else { "" };
+                let due = format!(in rt.alloc(); "{turn}{text}{plan}")?;
+                check(&rt, rt.alloc(), length, due.as_str(), status);
+            }
+        }
+        assert_eq!(rt; rows, 1, "{length}");
+    }
+    Ok(())
+}

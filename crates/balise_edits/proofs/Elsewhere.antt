@@ -1,13 +1,18 @@
--- Edits of different telegrams are apart.
-use Rattle.std.proofs.Common.{◌≡◌, ◌∙◌, ℕ, refl, ap, Bool, true, false, cond, ◌&&◌, ◌||◌, not, List, [], ◌∷◌, ◌++◌, eqb, Option, Some, None}
+-- Edits of different telegrams are apart, and those of a telegram and of another group where no identity is named.
+use Rattle.std.proofs.Common.{◌≡◌, ◌∙◌, ℕ, refl, ap, Bool, true, false, cond, ◌&&◌, ◌||◌, not, List, [], ◌∷◌, ◌++◌, eqb, length, Option, Some, None, arith}
+use Rattle.std.proofs.lemmas.Bool.{eqb-true}
 use Rattle.balise_rules.specs.declared.variable.Var.TheVariants.{NidBg, QLinkorientation, QDir, MDup}
 use Rattle.balise_rules.specs.declared.identity.Id.{Id}
 use Rattle.balise_rules.specs.declared.tag.Tag.{Tag}
 use Rattle.balise_rules.specs.Tags.{same_tag, same_var}
 use Rattle.balise_rules.specs.Edits.{Edit, SetVar, SetHead, InsertPacket, DeletePacket, MovePacket, AddGroup, DropGroup, Renumber, TurnGroup}
-use Rattle.balise_rules.specs.Paths.{Path, Entry, At, Nth, Of, Turn, Whose, changes, needs, ids, meet, meets_any, any_meets, room_apart, apart}
+use Rattle.balise_rules.specs.Paths.{Path, Entry, At, Nth, Of, Turn, After, Front, Whose, anchor, neighbour, changes, needs, ids, meet, meets_any, any_meets, room_apart, apart}
+use Rattle.balise_rules.specs.Behind.{anchored}
 use Rattle.balise_rules.proofs.Tests.{test-sym, tag_test, nat_test}
-use Rattle.balise_edits.specs.Homes.{home, elsewhere}
+use Rattle.balise_strike_laws.proofs.Symmetry.{symmetric}
+use Rattle.balise_edits.specs.declared.home.Home.{Home}
+use Rattle.balise_edits.specs.declared.home.Home.TheVariants.{Telegram, Group}
+use Rattle.balise_edits.specs.Homes.{home_of, elsewhere, are_named}
 
 abbrev Each : (Path → Type 0) → List Path → Type 0
 Each P [] = Unit {0}
@@ -74,21 +79,83 @@ needs-head : (g : Tag) → (t : ℕ) → (a : Bool) → Each (Beside g t) (cond 
 needs-head g t true = (turned, tt)
 needs-head g t false = tt
 
--- where the places of an entry lie
-abbrev Lies : Option (Tag × ℕ) → Entry → Type 0
-Lies None e = Unit {0}
-Lies (Some (g, t)) e = Each (Inside g t) (changes e) × Each (Beside g t) (needs e)
+-- ---- the same without identities, beside another group
 
-lies : (e : Entry) → Lies (home e.0.1) e
-lies ((s, SetVar g t p v k n), m) = ((inside _, tt), needs-var g t (same_var QDir v) (same_var QLinkorientation v) (same_var NidBg v) (At p ∷ Of NidBg ∷ Nth k ∷ []) m.names)
-lies ((s, SetHead g t v n), m) = ((inside _, tt), needs-head g t (same_var MDup v))
-lies ((s, InsertPacket g t a x), m) = ((inside _, (inside _, tt)), (turned, each-named g t m.names))
-lies ((s, DeletePacket g t p), m) = ((inside _, (inside _, tt)), (turned, each-named g t m.names))
-lies ((s, MovePacket g t p a), m) = ((inside _, (inside _, (inside _, (inside _, tt)))), tt)
-lies ((s, AddGroup a bs), m) = tt
-lies ((s, DropGroup g), m) = tt
-lies ((s, Renumber g n), m) = tt
-lies ((s, TurnGroup g), m) = tt
+-- what an edit of a telegram needs where no identity is named
+data Alone (g : Tag) (t : ℕ) : Path → Type 0 where
+  alone : (r : Path) → Alone g t (At g ∷ Nth t ∷ r)
+  turn : Alone g t (At g ∷ Turn ∷ [])
+
+-- what an edit at a group changes or needs: places in the group, sides of groups, identities
+data Round (h : Tag) : Path → Type 0 where
+  in_it : (r : Path) → Round h (At h ∷ r)
+  behind : (a : Option Tag) → Round h (anchor a ∷ After ∷ [])
+  in_front : (b : Option Tag) → Round h (neighbour b ∷ Front ∷ [])
+  whose : (i : Id) → Round h (Whose i ∷ [])
+
+no-and : (a b : Bool) → a ≡ false → (a && b) ≡ false
+no-and a b e = ap (λ x. x && b) e
+
+far-alone : {g h : Tag} → {t : ℕ} → same_tag g h ≡ false → (p q : Path) → Alone g t p → Round h q → meet p q ≡ false
+far-alone {g} {h} {t} d p q (alone r) (in_it k) = no-and (same_tag g h) (meet (Nth t ∷ r) k) d
+far-alone {g} d p q (alone r) (behind None) = refl
+far-alone {g} d p q (alone r) (behind (Some a)) = and-no (same_tag g a)
+far-alone {g} d p q (alone r) (in_front None) = refl
+far-alone {g} d p q (alone r) (in_front (Some b)) = and-no (same_tag g b)
+far-alone d p q (alone r) (whose i) = refl
+far-alone {g} {h} d p q turn (in_it k) = no-and (same_tag g h) (meet (Turn ∷ []) k) d
+far-alone {g} d p q turn (behind None) = refl
+far-alone {g} d p q turn (behind (Some a)) = and-no (same_tag g a)
+far-alone {g} d p q turn (in_front None) = refl
+far-alone {g} d p q turn (in_front (Some b)) = and-no (same_tag g b)
+far-alone d p q turn (whose i) = refl
+
+each-alone : (g : Tag) → (t : ℕ) → (ps : List Path) → Each (Inside g t) ps → Each (Alone g t) ps
+each-alone g t [] a = tt
+each-alone g t (p ∷ ps) a = (one p a.0, each-alone g t ps a.1) where
+  one : (p : Path) → Inside g t p → Alone g t p
+  one p (inside r) = alone r
+
+each-whose : (h : Tag) → (is : List Id) → Each (Round h) (ids is)
+each-whose h [] = tt
+each-whose h (i ∷ is) = (whose i, each-whose h is)
+
+not-false : (b : Bool) → not b ≡ false → b ≡ true
+not-false true h = refl
+not-false false h = absurd (cc)
+
+none-named : (g : Tag) → (t : ℕ) → (is : List Id) → are_named is ≡ false → Each (Alone g t) (ids is)
+none-named g t [] e = tt
+none-named g t (i ∷ is) e = absurd (let w = eqb-true (length (i ∷ is)) 0 (not-false (eqb (length (i ∷ is)) 0) e) in omega (arith, w))
+
+alone-var : (g : Tag) → (t : ℕ) → (a b c : Bool) → (r : Path) → (is : List Id) → are_named is ≡ false → Each (Alone g t) (cond a ((At g ∷ Turn ∷ []) ∷ []) (cond b ((At g ∷ Nth t ∷ r) ∷ ids is) (cond c (ids is) [])))
+alone-var g t true b c r is e = (turn, tt)
+alone-var g t false true c r is e = (alone r, none-named g t is e)
+alone-var g t false false true r is e = none-named g t is e
+alone-var g t false false false r is e = tt
+
+alone-head : (g : Tag) → (t : ℕ) → (a : Bool) → Each (Alone g t) (cond a ((At g ∷ Turn ∷ []) ∷ []) [])
+alone-head g t true = (turn, tt)
+alone-head g t false = tt
+
+-- where the places of an entry lie
+abbrev Lies : Home → Entry → Type 0
+Lies (Telegram g t n) e = Each (Inside g t) (changes e) × Each (Beside g t) (needs e) × (n ≡ false → Each (Alone g t) (needs e))
+Lies (Group h) e = Each (Round h) (changes e) × Each (Round h) (needs e)
+
+abbrev pub lies_at : Entry → Home
+lies_at e = home_of e.0.0 e.0.1 e.1.names
+
+lies : (e : Entry) → Lies (lies_at e) e
+lies ((s, SetVar g t p v k n), m) = ((inside _, tt), needs-var g t (same_var QDir v) (same_var QLinkorientation v) (same_var NidBg v) (At p ∷ Of NidBg ∷ Nth k ∷ []) m.names, alone-var g t (same_var QDir v) (same_var QLinkorientation v) (same_var NidBg v) (At p ∷ Of NidBg ∷ Nth k ∷ []) m.names)
+lies ((s, SetHead g t v n), m) = ((inside _, tt), needs-head g t (same_var MDup v), λ e. alone-head g t (same_var MDup v))
+lies ((s, InsertPacket g t a x), m) = ((inside _, (inside _, tt)), (turned, each-named g t m.names), λ e. (turn, none-named g t m.names e))
+lies ((s, DeletePacket g t p), m) = ((inside _, (inside _, tt)), (turned, each-named g t m.names), λ e. (turn, none-named g t m.names e))
+lies ((s, MovePacket g t p a), m) = ((inside _, (inside _, (inside _, (inside _, tt)))), tt, λ e. tt)
+lies ((s, AddGroup a bs), m) = ((in_it _, (behind a, (whose _, tt))), each-whose _ m.names)
+lies ((s, DropGroup g), m) = ((in_it _, (in_front m.before, (whose _, tt))), each-whose _ m.names)
+lies ((s, Renumber g n), m) = ((in_it _, (whose _, (whose _, tt))), tt)
+lies ((s, TurnGroup g), m) = ((in_it _, (whose _, tt)), tt)
 
 other-way : (g g1 : Tag) → (t t1 : ℕ) → (same_tag g1 g && eqb t1 t) ≡ (same_tag g g1 && eqb t t1)
 other-way g g1 t t1 = ap (λ b. b && eqb t1 t) (test-sym tag_test g1 g) ∙ ap (λ b. same_tag g g1 && b) (test-sym nat_test t1 t)
@@ -97,20 +164,56 @@ not-true : (b : Bool) → not b ≡ true → b ≡ false
 not-true true h = absurd (cc)
 not-true false h = refl
 
-room-elsewhere : (e f : Edit) → elsewhere (home e) (home f) ≡ true → room_apart e f ≡ true
-room-elsewhere (InsertPacket g t a x) (DeletePacket g1 t1 p) h = h
-room-elsewhere (DeletePacket g1 t1 p) (InsertPacket g t a x) h = ap not (other-way g1 g t1 t) ∙ h
-room-elsewhere e f h = refl
+neither : (a b : Bool) → (not a && not b) ≡ true → (a ≡ false) × (b ≡ false)
+neither true b h = absurd (cc)
+neither false true h = absurd (cc)
+neither false false h = (refl, refl)
 
-from-lies : (h k : Option (Tag × ℕ)) → (e f : Entry) → Lies h e → Lies k f → elsewhere h k ≡ true → room_apart e.0.1 f.0.1 ≡ true → apart e f ≡ true
-from-lies None k e f a b d r = absurd (cc)
-from-lies (Some h) None e f a b d r = absurd (cc)
-from-lies (Some (g, t)) (Some (g1, t1)) e f a b d r =
+room-elsewhere : (s r : ℕ) → (e f : Edit) → (is js : List Id) → elsewhere (home_of s e is) (home_of r f js) ≡ true → room_apart e f ≡ true
+room-elsewhere s r (InsertPacket g t a x) (DeletePacket g1 t1 p) is js h = h
+room-elsewhere s r (DeletePacket g1 t1 p) (InsertPacket g t a x) is js h = ap not (other-way g1 g t1 t) ∙ h
+room-elsewhere s r e f is js h = refl
+
+-- two tests that don't hold, and the clause for room
+clears : (e f : Entry) → any_meets (changes e) (changes f ++ needs f) ≡ false → any_meets (needs e) (changes f) ≡ false → room_apart e.0.1 f.0.1 ≡ true → apart e f ≡ true
+clears e f a b r =
+    ap (λ x. not x && (not (any_meets (needs e) (changes f)) && room_apart e.0.1 f.0.1)) a
+    ∙ ap (λ x. not x && room_apart e.0.1 f.0.1) b ∙ r
+
+beside-group : (g h : Tag) → (t : ℕ) → (n : Bool) → (e f : Entry) → Lies (Telegram g t n) e → Lies (Group h) f → n ≡ false → same_tag g h ≡ false → room_apart e.0.1 f.0.1 ≡ true → apart e f ≡ true
+beside-group g h t n e f a b none other r = clears e f
+    (none-meet (far-alone other) (changes e) (changes f ++ needs f) (each-alone g t (changes e) a.0) (each-both (Round h) (changes f) (needs f) b.0 b.1))
+    (none-meet (far-alone other) (needs e) (changes f) (a.2 none) b.0) r
+
+from-lies : (h k : Home) → (e f : Entry) → Lies h e → Lies k f → elsewhere h k ≡ true → room_apart e.0.1 f.0.1 ≡ true → room_apart f.0.1 e.0.1 ≡ true → apart e f ≡ true
+from-lies (Telegram g t m) (Telegram g1 t1 n) e f a b d r q =
     let no : (same_tag g g1 && eqb t t1) ≡ false = not-true _ d in
-    let first = none-meet (far-inside no) (changes e) (changes f ++ needs f) a.0 (each-both (Beside g1 t1) (changes f) (needs f) (each-beside g1 t1 (changes f) b.0) b.1) in
-    let second = none-meet (far-beside no) (needs e) (changes f) a.1 b.0 in
-    ap (λ x. not x && (not (any_meets (needs e) (changes f)) && room_apart e.0.1 f.0.1)) first
-    ∙ ap (λ x. not x && room_apart e.0.1 f.0.1) second ∙ r
+    clears e f
+    (none-meet (far-inside no) (changes e) (changes f ++ needs f) a.0 (each-both (Beside g1 t1) (changes f) (needs f) (each-beside g1 t1 (changes f) b.0) b.1))
+    (none-meet (far-beside no) (needs e) (changes f) a.1 b.0) r
+from-lies (Telegram g t m) (Group h) e f a b d r q = let w = neither m (same_tag g h) d in beside-group g h t m e f a b w.0 w.1 r
+from-lies (Group h) (Telegram g t m) e f a b d r q = let w = neither m (same_tag g h) d in symmetric e f ∙ beside-group g h t m f e b a w.0 w.1 q
+from-lies (Group g) (Group h) e f a b d r q = absurd (cc)
 
-pub apart_elsewhere : (e f : Entry) → elsewhere (home e.0.1) (home f.0.1) ≡ true → apart e f ≡ true
-apart_elsewhere e f d = from-lies (home e.0.1) (home f.0.1) e f (lies e) (lies f) d (room-elsewhere e.0.1 f.0.1 d)
+turned-round : (h k : Home) → elsewhere h k ≡ true → elsewhere k h ≡ true
+turned-round (Telegram g t m) (Telegram g1 t1 n) d = ap not (other-way g g1 t t1) ∙ d
+turned-round (Telegram g t m) (Group h) d = d
+turned-round (Group h) (Telegram g t m) d = d
+turned-round (Group g) (Group h) d = d
+
+pub apart_elsewhere : (e f : Entry) → elsewhere (lies_at e) (lies_at f) ≡ true → apart e f ≡ true
+apart_elsewhere e f d = from-lies (lies_at e) (lies_at f) e f (lies e) (lies f) d
+    (room-elsewhere e.0.0 f.0.0 e.0.1 f.0.1 e.1.names f.1.names d)
+    (room-elsewhere f.0.0 e.0.0 f.0.1 e.0.1 f.1.names e.1.names (turned-round (lies_at e) (lies_at f) d))
+
+-- another anchor leaves an edit where it lies
+pub home_anchored : (s : ℕ) → (a : Option Tag) → (e : Edit) → (is : List Id) → home_of s (anchored a e) is ≡ home_of s e is
+home_anchored s a (InsertPacket g t b x) is = refl
+home_anchored s a (MovePacket g t p b) is = refl
+home_anchored s a (AddGroup b bs) is = refl
+home_anchored s a (SetVar g t p v k n) is = refl
+home_anchored s a (SetHead g t v n) is = refl
+home_anchored s a (DeletePacket g t p) is = refl
+home_anchored s a (DropGroup g) is = refl
+home_anchored s a (Renumber g n) is = refl
+home_anchored s a (TurnGroup g) is = refl

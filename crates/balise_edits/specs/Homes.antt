@@ -1,19 +1,32 @@
--- The telegram that an edit is in.
-use Rattle.std.specs.Prelude.{ℕ, Bool, false, ◌&&◌, not, eqb, Option, Some, None}
+-- Where an edit lies.
+use Rattle.std.specs.Prelude.{ℕ, Bool, false, ◌&&◌, not, eqb, length, List}
 use Rattle.balise_rules.specs.declared.tag.Tag.{Tag}
+use Rattle.balise_rules.specs.declared.tag.Tag.TheVariants.{Fresh}
+use Rattle.balise_rules.specs.declared.identity.Id.{Id}
 use Rattle.balise_rules.specs.Tags.{same_tag}
-use Rattle.balise_rules.specs.Edits.{Edit, SetVar, SetHead, InsertPacket, DeletePacket, MovePacket}
+use Rattle.balise_rules.specs.Edits.{Edit, SetVar, SetHead, InsertPacket, DeletePacket, MovePacket, AddGroup, DropGroup, Renumber, TurnGroup}
+use Rattle.balise_edits.specs.declared.home.Home.{Home}
+use Rattle.balise_edits.specs.declared.home.Home.TheVariants.{Telegram, Group}
 
--- the telegram that an edit is in, if it is in one
-abbrev pub home : Edit → Option (Tag × ℕ)
-home (SetVar g t p v k n) = Some (g, t)
-home (SetHead g t v n) = Some (g, t)
-home (InsertPacket g t a x) = Some (g, t)
-home (DeletePacket g t p) = Some (g, t)
-home (MovePacket g t p a) = Some (g, t)
-home e = None
+-- whether there are identities
+abbrev pub are_named : List Id → Bool
+are_named is = not (eqb (length is) 0)
 
--- whether both edits are in telegrams, which differ
-abbrev pub elsewhere : Option (Tag × ℕ) → Option (Tag × ℕ) → Bool
-elsewhere (Some h) (Some k) = not (same_tag h.0 k.0 && eqb h.1 k.1)
-elsewhere h k = false
+-- where an edit under a serial lies, which noted that these identities are named
+abbrev pub home_of : ℕ → Edit → List Id → Home
+home_of s (SetVar g t p v k n) is = Telegram g t (are_named is)
+home_of s (SetHead g t v n) is = Telegram g t (are_named is)
+home_of s (InsertPacket g t a x) is = Telegram g t (are_named is)
+home_of s (DeletePacket g t p) is = Telegram g t (are_named is)
+home_of s (MovePacket g t p a) is = Telegram g t (are_named is)
+home_of s (AddGroup a bs) is = Group (Fresh s)
+home_of s (DropGroup g) is = Group g
+home_of s (Renumber g n) is = Group g
+home_of s (TurnGroup g) is = Group g
+
+-- whether edits are in two telegrams, or one in a telegram of a group and without identities and the other at another group
+abbrev pub elsewhere : Home → Home → Bool
+elsewhere (Telegram g t m) (Telegram h u n) = not (same_tag g h && eqb t u)
+elsewhere (Telegram g t m) (Group h) = not m && not (same_tag g h)
+elsewhere (Group h) (Telegram g t m) = not m && not (same_tag g h)
+elsewhere (Group g) (Group h) = false

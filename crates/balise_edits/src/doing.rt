@@ -11,7 +11,7 @@ ghost use Rattle.balise_edits.specs.Notes.{note_of, Suits};
 ghost use Rattle.balise_edits.specs.Standing.{changed_to, Applies, DoesAgain, DoesItem, IsLast, IsNext, TakesBack};
 
 use crate::edit::Edit;
-use crate::entry::Entry;
+use crate::entry::{Entry, placed};
 use crate::kinds::{fields, groups, names, packets, turns};
 use crate::note::Note;
 use balise_plan::Plan;
@@ -24,8 +24,12 @@ pub fn apply(plan: &mut Plan, edit: Edit, serial: u32) -> Result<Entry, Refusal>
     requires spelt { Spelt (edit_of edit) plan.old.groups }
     ensures { Applies (serial, edit_of edit) plan.old result plan.new }
 {
-    match noted(plan, &edit, serial) {
-        Ok(note) => Ok(Entry::new(serial, edit, note)),
+    let mut done = placed(plan.allocator(), edit)?;
+    match noted(plan, &done.edit, serial) {
+        Ok(note) => {
+            done.note = note;
+            Ok(Entry::new(serial, done))
+        }
         Err(fault) => Err(fault),
     }
 }

@@ -3,7 +3,6 @@
 ghost use Rattle.std.specs.Prelude.{◌≡◌, IfOk, IsOkUnless};
 ghost use Rattle.balise_rules.specs.Behind.{anchor_of, anchored};
 ghost use Rattle.balise_edits.specs.Edits.{edit_of};
-ghost use Rattle.balise_edits.specs.Homes.{home};
 
 use crate::copying::{copy_packet, copy_telegrams};
 use balise_bits::Bits;
@@ -116,20 +115,6 @@ impl Edit {
             Edit::DropGroup { g } => Ok(Edit::DropGroup { g }),
             Edit::Renumber { g, number } => Ok(Edit::Renumber { g, number }),
             Edit::TurnGroup { g } => Ok(Edit::TurnGroup { g }),
-        }
-    }
-
-    /// The telegram that it is in, by the tags of group and telegram, if it is in one.
-    pub(crate) fn home(&self) -> Option<(Tag, u32)>
-        ensures { result ≡ home (edit_of self.now) }
-    {
-        match *self {
-            Edit::SetVar { g, t, .. } => Some((g, t)),
-            Edit::SetHead { g, t, .. } => Some((g, t)),
-            Edit::InsertPacket { g, t, .. } => Some((g, t)),
-            Edit::DeletePacket { g, t, .. } => Some((g, t)),
-            Edit::MovePacket { g, t, .. } => Some((g, t)),
-            _ => None,
         }
     }
 

@@ -6,40 +6,63 @@ mod places;
 ghost use Rattle.std.specs.Prelude.{◌≡◌, IfOk, IsOkUnless};
 ghost use Rattle.balise_edits.specs.Anchors.{hung_on};
 ghost use Rattle.balise_edits.specs.Edits.{edit_of};
+ghost use Rattle.balise_edits.specs.Homes.{home_of};
 ghost use Rattle.balise_edits.specs.Notes.{note_of, Suits};
 
 use crate::edit::Edit;
+use crate::home::Home;
 use crate::note::Note;
 use balise_rules::{Refusal, Tag};
+use std::alloc::Global;
 use std::marker::Model;
 
-/// An edit that was done, its serial, and what it noted of the plan before it.
+/// An edit that was done, its serial, and what it noted of the plan before it. Edit and note have a place of their own,
+/// so that a list of entries is short: it is gone through, and entries are moved in it.
 #[derive(Debug, Drop)]
 pub struct Entry {
     serial: u32,
-    edit: Edit,
-    note: Note,
+    home: Home,
+    done: Box<Done>,
+}
+
+/// An edit, and what it noted of the plan before it.
+#[derive(Debug, Drop)]
+pub(crate) struct Done {
+    pub(crate) edit: Edit,
+    pub(crate) note: Note,
+}
+
+/// A place for an edit that isn't done yet: the note stands for none.
+pub(crate) fn placed(alloc: Global, edit: Edit) -> Result<Box<Done>, Refusal>
+    ensures ok { IfOk result (λ done. done.value.edit ≡ edit) }
+    ensures fault { IsOkUnless result Refusal.OutOfMemory }
+{
+    let note = Note::Header { old: 0 };
+    Ok(Box::new(alloc, Done { edit, note })?)
 }
 
 impl Model for Entry {
     ghost use Rattle.balise_rules.specs.Paths as rules;
     ghost use Rattle.balise_edits.specs.Edits.{edit_of};
+    ghost use Rattle.balise_edits.specs.Homes.{home_of};
     ghost use Rattle.balise_edits.specs.Notes.{note_of, Suits};
+    ghost use Rattle.std.specs.Prelude.{◌≡◌};
 
     ghost Value = { rules.Entry };
 
-    ghost view = { λ e. ((e.serial, edit_of e.edit), note_of e.note) };
+    ghost view = { λ e. ((e.serial, edit_of e.done.value.edit), note_of e.done.value.note) };
 
-    ghost invariant = { λ e. Suits (edit_of e.edit) e.note };
+    ghost invariant = { λ e. Suits (edit_of e.done.value.edit) e.done.value.note × (e.home ≡ home_of e.serial (edit_of e.done.value.edit) (note_of e.done.value.note).names) };
 }
 
 impl Entry {
     /// An entry of an edit and a note of its kind.
-    pub(crate) fn new(serial: u32, edit: Edit, note: Note) -> Entry
-        requires { Suits (edit_of edit) note }
-        ensures { result ≡ ((serial, edit_of edit), note_of note) }
+    pub(crate) fn new(serial: u32, done: Box<Done>) -> Entry
+        requires { Suits (edit_of done.value.edit) done.value.note }
+        ensures { result ≡ ((serial, edit_of done.value.edit), note_of done.value.note) }
     {
-        Entry { serial, edit, note }
+        let home = Home::of(serial, &done.edit, &done.note);
+        Entry { serial, home, done }
     }
 
     /// The same entry once more.
@@ -47,12 +70,12 @@ impl Entry {
         ensures ok { IfOk result (λ entry. entry ≡ self.now) }
         ensures fault { IsOkUnless result Refusal.OutOfMemory }
     {
-        let edit = self.edit.copy()?;
-        let note = self.note.copy()?;
+        let mut done = placed(*Box::allocator(&self.done), self.done.edit.copy()?)?;
+        done.note = self.done.note.copy()?;
         Ok(Entry {
             serial: self.serial,
-            edit,
-            note,
+            home: self.home,
+            done,
         })
     }
 
@@ -63,24 +86,33 @@ impl Entry {
         self.serial
     }
 
+    /// Where its edit lies.
+    #[inline(always)]
+    pub(crate) fn home(&self) -> &Home
+        ensures { result.now ≡ home_of self.now.0.0 self.now.0.1 self.now.1.names }
+    {
+        &self.home
+    }
+
     /// Its edit.
     pub fn edit(&self) -> &Edit
         ensures { edit_of result.now ≡ self.now.0.1 }
     {
-        &self.edit
+        &self.done.edit
     }
 
     /// Anchors its edit on something else, where it has an anchor. All else stays.
+    #[tactic(auto, using(crate::proofs::Elsewhere::home_anchored))]
     pub(crate) fn set_anchor(&mut self, to: Option<Tag>)
         ensures { self.new ≡ hung_on to self.old }
     {
-        self.edit.set_anchor(to);
+        self.done.edit.set_anchor(to);
     }
 
     /// What it noted.
     pub(crate) fn note(&self) -> &Note
         ensures { note_of result.now ≡ self.now.1 }
     {
-        &self.note
+        &self.done.note
     }
 }

@@ -4,34 +4,19 @@ ghost use Rattle.std.specs.Prelude.{◌≡◌, option_map};
 ghost use Rattle.balise_rules.specs.Paths.{apart};
 ghost use Rattle.balise_rules.specs.Behind.{independent, stands_behind};
 ghost use Rattle.balise_edits.specs.Anchors.{hung_on, new_anchor};
-ghost use Rattle.balise_edits.specs.Edits.{edit_of};
-ghost use Rattle.balise_edits.specs.Homes.{elsewhere, home};
 
-use crate::edit::Edit;
 use crate::entry::Entry;
 use crate::meeting::clear;
 use balise_rules::Tag;
 
-// Whether both edits are in telegrams, which differ.
-fn elsewhere(edit: &Edit, other: &Edit) -> bool
-    ensures { result ≡ elsewhere (home (edit_of edit.now)) (home (edit_of other.now)) }
-{
-    let Some((g, t)) = edit.home() else {
-        return false;
-    };
-    let Some((h, u)) = other.home() else {
-        return false;
-    };
-    !(g == h && t == u)
-}
-
 /// Whether two entries are apart: no place that one changes is one that the other changes or needs, or lies in it or
 /// around it, and neither inserts into a telegram from which the other deletes. Takes no memory.
 #[tactic(auto, using(crate::proofs::Elsewhere::apart_elsewhere, crate::proofs::Meets::clear_of_none))]
+#[inline(always)]
 pub fn apart(entry: &Entry, later: &Entry) -> bool
     ensures { result ≡ apart entry.now later.now }
 {
-    if elsewhere(entry.edit(), later.edit()) {
+    if entry.home().is_elsewhere(later.home()) {
         return true;
     }
     clear(entry, later, &None)

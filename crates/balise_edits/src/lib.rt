@@ -5,6 +5,7 @@ mod copying;
 mod doing;
 mod edit;
 mod entry;
+mod home;
 mod independence;
 mod kinds;
 pub mod laws;

@@ -6,7 +6,7 @@ mod reviews;
 mod rows;
 
 use crate::edit::Edit;
-use crate::entry::Entry;
+use crate::entry::{Entry, placed};
 use crate::note::{Names, Note};
 use crate::{
     InGroup, InPacket, InTelegram, LineEdit, Noted, Path, apart, changed_places, independent,
@@ -44,6 +44,13 @@ fn listed(rt: &impl Abort, alloc: Global, named: Option<Id>) -> Vec<Id> {
     names
 }
 
+// An entry of an edit that noted this.
+fn noted(rt: &impl Abort, alloc: Global, serial: u32, edit: Edit, note: Note) -> Entry {
+    let mut done = placed(alloc, edit).expect(rt, "a place");
+    done.note = note;
+    Entry::new(serial, done)
+}
+
 // A packet put into the first telegram of the first group.
 fn inserted(
     rt: &impl Abort,
@@ -60,11 +67,11 @@ fn inserted(
         packet: packet_of(rt, alloc, digits),
     };
     let names = listed(rt, alloc, named);
-    Entry::new(serial, edit, Note::Inserted { names })
+    noted(rt, alloc, serial, edit, Note::Inserted { names })
 }
 
 // A packet taken out there.
-fn deleted(alloc: Global, serial: u32, p: u32, before: Option<Tag>) -> Entry {
+fn deleted(rt: &impl Abort, alloc: Global, serial: u32, p: u32, before: Option<Tag>) -> Entry {
     let edit = Edit::DeletePacket {
         g: Tag::Base(0),
         t: 0,
@@ -75,34 +82,56 @@ fn deleted(alloc: Global, serial: u32, p: u32, before: Option<Tag>) -> Entry {
         names: Vec::new(alloc),
         packet: None,
     };
-    Entry::new(serial, edit, note)
+    noted(rt, alloc, serial, edit, note)
 }
 
 // A packet moved there.
-fn moved(serial: u32, p: Tag, after: Option<Tag>, before: Option<Tag>) -> Entry {
+fn moved(
+    rt: &impl Abort,
+    alloc: Global,
+    serial: u32,
+    p: Tag,
+    after: Option<Tag>,
+    before: Option<Tag>,
+) -> Entry {
     let edit = Edit::MovePacket {
         g: Tag::Base(0),
         t: 0,
         p,
         after,
     };
-    Entry::new(serial, edit, Note::Moved { before })
+    noted(rt, alloc, serial, edit, Note::Moved { before })
 }
 
-fn renumbered(serial: u32, g: u32, own: Id, number: u32) -> Entry {
+fn renumbered(rt: &impl Abort, alloc: Global, serial: u32, g: u32, own: Id, number: u32) -> Entry {
     let edit = Edit::Renumber {
         g: Tag::Base(g),
         number,
     };
-    Entry::new(serial, edit, Note::Own(own))
+    noted(rt, alloc, serial, edit, Note::Own(own))
 }
 
-fn turned(serial: u32, g: u32, own: Id) -> Entry {
-    Entry::new(serial, Edit::TurnGroup { g: Tag::Base(g) }, Note::Own(own))
+fn turned(rt: &impl Abort, alloc: Global, serial: u32, g: u32, own: Id) -> Entry {
+    noted(
+        rt,
+        alloc,
+        serial,
+        Edit::TurnGroup { g: Tag::Base(g) },
+        Note::Own(own),
+    )
 }
 
 // A field of the first packet of a group's first telegram set.
-fn set(serial: u32, g: u32, var: Var, value: u32, old: u32, names: Names) -> Entry {
+fn set(
+    rt: &impl Abort,
+    alloc: Global,
+    serial: u32,
+    g: u32,
+    var: Var,
+    value: u32,
+    old: u32,
+    names: Names,
+) -> Entry {
     let edit = Edit::SetVar {
         g: Tag::Base(g),
         t: 0,
@@ -111,7 +140,7 @@ fn set(serial: u32, g: u32, var: Var, value: u32, old: u32, names: Names) -> Ent
         k: 0,
         value,
     };
-    Entry::new(serial, edit, Note::Field { old, names })
+    noted(rt, alloc, serial, edit, Note::Field { old, names })
 }
 
 // A group of one telegram put in.
@@ -120,7 +149,9 @@ fn added(rt: &impl Abort, alloc: Global, serial: u32, after: Option<Tag>, own: I
     let bits = Bits::digits(alloc, REVOCATION).expect(rt, "digits");
     assert!(rt; telegrams.push(bits).is_ok());
     let names = Vec::new(alloc);
-    Entry::new(
+    noted(
+        rt,
+        alloc,
         serial,
         Edit::AddGroup { after, telegrams },
         Note::Added { own, names },
@@ -143,7 +174,7 @@ fn dropped(
         names: listed(rt, alloc, Some(named)),
         group: None,
     };
-    Entry::new(serial, Edit::DropGroup { g: Tag::Base(g) }, note)
+    noted(rt, alloc, serial, Edit::DropGroup { g: Tag::Base(g) }, note)
 }
 
 // That a later entry is apart from an earlier one, and stands behind it, or not.
@@ -157,19 +188,19 @@ fn check(rt: &impl Abort, entry: &Entry, later: &Entry, is_apart: bool, behind: 
 fn moves_in_one_telegram(rt: HostRuntime) {
     let alloc = rt.alloc();
     // The third of four packets goes to the front; it stood before the fourth.
-    let first = moved(1, Tag::Base(2), None, Some(Tag::Base(3)));
+    let first = moved(&rt, alloc, 1, Tag::Base(2), None, Some(Tag::Base(3)));
     // Now the second stands before the fourth, and is taken out.
-    let second = deleted(alloc, 2, 1, Some(Tag::Base(3)));
+    let second = deleted(&rt, alloc, 2, 1, Some(Tag::Base(3)));
     check(&rt, &first, &second, false, false);
     // Or the first is taken out, which stands before the second.
-    let second = deleted(alloc, 2, 0, Some(Tag::Base(1)));
+    let second = deleted(&rt, alloc, 2, 0, Some(Tag::Base(1)));
     check(&rt, &first, &second, true, false);
 }
 
 #[test]
 fn moves_and_insertions(rt: HostRuntime) {
     let alloc = rt.alloc();
-    let first = moved(1, Tag::Base(2), None, Some(Tag::Base(3)));
+    let first = moved(&rt, alloc, 1, Tag::Base(2), None, Some(Tag::Base(3)));
     let second = inserted(&rt, alloc, 2, Some(Tag::Base(1)), "2c402e", None);
     check(&rt, &first, &second, true, false);
 }
@@ -177,7 +208,7 @@ fn moves_and_insertions(rt: HostRuntime) {
 #[test]
 fn room_of_a_deletion(rt: HostRuntime) {
     let alloc = rt.alloc();
-    let first = deleted(alloc, 1, 0, None);
+    let first = deleted(&rt, alloc, 1, 0, None);
     let second = inserted(&rt, alloc, 2, None, REVOCATION, None);
     check(&rt, &first, &second, false, false);
     check(&rt, &second, &first, false, false);
@@ -185,41 +216,124 @@ fn room_of_a_deletion(rt: HostRuntime) {
 
 #[test]
 fn fields_and_numbers(rt: HostRuntime) {
-    let distance = set(1, 1, Var::DLink, 600, 500, Names::Neither([]));
-    let link = set(1, 1, Var::NidBg, 102, 100, Names::Both([id(100), id(102)]));
-    check(&rt, &distance, &renumbered(2, 1, id(101), 300), true, false);
-    check(&rt, &link, &renumbered(2, 1, id(101), 300), true, false);
-    check(&rt, &link, &renumbered(2, 0, id(100), 300), false, false);
-    check(&rt, &link, &renumbered(2, 2, id(7), 102), false, false);
+    let alloc = rt.alloc();
+    let distance = set(&rt, alloc, 1, 1, Var::DLink, 600, 500, Names::Neither([]));
+    let link = set(
+        &rt,
+        alloc,
+        1,
+        1,
+        Var::NidBg,
+        102,
+        100,
+        Names::Both([id(100), id(102)]),
+    );
+    check(
+        &rt,
+        &distance,
+        &renumbered(&rt, alloc, 2, 1, id(101), 300),
+        true,
+        false,
+    );
+    check(
+        &rt,
+        &link,
+        &renumbered(&rt, alloc, 2, 1, id(101), 300),
+        true,
+        false,
+    );
+    check(
+        &rt,
+        &link,
+        &renumbered(&rt, alloc, 2, 0, id(100), 300),
+        false,
+        false,
+    );
+    check(
+        &rt,
+        &link,
+        &renumbered(&rt, alloc, 2, 2, id(7), 102),
+        false,
+        false,
+    );
 }
 
 #[test]
 fn fields_and_turns(rt: HostRuntime) {
-    let link = set(1, 1, Var::NidBg, 102, 100, Names::Both([id(100), id(102)]));
-    let way = set(1, 1, Var::QLinkorientation, 0, 1, Names::One([id(100)]));
-    let dir = set(1, 1, Var::QDir, 0, 1, Names::Neither([]));
+    let alloc = rt.alloc();
+    let link = set(
+        &rt,
+        alloc,
+        1,
+        1,
+        Var::NidBg,
+        102,
+        100,
+        Names::Both([id(100), id(102)]),
+    );
+    let way = set(
+        &rt,
+        alloc,
+        1,
+        1,
+        Var::QLinkorientation,
+        0,
+        1,
+        Names::One([id(100)]),
+    );
+    let dir = set(&rt, alloc, 1, 1, Var::QDir, 0, 1, Names::Neither([]));
     check(&rt, &way, &link, false, false);
-    check(&rt, &way, &turned(2, 0, id(100)), false, false);
-    check(&rt, &dir, &turned(2, 1, id(101)), false, false);
-    check(&rt, &dir, &turned(2, 0, id(100)), true, false);
+    check(&rt, &way, &turned(&rt, alloc, 2, 0, id(100)), false, false);
+    check(&rt, &dir, &turned(&rt, alloc, 2, 1, id(101)), false, false);
+    check(&rt, &dir, &turned(&rt, alloc, 2, 0, id(100)), true, false);
 }
 
 #[test]
 fn insertions_and_names(rt: HostRuntime) {
     let alloc = rt.alloc();
     let later = inserted(&rt, alloc, 3, None, LINK, Some(id(100)));
-    check(&rt, &turned(2, 0, id(100)), &later, false, false);
-    check(&rt, &renumbered(2, 1, id(101), 300), &later, true, false);
-    check(&rt, &renumbered(2, 1, id(101), 100), &later, false, false);
+    check(
+        &rt,
+        &turned(&rt, alloc, 2, 0, id(100)),
+        &later,
+        false,
+        false,
+    );
+    check(
+        &rt,
+        &renumbered(&rt, alloc, 2, 1, id(101), 300),
+        &later,
+        true,
+        false,
+    );
+    check(
+        &rt,
+        &renumbered(&rt, alloc, 2, 1, id(101), 100),
+        &later,
+        false,
+        false,
+    );
 }
 
 #[test]
 fn removals_and_names(rt: HostRuntime) {
     let alloc = rt.alloc();
     let gone = dropped(&rt, alloc, 2, 1, None, id(101), id(100));
-    check(&rt, &gone, &renumbered(3, 0, id(100), 300), false, false);
-    check(&rt, &gone, &renumbered(3, 0, id(102), 300), true, false);
-    let distance = set(1, 1, Var::DLink, 600, 500, Names::Neither([]));
+    check(
+        &rt,
+        &gone,
+        &renumbered(&rt, alloc, 3, 0, id(100), 300),
+        false,
+        false,
+    );
+    check(
+        &rt,
+        &gone,
+        &renumbered(&rt, alloc, 3, 0, id(102), 300),
+        true,
+        false,
+    );
+    let distance = set(&rt, alloc, 1, 1, Var::DLink, 600, 500, Names::Neither([]));
     check(&rt, &distance, &gone, false, false);
 }
 
@@ -254,7 +368,7 @@ fn moves_behind(rt: HostRuntime) {
     check(
         &rt,
         &first,
-        &moved(3, Tag::Base(0), behind, None),
+        &moved(&rt, alloc, 3, Tag::Base(0), behind, None),
         false,
         true,
     );
@@ -262,7 +376,7 @@ fn moves_behind(rt: HostRuntime) {
     check(
         &rt,
         &first,
-        &moved(3, Tag::Base(0), behind, behind),
+        &moved(&rt, alloc, 3, Tag::Base(0), behind, behind),
         false,
         false,
     );
@@ -348,7 +462,7 @@ fn copies_of_fields_and_packets(rt: HostRuntime) {
     says(
         &rt,
         alloc,
-        &set(8, 1, Var::DLink, 600, 500, Names::Neither([])),
+        &set(&rt, alloc, 8, 1, Var::DLink, 600, 500, Names::Neither([])),
         Noted::Value(500),
     );
     says(
@@ -357,11 +471,16 @@ fn copies_of_fields_and_packets(rt: HostRuntime) {
         &inserted(&rt, alloc, 7, None, LINK, named),
         Noted::Nothing,
     );
-    says(&rt, alloc, &deleted(alloc, 8, 1, b), Noted::BeforePacket(b));
     says(
         &rt,
         alloc,
-        &moved(8, Tag::Base(2), None, None),
+        &deleted(&rt, alloc, 8, 1, b),
+        Noted::BeforePacket(b),
+    );
+    says(
+        &rt,
+        alloc,
+        &moved(&rt, alloc, 8, Tag::Base(2), None, None),
         Noted::BeforePacket(None),
     );
 }
@@ -385,8 +504,13 @@ fn copies_of_groups(rt: HostRuntime) {
     says(
         &rt,
         alloc,
-        &renumbered(8, 1, id(101), 300),
+        &renumbered(&rt, alloc, 8, 1, id(101), 300),
         Noted::Number(101),
     );
-    says(&rt, alloc, &turned(8, 1, id(101)), Noted::Nothing);
+    says(
+        &rt,
+        alloc,
+        &turned(&rt, alloc, 8, 1, id(101)),
+        Noted::Nothing,
+    );
 }

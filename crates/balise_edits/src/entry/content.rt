@@ -14,7 +14,7 @@ impl Entry {
         ensures taken { result ≡ self.old.1.packet }
         ensures left { self.new ≡ (self.old.0, with_packet None self.old.1) }
     {
-        match &mut self.note {
+        match &mut self.done.note {
             Note::Deleted { packet, .. } => packet.take(),
             _ => None,
         }
@@ -25,7 +25,7 @@ impl Entry {
         requires { kind_of self.old.0.1 ≡ OfDeletion }
         ensures { self.new ≡ (self.old.0, with_packet (Some taken) self.old.1) }
     {
-        if let Note::Deleted { packet, .. } = &mut self.note {
+        if let Note::Deleted { packet, .. } = &mut self.done.note {
             *packet = Some(taken);
         }
     }
@@ -35,7 +35,7 @@ impl Entry {
         ensures taken { result ≡ self.old.1.group }
         ensures left { self.new ≡ (self.old.0, with_group None self.old.1) }
     {
-        match &mut self.note {
+        match &mut self.done.note {
             Note::Dropped { group, .. } => group.take(),
             _ => None,
         }
@@ -46,7 +46,7 @@ impl Entry {
         requires { kind_of self.old.0.1 ≡ OfRemoval }
         ensures { self.new ≡ (self.old.0, with_group (Some taken) self.old.1) }
     {
-        if let Note::Dropped { group, .. } = &mut self.note {
+        if let Note::Dropped { group, .. } = &mut self.done.note {
             *group = Some(taken);
         }
     }

@@ -18,7 +18,7 @@ impl Entry {
         ensures { option_map path_of result ≡ slice_get (changes self.now) i }
     {
         let fresh = Tag::Fresh(self.serial);
-        match (&self.edit, i) {
+        match (&self.done.edit, i) {
             (
                 Edit::SetVar {
                     g,
@@ -37,7 +37,7 @@ impl Entry {
             (Edit::InsertPacket { g, t, after, .. }, 1) => Some(Path::behind(*g, *t, *after)),
             (Edit::DeletePacket { g, t, p }, 0) => Some(Path::packet(*g, *t, *p, InPacket::Whole)),
             (Edit::DeletePacket { g, t, .. }, 1) => {
-                Some(Path::in_front(*g, *t, self.note.before()))
+                Some(Path::in_front(*g, *t, self.done.note.before()))
             }
             (Edit::MovePacket { g, t, p, .. }, 0) => {
                 Some(Path::packet(*g, *t, *p, InPacket::Front))
@@ -45,22 +45,26 @@ impl Entry {
             (Edit::MovePacket { g, t, p, .. }, 1) => {
                 Some(Path::packet(*g, *t, *p, InPacket::After))
             }
-            (Edit::MovePacket { g, t, .. }, 2) => Some(Path::in_front(*g, *t, self.note.before())),
+            (Edit::MovePacket { g, t, .. }, 2) => Some(Path::in_front(
+                *g,
+                *t,
+                self.done.note.before(),
+            )),
             (Edit::MovePacket { g, t, after, .. }, 3) => Some(Path::behind(*g, *t, *after)),
             (Edit::AddGroup { .. }, 0) => Some(Path::Group(fresh, InGroup::Whole)),
             (Edit::AddGroup { after, .. }, 1) => Some(Path::behind_group(*after)),
-            (Edit::AddGroup { .. }, 2) => Some(Path::Identity(self.note.own())),
+            (Edit::AddGroup { .. }, 2) => Some(Path::Identity(self.done.note.own())),
             (Edit::DropGroup { g }, 0) => Some(Path::Group(*g, InGroup::Whole)),
-            (Edit::DropGroup { .. }, 1) => Some(Path::in_front_of_group(self.note.before())),
-            (Edit::DropGroup { .. }, 2) => Some(Path::Identity(self.note.own())),
+            (Edit::DropGroup { .. }, 1) => Some(Path::in_front_of_group(self.done.note.before())),
+            (Edit::DropGroup { .. }, 2) => Some(Path::Identity(self.done.note.own())),
             (Edit::Renumber { g, .. }, 0) => Some(Path::Group(*g, InGroup::Name)),
-            (Edit::Renumber { .. }, 1) => Some(Path::Identity(self.note.own())),
+            (Edit::Renumber { .. }, 1) => Some(Path::Identity(self.done.note.own())),
             (Edit::Renumber { number, .. }, 2) => Some(Path::Identity(Id {
-                country: self.note.own().country,
+                country: self.done.note.own().country,
                 number: *number,
             })),
             (Edit::TurnGroup { g }, 0) => Some(Path::Group(*g, InGroup::Turn)),
-            (Edit::TurnGroup { .. }, 1) => Some(Path::Identity(self.note.own())),
+            (Edit::TurnGroup { .. }, 1) => Some(Path::Identity(self.done.note.own())),
             _ => None,
         }
     }
@@ -70,7 +74,7 @@ impl Entry {
         ensures { result ≡ meets_any (path_of place.now) (changes self.now) }
     {
         let fresh = Tag::Fresh(self.serial);
-        match &self.edit {
+        match &self.done.edit {
             Edit::SetVar {
                 g,
                 t,
@@ -86,26 +90,26 @@ impl Entry {
             }
             Edit::DeletePacket { g, t, p } => {
                 place.meets(&Path::packet(*g, *t, *p, InPacket::Whole))
-                    | place.meets(&Path::in_front(*g, *t, self.note.before()))
+                    | place.meets(&Path::in_front(*g, *t, self.done.note.before()))
             }
             Edit::MovePacket { g, t, p, after } => {
                 place.meets(&Path::packet(*g, *t, *p, InPacket::Front))
                     | place.meets(&Path::packet(*g, *t, *p, InPacket::After))
-                    | place.meets(&Path::in_front(*g, *t, self.note.before()))
+                    | place.meets(&Path::in_front(*g, *t, self.done.note.before()))
                     | place.meets(&Path::behind(*g, *t, *after))
             }
             Edit::AddGroup { after, .. } => {
                 place.meets(&Path::Group(fresh, InGroup::Whole))
                     | place.meets(&Path::behind_group(*after))
-                    | place.meets(&Path::Identity(self.note.own()))
+                    | place.meets(&Path::Identity(self.done.note.own()))
             }
             Edit::DropGroup { g } => {
                 place.meets(&Path::Group(*g, InGroup::Whole))
-                    | place.meets(&Path::in_front_of_group(self.note.before()))
-                    | place.meets(&Path::Identity(self.note.own()))
+                    | place.meets(&Path::in_front_of_group(self.done.note.before()))
+                    | place.meets(&Path::Identity(self.done.note.own()))
             }
             Edit::Renumber { g, number } => {
-                let own = self.note.own();
+                let own = self.done.note.own();
                 let new = Id {
                     country: own.country,
                     number: *number,
@@ -116,7 +120,7 @@ impl Entry {
             }
             Edit::TurnGroup { g } => {
                 place.meets(&Path::Group(*g, InGroup::Turn))
-                    | place.meets(&Path::Identity(self.note.own()))
+                    | place.meets(&Path::Identity(self.done.note.own()))
             }
         }
     }
@@ -125,7 +129,7 @@ impl Entry {
     pub(crate) fn needed(&self) -> Option<Path>
         ensures { option_map path_of result ≡ needed_place self.now }
     {
-        match &self.edit {
+        match &self.done.edit {
             Edit::SetVar {
                 g,
                 t,
@@ -159,22 +163,22 @@ impl Entry {
     pub(crate) fn named(&self) -> &[Id]
         ensures { result.now ≡ needed_names self.now }
     {
-        match &self.edit {
+        match &self.done.edit {
             Edit::SetVar { var, .. } => {
                 if Var::QDir == *var {
                     &[]
                 } else if Var::QLinkorientation == *var {
-                    self.note.names()
+                    self.done.note.names()
                 } else if Var::NidBg == *var {
-                    self.note.names()
+                    self.done.note.names()
                 } else {
                     &[]
                 }
             }
-            Edit::InsertPacket { .. } => self.note.names(),
-            Edit::DeletePacket { .. } => self.note.names(),
-            Edit::AddGroup { .. } => self.note.names(),
-            Edit::DropGroup { .. } => self.note.names(),
+            Edit::InsertPacket { .. } => self.done.note.names(),
+            Edit::DeletePacket { .. } => self.done.note.names(),
+            Edit::AddGroup { .. } => self.done.note.names(),
+            Edit::DropGroup { .. } => self.done.note.names(),
             _ => &[],
         }
     }
@@ -184,7 +188,7 @@ impl Entry {
         ensures { option_map path_of result ≡ put_in self.now.0 }
     {
         let fresh = Tag::Fresh(self.serial);
-        match &self.edit {
+        match &self.done.edit {
             Edit::InsertPacket { g, t, .. } => Some(Path::packet(*g, *t, fresh, InPacket::Whole)),
             Edit::AddGroup { .. } => Some(Path::Group(fresh, InGroup::Whole)),
             _ => None,
@@ -196,7 +200,7 @@ impl Entry {
         ensures { option_map path_of result ≡ just_behind (put_in self.now.0) }
     {
         let fresh = Tag::Fresh(self.serial);
-        match &self.edit {
+        match &self.done.edit {
             Edit::InsertPacket { g, t, .. } => Some(Path::packet(*g, *t, fresh, InPacket::After)),
             Edit::AddGroup { .. } => Some(Path::Group(fresh, InGroup::After)),
             _ => None,
@@ -207,7 +211,7 @@ impl Entry {
     pub(crate) fn anchored_on(&self) -> Option<Path>
         ensures { option_map path_of result ≡ anchored_on self.now.0 }
     {
-        match &self.edit {
+        match &self.done.edit {
             Edit::InsertPacket {
                 g,
                 t,

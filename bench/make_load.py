@@ -112,6 +112,13 @@ def main(load, count):
         out.append("edits")
         for i in range(count):
             out.append(f"turn {name(i % 10000)}")
+    elif load == "journal":
+        plan(10000, out)
+        out.append(f"journal 2 {count + 1}")
+        for i in range(count):
+            before = 255 if i < 10000 else (i - 10000) % 256
+            out.append(f"{i + 1} seth b{i % 10000}/0 M_MCOUNT {i % 256} {before}")
+        out.append("edits")
     elif load == "drops":
         plan(10000, out)
         out.append("edits")

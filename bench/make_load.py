@@ -75,6 +75,12 @@ def main(load, count):
         plan(1, out)
         out.append("edits")
         out += ["seth 0.0 0 M_MCOUNT 7", "undo"] * (count // 2)
+    elif load == "sets":
+        plan(100, out)
+        out.append("edits")
+        for i in range(count // 2):
+            pkt = i // 100 % 2
+            out += [f"set {name(i % 100)} 0 {pkt} {['D_LINK', 'NID_TSR'][pkt]} 0 {i % 256}", "undo"]
     elif load == "mixed":
         plan(10000, out)
         out.append("edits")

@@ -1,7 +1,8 @@
 #!/usr/bin/env bash
 # All of the hostile use of the program, a line each: bench/hostile.sh PROGRAM OTHER FOLDER [LOADS]. OTHER reads the same
-# text, for damaged inputs (bench/damage_inputs.py says what it may be); FOLDER has further inputs. LOADS is a file for
-# the table of large inputs, which take some ten minutes, and are left out without it. Needs cc and Python 3.
+# text, for damaged inputs (bench/damage_inputs.py says what it may be); FOLDER has further inputs, for growths that are
+# refused. LOADS is a file for the table of large inputs, which take some ten minutes, and are left out without it. The
+# rest takes some five. Needs cc and Python 3.
 set -u
 program=$(realpath "$1")
 other=$(realpath "$2")
@@ -12,7 +13,7 @@ cd "$(dirname "$0")"
 failed=0
 bash statuses.sh "$program" || failed=1
 python3 refuse_growths.py "$program" ../examples "$cases" || failed=1
-python3 fail_devices.py "$program" ../examples "$cases" || failed=1
+python3 fail_devices.py "$program" ../examples || failed=1
 python3 damage_inputs.py "$program" "$other" ../examples/turned_group.plan ../examples/journal_read.plan || failed=1
 if [ -n "$loads" ]; then
     python3 hostile_loads.py "$program" > "$loads" || failed=1

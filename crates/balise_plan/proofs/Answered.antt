@@ -9,7 +9,6 @@ use Rattle.balise_rules.specs.declared.refusal.Refusal.{Refusal}
 use Rattle.balise_rules.specs.declared.refusal.Refusal.TheVariants.{NoSuchTelegram, OutOfMemory}
 use Rattle.std.specs.BTreeMap as map
 use Rattle.std.specs.BTreeSet as set
-use Rattle.balise_rules.specs.declared.identity.Id.{Id}
 use Rattle.balise_rules.specs.Doing.{refusal, done}
 use Rattle.balise_rules.specs.Edits.{Edit}
 use Rattle.balise_plan.specs.declared.links.LinkPlace.{LinkPlace}
@@ -28,9 +27,10 @@ use Rattle.balise_plan.proofs.Walking.{each-same, each-found, cond-each}
 use Rattle.balise_plan.proofs.Spots.{value-each}
 use Rattle.balise_plan.proofs.Placing.{same-item, unerr}
 use Rattle.balise_plan.proofs.Replaced.{with_telegram}
+use Rattle.balise_plan.specs.Links.{Falling}
 
 -- An edit done, and the indexes for what it makes.
-pub record Outcome (e : Edit) (ids : map.BTreeMap Id Tag) (names : map.BTreeMap Id (set.BTreeSet LinkPlace)) (plan new : Plan) : Type 0 where
+pub record Outcome (e : Edit) (ids : map.BTreeMap Falling Tag) (names : map.BTreeMap Falling (set.BTreeSet LinkPlace)) (plan new : Plan) : Type 0 where
   pub accepted : refusal e plan ≡ None
   pub is : new ≡ done (0, e) plan
   pub held : IsHeld ids names new

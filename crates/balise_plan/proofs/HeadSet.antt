@@ -4,7 +4,6 @@ use Rattle.std.specs.Map.{set_value}
 use Rattle.std.specs.BTreeMap as map
 use Rattle.std.specs.BTreeSet as set
 use Rattle.balise_rules.specs.declared.tag.Tag.{Tag}
-use Rattle.balise_rules.specs.declared.identity.Id.{Id}
 use Rattle.balise_rules.specs.declared.refusal.Refusal.{Refusal}
 use Rattle.balise_rules.specs.declared.variable.Var.{Var}
 use Rattle.balise_rules.specs.Tagged.{find}
@@ -25,8 +24,9 @@ use Rattle.balise_plan.specs.Held.{IsHeld}
 use Rattle.balise_plan.proofs.Replaced.{Replaces, held-kept}
 use Rattle.balise_plan.proofs.Answered.{Outcome, Refused, well, ill, by-telegram}
 use Rattle.balise_plan.proofs.TelegramEdits.{head-at, head-other, head-refused, head-lacking}
+use Rattle.balise_plan.specs.Links.{Falling}
 
-module _ (plan : rules.Plan) (ids : map.BTreeMap Id Tag) (names : map.BTreeMap Id (set.BTreeSet LinkPlace)) (held_is : IsHeld ids names plan) (g : Tag) (t : ℕ) (v : Var) (n : ℕ) (ys zs : Group) (here : find same_tag g plan ≡ Some ys) where
+module _ (plan : rules.Plan) (ids : map.BTreeMap Falling Tag) (names : map.BTreeMap Falling (set.BTreeSet LinkPlace)) (held_is : IsHeld ids names plan) (g : Tag) (t : ℕ) (v : Var) (n : ℕ) (ys zs : Group) (here : find same_tag g plan ≡ Some ys) where
   pub refused : (e : Refusal) → Within eqb t no_telegram (Passed (SetsHead v n)) ys (Err e) zs → Refused (SetHead g t v n) plan (set_value (same_tag g) plan zs) e
   refused e w =
       ill g t plan held_is.sound ys zs here (SetsHead v n) e w

@@ -125,6 +125,15 @@ unfolding IsStrictlySortedBy
 ordered-none [] e = tt
 ordered-none (v ∷ vs) e = absurd cc
 
+-- ---- one place by itself
+
+pub ordered-one : (w : LinkPlace) → IsStrictlySortedBy compare_place (w ∷ [])
+unfolding IsStrictlySortedBy
+ordered-one w = (tt, tt)
+
+pub puts-one : (w : LinkPlace) → PutsIn [] (w ∷ []) w true
+puts-one w = puts-in w [] 0
+
 -- ---- a list that is put into a tree place by place
 
 pub among-next : (p v : LinkPlace) (vs : List LinkPlace) (i : ℕ) → slice_get vs i ≡ Some p → among v (take (suc i) vs) ≡ cond (is_place p v) true (among v (take i vs))
@@ -208,3 +217,13 @@ first-none w vs = by (nat_lt (rank w vs) (length vs)) refl
     by : (b : Bool) → nat_lt (rank w vs) (length vs) ≡ b → None ≡ cond b (Some (rank w vs)) None → length vs ≡ rank w vs
     by true l e = absurd (let no : None ≡ Some (rank w vs) = e in cc)
     by false l e = let a = rank-within w vs in let b = ltb-false (rank w vs) (length vs) l in omega (arith, a, b)
+
+-- ---- one place by itself, taken out
+
+pub takes-one : (w x : LinkPlace) → is_place w x ≡ true → PutsIn (x ∷ []) [] w false
+takes-one w x e = takes-out w (x ∷ []) 0 (ordered-one x) e
+
+pub keeps-one : (w x : LinkPlace) → is_place w x ≡ false → PutsIn (x ∷ []) (x ∷ []) w false
+keeps-one w x e v = split_on (is_place w v)
+    (λ d. ap (λ y. is_place y x || false) (sym (place_one w v d)) ∙ ap (λ b. b || false) e ∙ ap (λ b. cond b false (is_place v x || false)) (sym d))
+    (λ d. ap (λ b. cond b false (is_place v x || false)) (sym d))

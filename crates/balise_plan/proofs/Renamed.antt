@@ -33,10 +33,10 @@ use Rattle.balise_edit_laws.proofs.Refusing.{refused_exactly}
 use Rattle.balise_edit_laws.proofs.SoundKept.{groups_kept, sound_parts}
 use Rattle.balise_plan.specs.declared.links.LinkPlace.{LinkPlace}
 use Rattle.balise_plan.specs.declared.change.Change.TheVariants.{Name}
-use Rattle.balise_plan.specs.Links.{compare_id, is_id, held, in_links, named_at, Moves, AreFull}
+use Rattle.balise_plan.specs.Links.{Falling, indexed, is_id, held, in_links, named_at, Moves, AreFull}
 use Rattle.balise_plan.specs.Walks.{change_all, places_of, renumbered_heads}
 use Rattle.balise_plan.specs.Held.{IsHeld, tag_named}
-use Rattle.balise_plan.proofs.Comparing.{id_is, id_itself}
+use Rattle.balise_plan.proofs.Comparing.{id_one, id_is, id_itself}
 use Rattle.balise_plan.proofs.Walking.{among_after, change-all, all-same, all-name, found-each}
 use Rattle.balise_plan.specs.Walks.{among}
 use Rattle.balise_plan.proofs.Renaming.{keyed, renumber-is}
@@ -161,7 +161,7 @@ module _ (plan : rules.Plan) (sound : IsSound plan) (g0 : Tag) (ys0 : Group) (n 
         (λ d q. simp d (ap (λ (j : Id). record { country = j.country; number = n }) q))
         (λ d. simp d))
 
-    module _ (names : map.BTreeMap Id (set.BTreeSet LinkPlace)) (index : (q : Id) (w : LinkPlace) → held names q w ≡ named_at q w plan) (empty : map.get compare_id names to ≡ None) (after : map.BTreeMap Id (set.BTreeSet LinkPlace)) (moves : Moves names after from to) where
+    module _ (names : map.BTreeMap Falling (set.BTreeSet LinkPlace)) (index : (q : Id) (w : LinkPlace) → held names q w ≡ named_at q w plan) (empty : indexed names to ≡ None) (after : map.BTreeMap Falling (set.BTreeSet LinkPlace)) (moves : Moves names after from to) where
       pub names_new : (q : Id) (w : LinkPlace) → held after q w ≡ named_at q w new
       names_new q w = moves q w ∙ ap (λ b. cond b (held names from w) (cond (is_id from q) false (held names q w))) (id_is to q) ∙ ap (λ b. cond (same_id to q) (held names from w) (cond b false (held names q w))) (id_is from q)
           ∙ ap (λ b. cond (same_id to q) b (cond (same_id from q) false (held names q w))) (index from w ∙ named-is from w plan) ∙ ap (λ b. cond (same_id to q) (is_real from && is_the from (id_at w plan)) (cond (same_id from q) false b)) (index q w ∙ named-is q w plan)
@@ -207,35 +207,35 @@ module _ (plan : rules.Plan) (sound : IsSound plan) (g0 : Tag) (ys0 : Group) (n 
               (λ d k. let jq : same_id j q ≡ false = ap (λ u. same_id u q) k ∙ b in simp (a, b, d, jq))
               (λ d. simp (a, b, d))))
 
-      among_is : (w : LinkPlace) → among w (places_of (map.get compare_id after to)) ≡ named_at from w plan
-      among_is w = in-places (map.get compare_id after to) ∙ moves to w ∙ ap (λ b. cond b (held names from w) (cond (is_id from to) false (held names to w))) (id_itself to) ∙ index from w
+      among_is : (w : LinkPlace) → among w (places_of (indexed after to)) ≡ named_at from w plan
+      among_is w = in-places (indexed after to) ∙ moves to w ∙ ap (λ b. cond b (held names from w) (cond (is_id from to) false (held names to w))) (id_itself to) ∙ index from w
         where
           in-places : (o : Option (set.BTreeSet LinkPlace)) → among w (places_of o) ≡ in_links o w
           in-places None = refl
           in-places (Some s) = refl
 
       -- the walk by the index makes the new plan
-      pub walked : renumbered_heads g0 n (change_all (Name n) (places_of (map.get compare_id after to)) plan) ≡ new
+      pub walked : renumbered_heads g0 n (change_all (Name n) (places_of (indexed after to)) plan) ≡ new
       walked =
-          let ws = places_of (map.get compare_id after to) in
+          let ws = places_of (indexed after to) in
           ap (renumbered_heads g0 n) (change-all (Name n) ws plan (keyed plan sound) ∙ all-same _ (among_after (Name n) ws) (λ g t p key v. all-name n ws g t p key v) plan)
           ∙ renumber-is 0 g0 n from ws plan sound real_from among_is
 
 -- ---- what the code knows when it has renumbered the group whose identity is `own`
 
-pub record Steps (plan : rules.Plan) (g0 : Tag) (n : ℕ) (own : Id) (ids first ids_after : map.BTreeMap Id Tag) (names after : map.BTreeMap Id (set.BTreeSet LinkPlace)) (walked_groups groups : rules.Plan) : Type 0 where
-  pub tags : (q : Id) → map.get compare_id ids q ≡ tag_named q plan
-  pub put : (q : Id) → map.get compare_id first q ≡ cond (is_id (record { country = own.country; number = n }) q) (Some g0) (map.get compare_id ids q)
-  pub taken_out : (q : Id) → map.get compare_id ids_after q ≡ cond (is_id own q) None (map.get compare_id first q)
+pub record Steps (plan : rules.Plan) (g0 : Tag) (n : ℕ) (own : Id) (ids first ids_after : map.BTreeMap Falling Tag) (names after : map.BTreeMap Falling (set.BTreeSet LinkPlace)) (walked_groups groups : rules.Plan) : Type 0 where
+  pub tags : (q : Id) → indexed ids q ≡ tag_named q plan
+  pub put : (q : Id) → indexed first q ≡ cond (is_id (record { country = own.country; number = n }) q) (Some g0) (indexed ids q)
+  pub taken_out : (q : Id) → indexed ids_after q ≡ cond (is_id own q) None (indexed first q)
   pub index : (q : Id) (w : LinkPlace) → held names q w ≡ named_at q w plan
   pub moves : Moves names after own (record { country = own.country; number = n })
   pub full : AreFull after
-  pub no_id : is_some (map.get compare_id ids (record { country = own.country; number = n })) ≡ false
-  pub no_name : is_some (map.get compare_id names (record { country = own.country; number = n })) ≡ false
-  pub links : walked_groups ≡ change_all (Name n) (places_of (map.get compare_id after (record { country = own.country; number = n }))) plan
+  pub no_id : is_some (indexed ids (record { country = own.country; number = n })) ≡ false
+  pub no_name : is_some (indexed names (record { country = own.country; number = n })) ≡ false
+  pub links : walked_groups ≡ change_all (Name n) (places_of (indexed after (record { country = own.country; number = n }))) plan
   pub heads : groups ≡ renumbered_heads g0 n walked_groups
 
-pub record Outcome (plan : rules.Plan) (g0 : Tag) (n : ℕ) (ids : map.BTreeMap Id Tag) (names : map.BTreeMap Id (set.BTreeSet LinkPlace)) (groups : rules.Plan) : Type 0 where
+pub record Outcome (plan : rules.Plan) (g0 : Tag) (n : ℕ) (ids : map.BTreeMap Falling Tag) (names : map.BTreeMap Falling (set.BTreeSet LinkPlace)) (groups : rules.Plan) : Type 0 where
   pub accepted : refusal (Renumber g0 n) plan ≡ None
   pub is : groups ≡ done (0, Renumber g0 n) plan
   pub held : IsHeld ids names groups
@@ -244,16 +244,23 @@ none-of : {A : Type 0} (o : Option A) → is_some o ≡ false → o ≡ None
 none-of None e = refl
 none-of (Some x) e = absurd (true≢false e)
 
+-- what was put under a new identity and taken out again leaves all as it was
+pub there_and_back : (m mid n : map.BTreeMap Falling Tag) (to : Id) (g : Tag) → is_some (indexed m to) ≡ false → ((r : Id) → indexed mid r ≡ cond (is_id to r) (Some g) (indexed m r)) → ((r : Id) → indexed n r ≡ cond (is_id to r) None (indexed mid r)) → (r : Id) → indexed n r ≡ indexed m r
+there_and_back m mid n to g e put out r =
+    split_on (is_id to r)
+    (λ d. out r ∙ ap (λ b. cond b None (indexed mid r)) d ∙ sym (ap (indexed m) (sym (id_one to r d)) ∙ none-of (indexed m to) e))
+    (λ d. out r ∙ ap (λ b. cond b None (indexed mid r)) d ∙ put r ∙ ap (λ b. cond b (Some g) (indexed m r)) d)
+
 none-map : {A B : Type 0} (f : A → B) (o : Option A) → option_map f o ≡ None → o ≡ None
 none-map f None e = refl
 none-map f (Some x) e = absurd cc
 
-module _ (plan : rules.Plan) (sound : IsSound plan) (g0 : Tag) (ys0 : Group) (n : ℕ) (here : find same_tag g0 plan ≡ Some ys0) (small : n < 16384) (other : n ≢ 16383) (ids first ids_after : map.BTreeMap Id Tag) (names after : map.BTreeMap Id (set.BTreeSet LinkPlace)) (walked_groups groups : rules.Plan) where
+module _ (plan : rules.Plan) (sound : IsSound plan) (g0 : Tag) (ys0 : Group) (n : ℕ) (here : find same_tag g0 plan ≡ Some ys0) (small : n < 16384) (other : n ≢ 16383) (ids first ids_after : map.BTreeMap Falling Tag) (names after : map.BTreeMap Falling (set.BTreeSet LinkPlace)) (walked_groups groups : rules.Plan) where
   finished : Steps plan g0 n (identity_of ys0) ids first ids_after names after walked_groups groups → Outcome plan g0 n ids_after after groups
   finished s =
       let i : Id = record { country = (identity_of ys0).country; number = n } in
-      let empty = none-of (map.get compare_id names i) s.no_name in
-      let no_group : group_named i plan ≡ None = none-map (λ (y : Tag × Group). y.0) (group_named i plan) (sym (s.tags i) ∙ none-of (map.get compare_id ids i) s.no_id) in
+      let empty = none-of (indexed names i) s.no_name in
+      let no_group : group_named i plan ≡ None = none-map (λ (y : Tag × Group). y.0) (group_named i plan) (sym (s.tags i) ∙ none-of (indexed ids i) s.no_id) in
       let no_name : is_named i plan ≡ false = untold names plan sound s.index i empty in
       let e : groups ≡ effect (0, Renumber g0 n) (identity_of ys0) plan = s.heads ∙ ap (renumbered_heads g0 n) s.links ∙ walked plan sound g0 ys0 n here small other no_group no_name names s.index empty after s.moves in
       record {
@@ -278,25 +285,25 @@ some-map : {A B : Type 0} (f : A → B) (o : Option A) → is_some (option_map f
 some-map f None = refl
 some-map f (Some x) = refl
 
-module _ (plan : rules.Plan) (ids : map.BTreeMap Id Tag) (names : map.BTreeMap Id (set.BTreeSet LinkPlace)) (held_is : IsHeld ids names plan) where
-  known_id : (i : Id) → is_some (map.get compare_id ids i) ≡ is_some (group_named i plan)
+module _ (plan : rules.Plan) (ids : map.BTreeMap Falling Tag) (names : map.BTreeMap Falling (set.BTreeSet LinkPlace)) (held_is : IsHeld ids names plan) where
+  pub known_id : (i : Id) → is_some (indexed ids i) ≡ is_some (group_named i plan)
   known_id i = ap is_some (held_is.tags i) ∙ some-map (λ (y : Tag × Group). y.0) (group_named i plan)
 
-  known_name : (i : Id) → is_some (map.get compare_id names i) ≡ is_named i plan
+  known_name : (i : Id) → is_some (indexed names i) ≡ is_named i plan
   known_name i =
-      split_on (is_some (map.get compare_id names i))
+      split_on (is_some (indexed names i))
       (λ e. e ∙ sym (told names plan held_is.sound held_is.named i held_is.full e))
-      (λ e. e ∙ sym (untold names plan held_is.sound held_is.named i (none-of (map.get compare_id names i) e)))
+      (λ e. e ∙ sym (untold names plan held_is.sound held_is.named i (none-of (indexed names i) e)))
 
   module _ (g0 : Tag) (ys0 : Group) (n : ℕ) (here : find same_tag g0 plan ≡ Some ys0) where
-    pub known_taken : n < 16384 → n ≢ 16383 → (own : Id) → own ≡ identity_of ys0 → (is_some (map.get compare_id ids (record { country = own.country; number = n })) || is_some (map.get compare_id names (record { country = own.country; number = n }))) ≡ true → refusal (Renumber g0 n) plan ≡ Some NumberTaken
+    pub known_taken : n < 16384 → n ≢ 16383 → (own : Id) → own ≡ identity_of ys0 → (is_some (indexed ids (record { country = own.country; number = n })) || is_some (indexed names (record { country = own.country; number = n }))) ≡ true → refusal (Renumber g0 n) plan ≡ Some NumberTaken
     known_taken l r own e k =
         let i = renumbered (Some ys0) n in
-        let q = ap (λ (j : Id). is_some (map.get compare_id ids (record { country = j.country; number = n })) || is_some (map.get compare_id names (record { country = j.country; number = n }))) e in
-        is_taken g0 n plan ys0 here l r (ap (λ b. b || is_named i plan) (sym (known_id i)) ∙ ap (λ b. is_some (map.get compare_id ids i) || b) (sym (known_name i)) ∙ sym q ∙ k)
+        let q = ap (λ (j : Id). is_some (indexed ids (record { country = j.country; number = n })) || is_some (indexed names (record { country = j.country; number = n }))) e in
+        is_taken g0 n plan ys0 here l r (ap (λ b. b || is_named i plan) (sym (known_id i)) ∙ ap (λ b. is_some (indexed ids i) || b) (sym (known_name i)) ∙ sym q ∙ k)
 
-    pub moved_apart : (own : Id) → own ≡ identity_of ys0 → (is_some (map.get compare_id ids (record { country = own.country; number = n })) || is_some (map.get compare_id names (record { country = own.country; number = n }))) ≡ false → own ≢ (record { country = own.country; number = n })
+    pub moved_apart : (own : Id) → own ≡ identity_of ys0 → (is_some (indexed ids (record { country = own.country; number = n })) || is_some (indexed names (record { country = own.country; number = n }))) ≡ false → own ≢ (record { country = own.country; number = n })
     moved_apart own e k same =
         let h = or_parts _ _ k in
-        let t : map.get compare_id ids own ≡ Some g0 = held_is.tags own ∙ tag-named own plan held_is.sound g0 ys0 here (ap (λ j. same_id j own) (sym e) ∙ id_test.itself own) in
-        true≢false (sym (ap is_some t) ∙ ap (λ j. is_some (map.get compare_id ids j)) same ∙ h.0)
+        let t : indexed ids own ≡ Some g0 = held_is.tags own ∙ tag-named own plan held_is.sound g0 ys0 here (ap (λ j. same_id j own) (sym e) ∙ id_test.itself own) in
+        true≢false (sym (ap is_some t) ∙ ap (λ j. is_some (indexed ids j)) same ∙ h.0)

@@ -15,7 +15,7 @@ use Rattle.balise_rules.specs.Names.{Names, is_named, is_real, is_it, calls, cou
 use Rattle.balise_rules.proofs.Tests.{split_on, id_test}
 use Rattle.balise_edit_laws.proofs.Naming.{no_name_from, no_name_to}
 use Rattle.balise_plan.specs.declared.links.LinkPlace.{LinkPlace}
-use Rattle.balise_plan.specs.Links.{compare_id, compare_place, is_place, held, in_links, named_at, named_in_telegram, named_in_packet, AreFull}
+use Rattle.balise_plan.specs.Links.{Falling, indexed, compare_place, is_place, held, in_links, named_at, named_in_telegram, named_in_packet, AreFull}
 use Rattle.balise_plan.proofs.Walking.{place}
 use Rattle.balise_plan.proofs.Comparing.{places}
 
@@ -46,20 +46,20 @@ place-names i plan w e = let h = and_parts (is_real i) _ e in in-telegram h.0 (t
     in-telegram r None s c = absurd (true≢false (sym c))
     in-telegram r (Some y) s c = in-packets r y s (find same_tag w.packet y.packets) refl c
 
-module _ (names : map.BTreeMap Id (set.BTreeSet LinkPlace)) (plan : Plan) (sound : IsSound plan) (index : (q : Id) (w : LinkPlace) → held names q w ≡ named_at q w plan) where
-  pub untold : (i : Id) → map.get compare_id names i ≡ None → is_named i plan ≡ false
+module _ (names : map.BTreeMap Falling (set.BTreeSet LinkPlace)) (plan : Plan) (sound : IsSound plan) (index : (q : Id) (w : LinkPlace) → held names q w ≡ named_at q w plan) where
+  pub untold : (i : Id) → indexed names i ≡ None → is_named i plan ≡ false
   untold i e = no_name_to i plan sound (λ g t p k n. true≢false (sym (named-place i plan (place g t p k) n) ∙ sym (index i (place g t p k)) ∙ ap (λ o. in_links o (place g t p k)) e))
 
-  pub told : (i : Id) → AreFull names → is_some (map.get compare_id names i) ≡ true → is_named i plan ≡ true
-  told i full e = by (map.get compare_id names i) refl e (full i)
+  pub told : (i : Id) → AreFull names → is_some (indexed names i) ≡ true → is_named i plan ≡ true
+  told i full e = by (indexed names i) refl e (full i)
     where
-      some : (s : set.BTreeSet LinkPlace) → map.get compare_id names i ≡ Some s → (ks : List LinkPlace) → s.keys ≡ ks → 0 < length ks → is_named i plan ≡ true
+      some : (s : set.BTreeSet LinkPlace) → indexed names i ≡ Some s → (ks : List LinkPlace) → s.keys ≡ ks → 0 < length ks → is_named i plan ≡ true
       some s h [] k l = absurd (omega (arith, l))
       some s h (w ∷ ws) k l =
           let c : set.contains compare_place s w ≡ true = ap (λ zs. set.contains compare_place (record { keys = zs }) w) k ∙ (let p = place_itself w in simp p) in
           let n : named_at i w plan ≡ true = sym (index i w) ∙ ap (λ o. in_links o w) h ∙ c in
           split_on (is_named i plan) (λ y. y) (λ y. absurd (no_name_from i plan y w.group w.telegram w.packet w.element (place-names i plan w n)))
 
-      by : (o : Option (set.BTreeSet LinkPlace)) → map.get compare_id names i ≡ o → is_some o ≡ true → IfSome o (λ s. 0 < set.btree_set_len s) → is_named i plan ≡ true
+      by : (o : Option (set.BTreeSet LinkPlace)) → indexed names i ≡ o → is_some o ≡ true → IfSome o (λ s. 0 < set.btree_set_len s) → is_named i plan ≡ true
       by None h y f = absurd (true≢false (sym y))
       by (Some s) h y f = some s h s.keys refl f

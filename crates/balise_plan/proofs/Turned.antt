@@ -27,7 +27,7 @@ use Rattle.balise_rules.proofs.Reversed.{find-reverse}
 use Rattle.balise_edit_laws.proofs.SoundKept.{groups_kept, sound_parts}
 use Rattle.balise_plan.specs.declared.links.LinkPlace.{LinkPlace}
 use Rattle.balise_plan.specs.declared.change.Change.TheVariants.{Flip}
-use Rattle.balise_plan.specs.Links.{compare_id, in_links, named_at}
+use Rattle.balise_plan.specs.Links.{Falling, indexed, in_links, named_at}
 use Rattle.balise_plan.specs.Walks.{change_all, places_of, turned_in, FitsTotals, FitsIn}
 use Rattle.balise_plan.specs.Held.{IsHeld, tag_named}
 use Rattle.balise_plan.proofs.Walking.{among_after, all_once, group_fields, change-all, all-same, all-flip, found-each}
@@ -67,12 +67,12 @@ map-id (Some x) = refl
 
 -- ---- turning
 
-pub record TurnOutcome (plan : rules.Plan) (g0 : Tag) (ids : map.BTreeMap Id Tag) (names : map.BTreeMap Id (set.BTreeSet LinkPlace)) (groups : rules.Plan) : Type 0 where
+pub record TurnOutcome (plan : rules.Plan) (g0 : Tag) (ids : map.BTreeMap Falling Tag) (names : map.BTreeMap Falling (set.BTreeSet LinkPlace)) (groups : rules.Plan) : Type 0 where
   pub accepted : refusal (TurnGroup g0) plan ≡ None
   pub is : groups ≡ done (0, TurnGroup g0) plan
   pub held : IsHeld ids names groups
 
-module _ (plan : rules.Plan) (ids : map.BTreeMap Id Tag) (names : map.BTreeMap Id (set.BTreeSet LinkPlace)) (held_is : IsHeld ids names plan) (g0 : Tag) (ys0 : Group) (here : find same_tag g0 plan ≡ Some ys0) where
+module _ (plan : rules.Plan) (ids : map.BTreeMap Falling Tag) (names : map.BTreeMap Falling (set.BTreeSet LinkPlace)) (held_is : IsHeld ids names plan) (g0 : Tag) (ys0 : Group) (here : find same_tag g0 plan ≡ Some ys0) where
   accepted : Accepted (TurnGroup g0) plan
   accepted = (tt, (ys0, here))
 
@@ -121,16 +121,16 @@ module _ (plan : rules.Plan) (ids : map.BTreeMap Id Tag) (names : map.BTreeMap I
   real : is_real (identity_of ys0) ≡ true
   real = ap not (ne_eqb (identity_of ys0).number reserved (group_sound plan held_is.sound g0 ys0 here).number)
 
-  among_is : (w : LinkPlace) → among w (places_of (map.get compare_id names (identity_of ys0))) ≡ named_at (identity_of ys0) w plan
-  among_is w = in-places (map.get compare_id names (identity_of ys0)) ∙ held_is.named (identity_of ys0) w
+  among_is : (w : LinkPlace) → among w (places_of (indexed names (identity_of ys0))) ≡ named_at (identity_of ys0) w plan
+  among_is w = in-places (indexed names (identity_of ys0)) ∙ held_is.named (identity_of ys0) w
     where
       in-places : (o : Option (set.BTreeSet LinkPlace)) → among w (places_of o) ≡ in_links o w
       in-places None = refl
       in-places (Some s) = refl
 
-  turned : (walked groups : rules.Plan) → Once (places_of (map.get compare_id names (identity_of ys0))) → walked ≡ change_all Flip (places_of (map.get compare_id names (identity_of ys0))) plan → groups ≡ turned_in g0 walked → TurnOutcome plan g0 ids names groups
+  turned : (walked groups : rules.Plan) → Once (places_of (indexed names (identity_of ys0))) → walked ≡ change_all Flip (places_of (indexed names (identity_of ys0))) plan → groups ≡ turned_in g0 walked → TurnOutcome plan g0 ids names groups
   turned walked groups once links heads =
-      let ws = places_of (map.get compare_id names (identity_of ys0)) in
+      let ws = places_of (indexed names (identity_of ys0)) in
       let e : groups ≡ new = heads ∙ ap (turned_in g0) (links ∙ change-all Flip ws plan (keyed plan held_is.sound) ∙ all-same _ (among_after Flip ws) (λ g t p key v. all-flip ws once g t p key v) plan)
       ∙ turn-is 0 g0 (identity_of ys0) ws plan held_is.sound real among_is in
       record {
@@ -140,9 +140,9 @@ module _ (plan : rules.Plan) (ids : map.BTreeMap Id Tag) (names : map.BTreeMap I
       }
 
   -- the same of the identity that the code has
-  pub turn : (own : Id) → own ≡ identity_of ys0 → (walked groups : rules.Plan) → Once (places_of (map.get compare_id names own)) → walked ≡ change_all Flip (places_of (map.get compare_id names own)) plan → groups ≡ turned_in g0 walked → TurnOutcome plan g0 ids names groups
+  pub turn : (own : Id) → own ≡ identity_of ys0 → (walked groups : rules.Plan) → Once (places_of (indexed names own)) → walked ≡ change_all Flip (places_of (indexed names own)) plan → groups ≡ turned_in g0 walked → TurnOutcome plan g0 ids names groups
   turn own e walked groups once links heads =
-      turned walked groups (subst (λ i. Once (places_of (map.get compare_id names i))) e once) (links ∙ ap (λ i. change_all Flip (places_of (map.get compare_id names i)) plan) e) heads
+      turned walked groups (subst (λ i. Once (places_of (indexed names i))) e once) (links ∙ ap (λ i. change_all Flip (places_of (indexed names i)) plan) e) heads
 
 totals-fields : (h : ℕ → Tag → Key → ℕ → ℕ) (ys : Group) → FitsTotals ys → FitsTotals (group_fields h ys)
 totals-fields h [] u = tt

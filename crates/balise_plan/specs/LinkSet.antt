@@ -1,14 +1,16 @@
--- The places that name one identity, in a list or in a tree.
-use Rattle.std.specs.Prelude.{◌≡◌, ℕ, Bool, false, cond, List, Option, Some, None}
+-- The places that name one identity: none, one, in a list or in a tree.
+use Rattle.std.specs.Prelude.{◌≡◌, ℕ, Bool, false, cond, List, [], ◌∷◌, Option, Some, None}
 use Rattle.std.specs.List.{position_or_len}
 use Rattle.std.specs.Ordering.{is_le}
 use Rattle.balise_plan.specs.declared.links.LinkPlace.{LinkPlace}
 use Rattle.balise_plan.specs.declared.link_set.Held.{Held}
-use Rattle.balise_plan.specs.declared.link_set.Held.TheVariants.{Few, Many}
+use Rattle.balise_plan.specs.declared.link_set.Held.TheVariants.{Empty, One, Few, Many}
 use Rattle.balise_plan.specs.Links.{Links, compare_place, is_place}
 use Rattle.balise_plan.specs.Walks.{among}
 
 abbrev pub places_held : Held → Links
+places_held Empty = record { keys = [] }
+places_held (One w) = record { keys = w ∷ [] }
 places_held (Few list) = record { keys = list.items }
 places_held (Many tree) = tree
 

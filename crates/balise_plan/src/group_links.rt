@@ -16,6 +16,7 @@ use crate::names::{add, forget};
 use balise_rules::{Id, Refusal, Tag};
 use balise_telegram::Balise;
 use std::alloc::{AllocError, Global};
+use std::cmp::Reverse;
 use std::collections::BTreeMap;
 
 /// Each link of a group with its place, in order.
@@ -85,7 +86,11 @@ fn add_packet(
 }
 
 /// Forgets the first `n` of these links. Takes no memory.
-pub(crate) fn forget_first(names: &mut BTreeMap<Id, Links>, links: &Vec<(Id, LinkPlace)>, n: usize)
+pub(crate) fn forget_first(
+    names: &mut BTreeMap<Reverse<Id>, Links>,
+    links: &Vec<(Id, LinkPlace)>,
+    n: usize,
+)
     requires { n ≤ length links.now.items }
     ensures forgotten { ForgetsAll (take n links.now.items) names.old names.new }
     ensures full { AreFull names.old → AreFull names.new }
@@ -99,7 +104,7 @@ pub(crate) fn forget_first(names: &mut BTreeMap<Id, Links>, links: &Vec<(Id, Lin
 /// Notes these links, of which none is noted. Leaves all as before where memory is wanting.
 pub(crate) fn add_all(
     alloc: Global,
-    names: &mut BTreeMap<Id, Links>,
+    names: &mut BTreeMap<Reverse<Id>, Links>,
     links: &Vec<(Id, LinkPlace)>,
 ) -> Result<(), AllocError>
     requires none { (q : Id) (w : LinkPlace) → listed q w links.now.items ≡ true → held names.old q w ≡ false }

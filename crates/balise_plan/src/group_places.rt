@@ -1,12 +1,11 @@
 //! A group put into a plan's groups and indexes.
 
 ghost use Rattle.std.specs.Prelude.{◌≡◌, ◌≤◌, is_some, insert, IfErr, IfSome, None, OnOk};
-ghost use Rattle.std.specs.BTreeMap.{get};
 ghost use Rattle.balise_rules.specs.Plan.{group_named, identity_of, Group as GroupValue, IsSoundGroup};
 ghost use Rattle.balise_rules.specs.Tagged.{find};
 ghost use Rattle.balise_rules.specs.Tags.{same_tag};
 ghost use Rattle.balise_plan.specs.Held.{IsHeld};
-ghost use Rattle.balise_plan.specs.Links.{compare_id};
+ghost use Rattle.balise_plan.specs.Links.{indexed};
 ghost use Rattle.balise_plan.specs.Spots.{put_in, spot_stands};
 ghost use Rattle.indexmap.specs.IndexMap.{index_map_len};
 
@@ -17,6 +16,7 @@ use crate::spot::Spot;
 use balise_rules::{Id, Tag};
 use indexmap::IndexMap;
 use std::alloc::{AllocFailed, Global};
+use std::cmp::Reverse;
 use std::collections::BTreeMap;
 
 /// The place that a spot names.
@@ -37,24 +37,25 @@ pub(crate) fn place_of(groups: &IndexMap<Tag, Group>, spot: Spot<Tag>) -> Option
     }
 }
 
-/// Whether a group has an identity. Groups mostly come in the order of their identities, so the last is seen first.
-pub(crate) fn is_taken(identities: &BTreeMap<Id, Tag>, id: Id) -> bool
-    ensures { result ≡ is_some (get compare_id identities.now id) }
+/// Whether a group has an identity. Groups mostly come in the order of their identities, so the largest is seen first.
+pub(crate) fn is_taken(identities: &BTreeMap<Reverse<Id>, Tag>, id: Id) -> bool
+    ensures { result ≡ is_some (indexed identities.now id) }
 {
-    if let Some((last, _)) = identities.last_key_value() {
-        if last.cmp(&id).is_lt() {
+    let key = Reverse(id);
+    if let Some((largest, _)) = identities.first_key_value() {
+        if key.cmp(largest).is_lt() {
             return false;
         }
     }
-    identities.get(&id).is_some()
+    identities.get(&key).is_some()
 }
 
 /// Puts a group of a new identity in at a place, under a tag that is new, and notes its identity and its links. Where
 /// memory is wanting, all stays and the group is handed back.
 pub(crate) fn put_at(
     groups: &mut IndexMap<Tag, Group>,
-    identities: &mut BTreeMap<Id, Tag>,
-    names: &mut BTreeMap<Id, Links>,
+    identities: &mut BTreeMap<Reverse<Id>, Tag>,
+    names: &mut BTreeMap<Reverse<Id>, Links>,
     i: usize,
     g: Tag,
     group: Group,
@@ -77,11 +78,11 @@ pub(crate) fn put_at(
     if groups.reserve(1).is_err() {
         return Err(group);
     }
-    if identities.insert(own, g).is_err() {
+    if identities.insert(Reverse(own), g).is_err() {
         return Err(group);
     }
     if add_all(alloc, names, &links).is_err() {
-        let _ = identities.remove(&own);
+        let _ = identities.remove(&Reverse(own));
         return Err(group);
     }
     match groups.shift_insert(i, g, group) {

@@ -1,6 +1,7 @@
 //! The places that name one identity.
 
-ghost use Rattle.std.specs.Prelude.{◌≡◌, ◌<◌, IfOk, OnErr, OnOk, IsTrue, ◌↔◌, true, false};
+ghost use Rattle.std.specs.Prelude.{◌≡◌, ◌<◌, [], ◌∷◌, length, IfOk, OnErr, OnOk, IsTrue, ◌↔◌, true, false};
+ghost use Rattle.std.specs.List.Sorted.{IsStrictlySortedBy};
 ghost use Rattle.std.specs.BTreeSet.{btree_set_len, contains, IsEmpty, IsOrdered};
 ghost use Rattle.balise_plan.specs.LinkSet.{places_held, Puts, PutsIn};
 ghost use Rattle.balise_plan.specs.Links.{compare_place};
@@ -17,9 +18,12 @@ pub struct Links {
     held: Held,
 }
 
-/// A few places in a list, which takes no more memory than they need; more in a tree, where a change moves few of them.
+/// One place by itself, as most identities are named once; a few in a list, which takes no more memory than they need;
+/// more in a tree, where a change moves few of them.
 #[derive(Debug, Drop)]
 pub(crate) enum Held {
+    Empty,
+    One(LinkPlace),
     Few(Vec<LinkPlace>),
     Many(BTreeSet<LinkPlace>),
 }
@@ -45,6 +49,8 @@ impl Links {
         ensures { result ≡ btree_set_len self.now }
     {
         match &self.held {
+            Held::Empty => 0,
+            Held::One(_) => 1,
             Held::Few(list) => list.len(),
             Held::Many(tree) => tree.len(),
         }
@@ -62,6 +68,8 @@ impl Links {
         ensures { result ≡ contains compare_place self.now place.now }
     {
         match &self.held {
+            Held::Empty => false,
+            Held::One(held) => place.cmp(held).is_eq(),
             Held::Few(list) => link_list::contains(list, place),
             Held::Many(tree) => tree.contains(place),
         }
@@ -73,18 +81,18 @@ impl Links {
         ensures ordered { IsOrdered compare_place self.now }
     {
         match &self.held {
+            Held::Empty => Ok(Vec::new(alloc)),
+            Held::One(held) => Vec::from_slice(alloc, &[*held]),
             Held::Few(list) => Vec::from_slice(alloc, list.as_slice()),
             Held::Many(tree) => list_of(alloc, tree),
         }
     }
 
     /// None.
-    pub(crate) fn new(alloc: Global) -> Links
+    pub(crate) fn new() -> Links
         ensures { IsEmpty result }
     {
-        Links {
-            held: Held::Few(Vec::new(alloc)),
-        }
+        Links { held: Held::Empty }
     }
 
     /// Puts a place in. Leaves all as before where memory is wanting.
@@ -94,6 +102,13 @@ impl Links {
         ensures unchanged { OnErr result (self.new ≡ self.old) }
     {
         match &mut self.held {
+            Held::Empty => {
+                self.held = Held::One(place);
+            }
+            Held::One(held) => {
+                let list = list_with(alloc, *held, place)?;
+                self.held = Held::Few(list);
+            }
             Held::Few(list) => {
                 if list.len() < FEW {
                     return link_list::insert(list, place);
@@ -113,6 +128,12 @@ impl Links {
         ensures { Puts self.old self.new place.now false }
     {
         match &mut self.held {
+            Held::Empty => {}
+            Held::One(held) => {
+                if place.cmp(held).is_eq() {
+                    self.held = Held::Empty;
+                }
+            }
             Held::Few(list) => link_list::remove(list, place),
             Held::Many(tree) => {
                 let _ = tree.remove(place);
@@ -127,6 +148,18 @@ impl Links {
     {
         &self.held
     }
+}
+
+// One place and another as a list.
+fn list_with(alloc: Global, held: LinkPlace, place: LinkPlace) -> Result<Vec<LinkPlace>, AllocError>
+    ensures ordered { IfOk result (λ list. IsStrictlySortedBy compare_place list.items) }
+    ensures put { IfOk result (λ list. PutsIn (held ∷ []) list.items place true) }
+    ensures some { IfOk result (λ list. 0 < length list.items) }
+{
+    let mut list = Vec::with_capacity(alloc, 2)?;
+    list.push(held)?;
+    link_list::insert(&mut list, place)?;
+    Ok(list)
 }
 
 // The places of a list and one more as a tree.
@@ -162,6 +195,8 @@ impl Clone for Links {
 
     fn clone(&self) -> Result<Links, AllocError> {
         let held = match &self.held {
+            Held::Empty => Held::Empty,
+            Held::One(held) => Held::One(*held),
             Held::Few(list) => Held::Few(list.clone()?),
             Held::Many(tree) => Held::Many(tree.clone()?),
         };

@@ -9,6 +9,7 @@ use crate::links::LinkPlace;
 use crate::names::{add, forget};
 use balise_rules::Id;
 use std::alloc::{AllocError, Global};
+use std::cmp::Reverse;
 use std::collections::BTreeMap;
 
 /// The identity of element `k` of a packet that has these: number 16383 where there is none.
@@ -27,7 +28,7 @@ pub(crate) fn element(links: &Vec<Id>, k: u32) -> Id
 /// Notes that a place names an identity, if its number isn't 16383. Leaves all as before where memory is wanting.
 pub(crate) fn add_real(
     alloc: Global,
-    names: &mut BTreeMap<Id, Links>,
+    names: &mut BTreeMap<Reverse<Id>, Links>,
     id: Id,
     place: LinkPlace,
 ) -> Result<(), AllocError>
@@ -42,7 +43,12 @@ pub(crate) fn add_real(
 }
 
 /// Forgets that a place names the one identity, unless that is the other. Takes no memory.
-pub(crate) fn forget_other(names: &mut BTreeMap<Id, Links>, kept: Id, gone: Id, place: LinkPlace)
+pub(crate) fn forget_other(
+    names: &mut BTreeMap<Reverse<Id>, Links>,
+    kept: Id,
+    gone: Id,
+    place: LinkPlace,
+)
     ensures forgotten { ForgetsOther names.old names.new kept gone place }
     ensures full { AreFull names.old → AreFull names.new }
 {

@@ -11,11 +11,12 @@ ghost use Rattle.balise_plan.specs.Spots.{PutsGroup};
 
 use crate::group::Group;
 use crate::group_links::{forget_first, links_in};
-use crate::group_places::{place_of, put_at};
+use crate::group_places::{is_taken, place_of, put_at};
 use crate::plan::Plan;
 use crate::spot::Spot;
 use balise_rules::{Refusal, Tag};
 use indexmap::IndexMap;
+use std::cmp::Reverse;
 
 impl Plan {
     /// Puts a group in under a tag that is new.
@@ -37,7 +38,7 @@ impl Plan {
             return Err((Refusal::NoSuchGroup, group));
         };
         let own = group.identity();
-        if self.identities.get(&own).is_some() {
+        if is_taken(&self.identities, own) {
             return Err((Refusal::GroupTwice, group));
         }
         if let Err(back) = put_at(
@@ -73,7 +74,7 @@ impl Plan {
             Err(fault) => return Err(fault),
         };
         forget_first(&mut self.names, &links, links.len());
-        let _ = self.identities.remove(&own);
+        let _ = self.identities.remove(&Reverse(own));
         let (i, _, group) = self.groups.shift_remove_full(&g).unwrap();
         let before = tag_at(&self.groups, i);
         self.changes += 1;

@@ -1,4 +1,4 @@
-use Rattle.std.proofs.Common.{◌≡◌, ◌∙◌, length, [], refl, sym, ap, subst, arith}
+use Rattle.std.proofs.Common.{sym, subst}
 use Rattle.balise_plan.specs.GroupReading.{WereRead}
 use Rattle.balise_plan.proofs.Reading.{none_read}
 use Rattle.balise_plan.proofs.group_reader.GroupReader.new.Goals as goal

@@ -8,7 +8,7 @@ use Rattle.std.specs.Option.{IfSome}
 use Rattle.std.proofs.lemmas.List.{take_all}
 use Rattle.balise_plan.proofs.Kept.{kept-as}
 use Rattle.balise_plan.specs.Held.{IsHeld}
-use Rattle.balise_plan.specs.Links.{compare_id, in_links}
+use Rattle.balise_plan.specs.Links.{compare_falling, falling, Falling, indexed, in_links}
 use Rattle.indexmap.specs.IndexMap.{insert_entry}
 use Rattle.balise_rules.specs.Tags.{same_tag}
 use Rattle.balise_rules.proofs.Tests.{tag_test}
@@ -28,14 +28,14 @@ pairs : {A B : Type 0} (x y : A × B) → x.0 ≡ y.0 → x.1 ≡ y.1 → x ≡ 
 pairs x y a b = ap (λ k. (k, x.1)) a ∙ ap (λ v. (y.0, v)) b
 
 -- a map of the same entries answers the same
-same_get : {V : Type 0} (x y : map.BTreeMap Id V) → x.entries ≡ y.entries → (i : Id) → map.get compare_id x i ≡ map.get compare_id y i
-same_get x y e i = ap (λ l. lookup (λ j. is_eq (compare_id i j)) l) e
+same_get : {V : Type 0} (x y : map.BTreeMap Falling V) → x.entries ≡ y.entries → (i : Id) → indexed x i ≡ indexed y i
+same_get x y e i = ap (λ l. lookup (λ j. is_eq (compare_falling (falling i) j)) l) e
 
 pub invariant_of-result-2 : goal.invariant_of-result-2
 invariant_of-result-2 c =
     let plan = c.self.inside.groups.entries in
-    let ids = same_get c.self.inside.identities c.in_ok-clone.field-0 (cloned _ (λ x y z. pairs x y (sym z.0) (sym z.1)) c.self.inside.identities.entries c.in_ok-clone.field-0.entries c.in_ok-clone.ensures.cases) in
-    let names = same_get c.self.inside.names c.in_ok-clone-2.field-0 (cloned _ (λ x y z. pairs x y (sym z.0) (sym z.1)) c.self.inside.names.entries c.in_ok-clone-2.field-0.entries c.in_ok-clone-2.ensures.cases) in
+    let ids = same_get c.self.inside.identities c.in_ok-clone.field-0 (cloned _ (λ x y z. pairs x y (ap falling (sym z.0)) (sym z.1)) c.self.inside.identities.entries c.in_ok-clone.field-0.entries c.in_ok-clone.ensures.cases) in
+    let names = same_get c.self.inside.names c.in_ok-clone-2.field-0 (cloned _ (λ x y z. pairs x y (ap falling (sym z.0)) (sym z.1)) c.self.inside.names.entries c.in_ok-clone-2.field-0.entries c.in_ok-clone-2.ensures.cases) in
     let h = c.self.invariant.held in
     let all : c.groups-2.inside.columns.entries ≡ plan = ap (λ gs. gs.entries) c.groups-2.view_is ∙ c.loop-i.invariant ∙ take_all c.loop-i.i plan (omega (arith, c.loop-i-test.false, c.len-i-end.ensures.len)) in
     kept-as c.self.invariant all (subst (IsHeld c.in_ok-clone.field-0 c.in_ok-clone-2.field-0) (sym all) (record {

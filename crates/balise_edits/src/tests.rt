@@ -5,6 +5,9 @@ mod doing;
 mod reviews;
 mod rows;
 
+ghost use Rattle.balise_edits.specs.Edits.{edit_of};
+ghost use Rattle.balise_edits.specs.Notes.{Suits};
+
 use crate::edit::Edit;
 use crate::entry::{Entry, placed};
 use crate::note::{Names, Note};
@@ -45,7 +48,9 @@ fn listed(rt: &impl Abort, alloc: Global, named: Option<Id>) -> Vec<Id> {
 }
 
 // An entry of an edit that noted this.
-fn noted(rt: &impl Abort, alloc: Global, serial: u32, edit: Edit, note: Note) -> Entry {
+fn noted(rt: &impl Abort, alloc: Global, serial: u32, edit: Edit, note: Note) -> Entry
+    requires { Suits (edit_of edit) note }
+{
     let mut done = placed(alloc, edit).expect(rt, "a place");
     done.note = note;
     Entry::new(serial, done)

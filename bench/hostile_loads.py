@@ -22,6 +22,7 @@ GROWING = (3_000, 10_000, 30_000, 100_000)
 # Loads, how often their parts come, and the statuses that are due.
 LOADS = {
     "groups": (FULL, 0),
+    "groups-out-of-order": (FULL, 0),
     "groups-of-eight": (FULL, 0),
     "groups-full-of-packets": (FULL, 0),
     "groups-that-name-one": (FULL, 0),

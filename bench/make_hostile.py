@@ -81,6 +81,15 @@ def groups(steps):
         yield f"group\n{group(n)}"
 
 
+def groups_out_of_order(steps):
+    """Groups whose identities come in no order: the multiples of an odd number, modulo a power of two."""
+    yield "plan 1"
+    for n in steps:
+        identity = n * 0x9E3779B1 % 2**21
+        if identity % 2**14 != 16383:
+            yield f"group\n{telegram(header(identity >> 14, identity % 2**14), '')}"
+
+
 def groups_of_eight(steps):
     yield "plan 1"
     for n in steps:
@@ -216,6 +225,7 @@ def added_by_colliding_serials(steps):
 
 LOADS = {
     "groups": groups,
+    "groups-out-of-order": groups_out_of_order,
     "groups-of-eight": groups_of_eight,
     "groups-full-of-packets": groups_full_of_packets,
     "groups-that-name-one": groups_that_name_one,

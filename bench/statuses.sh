@@ -81,6 +81,13 @@ got=0
 ended 3 "fault 32 WriteFault" "$got" "the same, its signal ignored"
 [ "$(stat -c %s "$folder/out")" = 1024 ] || failed=1
 
+# Memory that runs out while a plan is read.
+python3 bench/make_hostile.py groups 300000 > "$folder/long"
+got=0
+(ulimit -v 60000; exec "$program" < "$folder/long" > "$folder/out" 2> "$folder/err") || got=$?
+ended 3 "fault 30 OutOfMemory" "$got" "memory that runs out"
+[ -s "$folder/out" ] && failed=1
+
 # Two faults at once: the one that ended the run is told.
 printf 'plan 1\nedits\nundo\n%05000d\n' 0 > "$folder/long"
 output=/dev/full expect 3 "fault 29 InputTooLong" < "$folder/long"

@@ -1,7 +1,7 @@
 //! Edits of known plans: each is done, taken back and done again.
 
 use crate::tests::doing::{follow, read, telegrams};
-use crate::tests::packet_of;
+use crate::tests::entries::packet_of;
 use crate::{Bits, Edit, Packet, Refusal, Tag, Var};
 use std::alloc::Global;
 use std::process::Abort;

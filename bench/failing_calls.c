@@ -1,6 +1,7 @@
 // Loaded before the C library: growths of memory, reads of standard input and writes of standard output that are told to
 // fail, or to give and take little. What is told stands in the environment; at the end one line is written to the
 // descriptor REPORT, with the numbers of growths, reads and writes, and where the input stood at the growth that failed.
+// NO_GROWTH_FROM is a number of bytes: once so many were read, no growth is given.
 #define _GNU_SOURCE
 #include <dlfcn.h>
 #include <errno.h>
@@ -10,7 +11,7 @@
 #include <sys/resource.h>
 #include <unistd.h>
 
-static long growths, refused_growth, place_of_refusal = -1, end_at_refusal;
+static long growths, refused_growth, no_growth_from, place_of_refusal = -1, end_at_refusal;
 static long reads, failed_read, read_step, read_error, taken, at_end, reads_behind;
 static long writes, failed_write, write_step, write_error, writes_behind;
 
@@ -21,6 +22,7 @@ static long told(const char *name) {
 
 __attribute__((constructor)) static void start(void) {
     refused_growth = told("REFUSED_GROWTH");
+    no_growth_from = told("NO_GROWTH_FROM");
     failed_read = told("FAILED_READ");
     read_step = told("READ_STEP");
     read_error = told("READ_ERROR");
@@ -43,6 +45,7 @@ __attribute__((destructor)) static void report(void) {
 
 static int refused(void) {
     growths++;
+    if (no_growth_from && taken >= no_growth_from) return 1;
     if (growths != refused_growth) return 0;
     place_of_refusal = taken;
     end_at_refusal = at_end;

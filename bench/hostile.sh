@@ -13,6 +13,7 @@ cd "$(dirname "$0")"
 failed=0
 bash statuses.sh "$program" || failed=1
 python3 refuse_growths.py "$program" ../examples "$cases" || failed=1
+python3 no_growth.py "$program" || failed=1
 python3 fail_devices.py "$program" ../examples || failed=1
 python3 damage_inputs.py "$program" "$other" ../examples/turned_group.plan ../examples/journal_read.plan || failed=1
 if [ -n "$loads" ]; then

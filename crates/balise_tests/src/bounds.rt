@@ -74,7 +74,8 @@ fn bad_lines_at_the_limit(rt: HostRuntime) {
         ..Flags::default()
     };
     let part = b"seth 5.100 0 M_MCOUNT 7\nundo\nfrobnicate\n";
-    let end = "refused 1 BadLine\nrefused 28 Worn\nrefused 28 Worn\nrefused 1 BadLine\nplan 1\ngroup\na1007f80a0327fffffffffffffffffffffffffffffffffffffffc0\n";
+    let end =
+        "refused 1 BadLine\nrefused 28 Worn\nrefused 28 Worn\nrefused 1 BadLine\nplan 1\ngroup\na1007f80a0327fffffffffffffffffffffffffffffffffffffffc0\n";
     let mut reader = Repeated::new(GROUP, part, 500_001);
     let mut writer = Counted::new(Vec::new(rt.alloc()));
     let answer = run(rt.alloc(), &mut reader, &mut writer, flags);

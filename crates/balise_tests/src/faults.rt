@@ -173,12 +173,12 @@ fn each_write_fails(rt: HostRuntime) -> Result<(), Fail> {
     Ok(())
 }
 
-/// Three bytes in two calls, and then a fault: `ok` and a space are held.
+/// Three bytes in one call, and then a fault: `ok` and a space are held.
 #[test]
 fn a_beginning_is_written(rt: HostRuntime) {
     let [case, _, _] = &CASES;
     let mut reader = Slow::new(case.input, 4096);
-    let mut writer = Narrow::new(rt.alloc(), 3, 3, Failure::Error(ErrorKind::Other));
+    let mut writer = Narrow::new(rt.alloc(), 3, 2, Failure::Error(ErrorKind::Other));
     let answer = run(rt.alloc(), &mut reader, &mut writer, case.flags);
     assert_eq!(rt; answer, Err(RunFault::WriteFault));
     assert_eq!(rt; writer.inner().text.as_slice(), b"ok ".as_slice());

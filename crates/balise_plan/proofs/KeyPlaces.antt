@@ -1,9 +1,6 @@
 -- Places of keys in a tagged list, as a map tells them: what is taken out there, and what stands behind it.
-use Rattle.std.proofs.Common.{◌≡◌, ℕ, zero, suc, ◌+◌, ◌<◌, Bool, true, false, List, [], ◌∷◌, ◌++◌, Option, Some, None, length, position, insert, remove, option_map, slice_get, get_or, refl, sym, ◌∙◌, ap, arith}
-use Rattle.std.specs.List.{position_or_len}
-use Rattle.std.specs.Option.{option_map_or}
+use Rattle.std.proofs.Common.{◌≡◌, ℕ, zero, suc, ◌+◌, ◌<◌, Bool, true, false, List, [], ◌∷◌, ◌++◌, Option, Some, None, length, position, insert, option_map, slice_get, get_or, refl, sym, ◌∙◌, ap, arith}
 use Rattle.std.specs.Map.{keys_of, remove_entry}
-use Rattle.indexmap.specs.IndexMap.{insert_entry, move_index}
 use Rattle.std.specs.Option.{IfSome}
 use Rattle.std.proofs.lemmas.List.Quantifiers.{position-Some}
 use Rattle.balise_rules.specs.Tagged.{find, first, behind, without, put_behind, put_in_front, Distinct}
@@ -62,39 +59,6 @@ before-place same k z (y ∷ ys) (suc i) a = let n = a.0 in simp n (ap (λ l. y 
 pub end-place : {A : Type 0} (z : A) (xs : List A) → insert xs (length xs) z ≡ xs ++ z ∷ []
 end-place z [] = refl
 end-place z (y ∷ ys) = ap (λ l. y ∷ l) (end-place z ys)
-
-last-item : {A : Type 0} (z : A) (xs : List A) → slice_get (xs ++ z ∷ []) (length xs) ≡ Some z
-last-item z [] = refl
-last-item z (y ∷ ys) = last-item z ys
-
-but-last : {A : Type 0} (z : A) (xs : List A) → remove (xs ++ z ∷ []) (length xs) ≡ xs
-but-last z [] = refl
-but-last z (y ∷ ys) = ap (λ l. y ∷ l) (but-last z ys)
-
--- a new key goes behind all others
-new-place : {K A : Type 0} (same : K → K → Bool) (k : K) (xs : List (K × A)) → find same k xs ≡ None → position_or_len (same k) (keys_of xs) ≡ length xs
-new-place same k [] n = refl
-new-place same k (y ∷ ys) n =
-    split_on (same k y.0)
-    (λ e. absurd (let h = simp e at n in cc))
-    (λ e. let h : find same k ys ≡ None = simp e at n in
-    let ih = new-place same k ys h in
-    let more : 1 + position_or_len (same k) (keys_of ys) ≡ suc (length ys) = omega (arith, ih) in simp e more)
-
-new-entry : {K A : Type 0} (same : K → K → Bool) (k : K) (x : A) (xs : List (K × A)) → find same k xs ≡ None → insert_entry same xs k x ≡ xs ++ (k, x) ∷ []
-new-entry same k x [] n = refl
-new-entry same k x (y ∷ ys) n =
-    split_on (same k y.0)
-    (λ e. absurd (let h = simp e at n in cc))
-    (λ e. let h : find same k ys ≡ None = simp e at n in simp e (ap (λ l. y ∷ l) (new-entry same k x ys h)))
-
--- a new key that is moved to its place
-pub moved-in : {K A : Type 0} (same : K → K → Bool) (k : K) (x : A) (xs : List (K × A)) (i : ℕ) → find same k xs ≡ None → move_index (insert_entry same xs k x) (position_or_len (same k) (keys_of xs)) i ≡ insert xs i (k, x)
-moved-in same k x xs i n =
-    ap (λ l. move_index l (position_or_len (same k) (keys_of xs)) i) (new-entry same k x xs n)
-    ∙ ap (λ m. move_index (xs ++ (k, x) ∷ []) m i) (new-place same k xs n)
-    ∙ ap (λ o. option_map_or (λ y. insert (remove (xs ++ (k, x) ∷ []) (length xs)) i y) o (xs ++ (k, x) ∷ [])) (last-item (k, x) xs)
-    ∙ ap (λ l. insert l i (k, x)) (but-last (k, x) xs)
 
 -- ---- the place that a spot names
 

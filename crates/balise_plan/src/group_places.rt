@@ -1,39 +1,38 @@
 //! A group put into a plan's groups and indexes.
 
-ghost use Rattle.std.specs.Prelude.{◌≡◌, ◌≤◌, is_some, insert, IfErr, IfSome, None, OnOk};
+ghost use Rattle.std.specs.Prelude.{◌≡◌, ◌≤◌, is_some, insert, length, IfErr, IfSome, None, OnOk};
 ghost use Rattle.balise_rules.specs.Plan.{group_named, identity_of, Group as GroupValue, IsSoundGroup};
 ghost use Rattle.balise_rules.specs.Tagged.{find};
 ghost use Rattle.balise_rules.specs.Tags.{same_tag};
 ghost use Rattle.balise_plan.specs.Held.{IsHeld};
 ghost use Rattle.balise_plan.specs.Links.{indexed};
 ghost use Rattle.balise_plan.specs.Spots.{put_in, spot_stands};
-ghost use Rattle.indexmap.specs.IndexMap.{index_map_len};
 
 use crate::group::Group;
 use crate::group_links::{add_all, links_in};
 use crate::link_set::Links;
+use crate::ordered_groups::OrderedGroups;
 use crate::spot::Spot;
 use balise_rules::{Id, Tag};
-use indexmap::IndexMap;
-use std::alloc::{AllocFailed, Global};
+use std::alloc::Global;
 use std::cmp::Reverse;
 use std::collections::BTreeMap;
 
 /// The place that a spot names.
-pub(crate) fn place_of(groups: &IndexMap<Tag, Group>, spot: Spot<Tag>) -> Option<usize>
+pub(crate) fn place_of(groups: &OrderedGroups, spot: Spot<Tag>) -> Option<usize>
     ensures there { is_some result ≡ spot_stands spot groups.now.entries }
-    ensures within { IfSome result (λ i. i ≤ index_map_len groups.now) }
+    ensures within { IfSome result (λ i. i ≤ length groups.now.entries) }
     ensures put { IfSome result (λ i. (z : Tag × GroupValue) → insert groups.now.entries i z ≡ put_in spot z groups.now.entries) }
 {
     let len = groups.len();
     match spot {
         Spot::After(None) => Some(0),
-        Spot::After(Some(tag)) => match groups.get_index_of(&tag) {
+        Spot::After(Some(tag)) => match groups.place_of(tag) {
             Some(i) => Some(i + 1),
             None => None,
         },
         Spot::Before(None) => Some(len),
-        Spot::Before(Some(tag)) => groups.get_index_of(&tag),
+        Spot::Before(Some(tag)) => groups.place_of(tag),
     }
 }
 
@@ -53,7 +52,7 @@ pub(crate) fn is_taken(identities: &BTreeMap<Reverse<Id>, Tag>, id: Id) -> bool
 /// Puts a group of a new identity in at a place, under a tag that is new, and notes its identity and its links. Where
 /// memory is wanting, all stays and the group is handed back.
 pub(crate) fn put_at(
-    groups: &mut IndexMap<Tag, Group>,
+    groups: &mut OrderedGroups,
     identities: &mut BTreeMap<Reverse<Id>, Tag>,
     names: &mut BTreeMap<Reverse<Id>, Links>,
     i: usize,
@@ -61,7 +60,7 @@ pub(crate) fn put_at(
     group: Group,
 ) -> Result<(), Group>
     requires held { IsHeld identities.old names.old groups.old.entries }
-    requires within { i ≤ index_map_len groups.old }
+    requires within { i ≤ length groups.old.entries }
     requires new { find same_tag g groups.old.entries ≡ None }
     requires sound { IsSoundGroup group }
     requires free { group_named (identity_of group) groups.old.entries ≡ None }
@@ -70,7 +69,7 @@ pub(crate) fn put_at(
     ensures unchanged { IfErr result (λ b. groups.new.entries ≡ groups.old.entries) }
     ensures held { IsHeld identities.new names.new groups.new.entries }
 {
-    let alloc = *groups.allocator();
+    let alloc = groups.allocator();
     let own = group.identity();
     let Ok(links) = links_in(alloc, g, &group) else {
         return Err(group);
@@ -85,8 +84,6 @@ pub(crate) fn put_at(
         let _ = identities.remove(&Reverse(own));
         return Err(group);
     }
-    match groups.shift_insert(i, g, group) {
-        Ok(_) => Ok(()),
-        Err(AllocFailed { value: (_, group) }) => Err(group),
-    }
+    groups.insert(i, g, group);
+    Ok(())
 }

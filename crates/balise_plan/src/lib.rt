@@ -11,6 +11,8 @@ mod link_set;
 mod links;
 mod links_of;
 mod names;
+mod order;
+mod ordered_groups;
 mod plan;
 mod relink;
 mod spot;

@@ -56,7 +56,7 @@ impl Plan {
         let Some(g) = self.tag_of(id) else {
             return Err(Refusal::NoSuchGroup);
         };
-        let Some(group) = self.groups.get(&g) else {
+        let Some(group) = self.groups.get(g) else {
             return Err(Refusal::NoSuchGroup);
         };
         match group.at(pig as usize) {

@@ -2,9 +2,9 @@
 
 ghost use Rattle.std.specs.Prelude.{◌≡◌, IfOk, IsOkUnless};
 
+use crate::ordered_groups::OrderedGroups;
 use crate::plan::Plan;
 use balise_rules::Refusal;
-use indexmap::IndexMap;
 
 impl Plan {
     /// The same plan once more.
@@ -12,13 +12,15 @@ impl Plan {
         ensures ok { IfOk result (λ plan. plan ≡ self.now) }
         ensures fault { IsOkUnless result Refusal.OutOfMemory }
     {
-        let mut groups = IndexMap::new(*self.groups.allocator());
+        let mut groups = OrderedGroups::new(self.groups.allocator());
         groups.reserve(self.groups.len())?;
         for i in 0..self.groups.len() {
-            let Some((tag, group)) = self.groups.get_index(i) else {
+            let Some((tag, group)) = self.groups.at(i) else {
                 return Err(Refusal::OutOfMemory);
             };
-            groups.insert(*tag, group.copy()?)?;
+            let group = group.copy()?;
+            groups.reserve(1)?;
+            groups.insert(i, tag, group);
         }
         Ok(Plan {
             groups,

@@ -12,10 +12,10 @@ ghost use Rattle.balise_plan.specs.Spots.{PutsGroup};
 use crate::group::Group;
 use crate::group_links::{forget_first, links_in};
 use crate::group_places::{is_taken, place_of, put_at};
+use crate::ordered_groups::OrderedGroups;
 use crate::plan::Plan;
 use crate::spot::Spot;
 use balise_rules::{Refusal, Tag};
-use indexmap::IndexMap;
 use std::cmp::Reverse;
 
 impl Plan {
@@ -64,8 +64,8 @@ impl Plan {
         ensures taken { IfOk result (λ r. ((noted (DropGroup g) self.old.groups).group ≡ Some r.0) × ((noted (DropGroup g) self.old.groups).before ≡ r.1)) }
         ensures sound { IfOk result (λ r. IsSoundGroup r.0) }
     {
-        let alloc = *self.groups.allocator();
-        let Some(group) = self.groups.get(&g) else {
+        let alloc = self.groups.allocator();
+        let Some(group) = self.groups.get(g) else {
             return Err(Refusal::NoSuchGroup);
         };
         let own = group.identity();
@@ -75,7 +75,7 @@ impl Plan {
         };
         forget_first(&mut self.names, &links, links.len());
         let _ = self.identities.remove(&Reverse(own));
-        let (i, _, group) = self.groups.shift_remove_full(&g).unwrap();
+        let (i, group) = self.groups.remove(g).unwrap();
         let before = tag_at(&self.groups, i);
         self.changes += 1;
         Ok((group, before))
@@ -83,11 +83,11 @@ impl Plan {
 }
 
 // The tag of the group at a place.
-fn tag_at(groups: &IndexMap<Tag, Group>, i: usize) -> Option<Tag>
+fn tag_at(groups: &OrderedGroups, i: usize) -> Option<Tag>
     ensures { result ≡ option_map (λ p. p.0) (slice_get groups.now.entries i) }
 {
-    match groups.get_index(i) {
-        Some((tag, _)) => Some(*tag),
+    match groups.at(i) {
+        Some((tag, _)) => Some(tag),
         None => None,
     }
 }

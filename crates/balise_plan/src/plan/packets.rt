@@ -36,8 +36,8 @@ impl Plan {
         requires spelt { (y : Telegram) → telegram_at g t self.old.groups ≡ Some y → IsSpelt (version_of y) packet }
         ensures { PutsPacket g t spot p packet self.old result self.new }
     {
-        let alloc = *self.groups.allocator();
-        let Some(group) = self.groups.get_mut(&g) else {
+        let alloc = self.groups.allocator();
+        let Some(group) = self.groups.get_mut(g) else {
             return Err((Refusal::NoSuchGroup, packet));
         };
         let Some(country) = group.country(t) else {
@@ -67,7 +67,7 @@ impl Plan {
         ensures does { Does (DeletePacket g t p) self.old result self.new }
         ensures taken { IfOk result (λ r. ((noted (DeletePacket g t p) self.old.groups).packet ≡ Some r.0) × ((noted (DeletePacket g t p) self.old.groups).before ≡ r.1)) }
     {
-        let Some(group) = self.groups.get_mut(&g) else {
+        let Some(group) = self.groups.get_mut(g) else {
             return Err(Refusal::NoSuchGroup);
         };
         let links = match group.links(t, p) {
@@ -98,7 +98,7 @@ impl Plan {
         ensures shifts { ShiftsPacket g t p spot self.old result self.new }
         ensures next { IfOk result (λ n. (noted (MovePacket g t p None) self.old.groups).before ≡ n) }
     {
-        let Some(group) = self.groups.get_mut(&g) else {
+        let Some(group) = self.groups.get_mut(g) else {
             return Err(Refusal::NoSuchGroup);
         };
         let next = match group.shift_packet(t, p, spot) {

@@ -8,10 +8,10 @@ ghost use Rattle.balise_plan.specs.Spots.{Pushes};
 use crate::group::Group;
 use crate::group_places::{is_taken, put_at};
 use crate::group_reader::GroupReader;
+use crate::ordered_groups::OrderedGroups;
 use crate::plan::Plan;
 use balise_bits::Bits;
 use balise_rules::{Refusal, Tag};
-use indexmap::IndexMap;
 use std::alloc::Global;
 use std::collections::BTreeMap;
 
@@ -22,7 +22,7 @@ impl Plan {
         ensures changes { result.changes ≡ 0 }
     {
         Plan {
-            groups: IndexMap::new(alloc),
+            groups: OrderedGroups::new(alloc),
             identities: BTreeMap::new(alloc),
             names: BTreeMap::new(alloc),
             changes: 0,
@@ -37,7 +37,7 @@ impl Plan {
         requires { self.old.changes ≡ 0 }
         ensures { Pushes telegrams.items self.old result self.new }
     {
-        let alloc = *self.groups.allocator();
+        let alloc = self.groups.allocator();
         let group = match Group::read(alloc, telegrams) {
             Ok(group) => group,
             Err(fault) => return Err(fault),

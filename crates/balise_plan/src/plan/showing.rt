@@ -17,10 +17,10 @@ impl Plan {
         ensures ok { IfOk result (λ groups. map (λ g. g.items) groups.items ≡ shown_plan self.now.groups) }
         ensures fault { IsOkUnless result Refusal.OutOfMemory }
     {
-        let alloc = *self.groups.allocator();
+        let alloc = self.groups.allocator();
         let mut groups = Vec::with_capacity(alloc, self.groups.len())?;
         for i in 0..self.groups.len() {
-            let Some((_, group)) = self.groups.get_index(i) else {
+            let Some((_, group)) = self.groups.at(i) else {
                 return Ok(groups);
             };
             let telegrams = shown_group(alloc, group)?;

@@ -18,11 +18,11 @@ pub returns-clause-changed : goal.returns-clause-changed
 returns-clause-changed c =
     let w = c.args.place.now in
     let n : Some c.in-Some.group.now ≡ find same_tag w.group c.args.groups.now.entries = c.in-Some.ensures.value in
-    (c.get_mut.follows.holds c.change_link.new.self).0 ∙ value-each tag_test w.group (in_group w.telegram w.packet (changed c.args.change w.element)) c.args.groups.now.entries c.in-Some.group.now c.change_link.new.self c.requires.tags (sym n) c.change_link.ensures
+    c.get_mut.follows.holds c.change_link.new.self ∙ value-each tag_test w.group (in_group w.telegram w.packet (changed c.args.change w.element)) c.args.groups.now.entries c.in-Some.group.now c.change_link.new.self c.requires.tags (sym n) c.change_link.ensures
 
 pub returns-clause-tags : goal.returns-clause-tags
 returns-clause-tags c =
     let w = c.args.place.now in
     let n : Some c.in-Some.group.now ≡ find same_tag w.group c.args.groups.now.entries = c.in-Some.ensures.value in
-    let e : (c.get_mut.follows.lender c.change_link.new.self).entries ≡ change_at c.args.change w c.args.groups.now.entries = (c.get_mut.follows.holds c.change_link.new.self).0 ∙ value-each tag_test w.group (in_group w.telegram w.packet (changed c.args.change w.element)) c.args.groups.now.entries c.in-Some.group.now c.change_link.new.self c.requires.tags (sym n) c.change_link.ensures in
+    let e : (c.get_mut.follows.lender c.change_link.new.self).entries ≡ change_at c.args.change w c.args.groups.now.entries = c.get_mut.follows.holds c.change_link.new.self ∙ value-each tag_test w.group (in_group w.telegram w.packet (changed c.args.change w.element)) c.args.groups.now.entries c.in-Some.group.now c.change_link.new.self c.requires.tags (sym n) c.change_link.ensures in
     subst (λ gs. Distinct same_tag gs) (sym e) (distinct-change c.args.change w c.args.groups.now.entries c.requires.tags)

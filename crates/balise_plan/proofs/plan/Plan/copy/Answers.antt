@@ -1,27 +1,39 @@
-use Rattle.std.proofs.Common.{◌≡◌, ◌∙◌, ◌<◌, take, ap, sym, subst, arith}
+use Rattle.std.proofs.Common.{◌≡◌, ◌∙◌, ◌<◌, insert, length, take, ap, sym, subst, arith}
 use Rattle.std.specs.BTreeMap as map
 use Rattle.std.specs.BTreeSet as set
 use Rattle.balise_rules.specs.declared.identity.Id.{Id}
 use Rattle.std.specs.Map.{lookup}
 use Rattle.std.specs.Ordering.{is_eq}
 use Rattle.std.specs.Option.{IfSome}
-use Rattle.std.proofs.lemmas.List.{take_all}
+use Rattle.std.proofs.lemmas.List.{length-take-le, take_all}
 use Rattle.balise_plan.proofs.Kept.{kept-as}
 use Rattle.balise_plan.specs.Held.{IsHeld}
+use Rattle.balise_plan.specs.InOrder.{in_order, OrderedGroups}
 use Rattle.balise_plan.specs.Links.{compare_falling, falling, Falling, indexed, in_links}
-use Rattle.indexmap.specs.IndexMap.{insert_entry}
+use Rattle.balise_rules.specs.Tagged.{find}
 use Rattle.balise_rules.specs.Tags.{same_tag}
 use Rattle.balise_rules.proofs.Tests.{tag_test}
-use Rattle.balise_plan.proofs.Copied.{appended, cloned}
+use Rattle.balise_plan.proofs.Copied.{appended, cloned, not-before}
 use Rattle.balise_plan.proofs.plan.Plan.copy.Goals as goal
+
+pub insert-requires : goal.insert-requires
+insert-requires c =
+    let plan = c.self.inside.groups.entries in
+    let e = c.in_ok-reserve-2.ensures.entries ∙ c.loop-i.invariant in
+    let long : length (take c.loop-i.i plan) ≡ c.loop-i.i = length-take-le c.loop-i.i plan (omega (arith, c.loop-i-test.true, c.len-i-end.ensures)) in
+    record {
+      within = omega (arith, ap length e, long);
+      new = ap (find same_tag c.in-Some.tag) e ∙ not-before tag_test plan c.loop-i.i c.in-Some.tag c.in-Some.group.now c.self.invariant.held.sound.tags (sym c.in-Some.ensures);
+      room = c.in_ok-reserve-2.ensures.room;
+    }
 
 pub loop-i-preserved : goal.loop-i-preserved
 loop-i-preserved c =
     let plan = c.self.inside.groups.entries in
-    let step = c.in_ok-insert.ensures.entries
-    ∙ ap (λ gs. insert_entry same_tag gs c.in-Some.tag.now c.in_ok-copy.field-0) c.loop-i.invariant
-    ∙ ap (insert_entry same_tag (take c.loop-i.i plan) c.in-Some.tag.now) c.in_ok-copy.ensures.ok
-    ∙ appended tag_test plan c.loop-i.i c.in-Some.tag.now c.in-Some.group.now c.self.invariant.held.sound.tags (sym c.in-Some.ensures.entry) in step
+    c.insert.ensures
+    ∙ ap (λ gs. insert gs c.loop-i.i (c.in-Some.tag, c.in_ok-group.group)) (c.in_ok-reserve-2.ensures.entries ∙ c.loop-i.invariant)
+    ∙ ap (λ x. insert (take c.loop-i.i plan) c.loop-i.i (c.in-Some.tag, x)) c.in_ok-group.ensures.ok
+    ∙ appended plan c.loop-i.i (c.in-Some.tag, c.in-Some.group.now) (sym c.in-Some.ensures)
 
 -- clones of keys and of what they lead to
 pairs : {A B : Type 0} (x y : A × B) → x.0 ≡ y.0 → x.1 ≡ y.1 → x ≡ y
@@ -37,7 +49,7 @@ invariant_of-result-2 c =
     let ids = same_get c.self.inside.identities c.in_ok-clone.field-0 (cloned _ (λ x y z. pairs x y (ap falling (sym z.0)) (sym z.1)) c.self.inside.identities.entries c.in_ok-clone.field-0.entries c.in_ok-clone.ensures.cases) in
     let names = same_get c.self.inside.names c.in_ok-clone-2.field-0 (cloned _ (λ x y z. pairs x y (ap falling (sym z.0)) (sym z.1)) c.self.inside.names.entries c.in_ok-clone-2.field-0.entries c.in_ok-clone-2.ensures.cases) in
     let h = c.self.invariant.held in
-    let all : c.groups-2.inside.columns.entries ≡ plan = ap (λ gs. gs.entries) c.groups-2.view_is ∙ c.loop-i.invariant ∙ take_all c.loop-i.i plan (omega (arith, c.loop-i-test.false, c.len-i-end.ensures.len)) in
+    let all : in_order c.groups-2.inside.held.entries c.groups-2.inside.order.items ≡ plan = ap (λ (gs : OrderedGroups). gs.entries) c.groups-2.view_is ∙ c.loop-i.invariant ∙ take_all c.loop-i.i plan (omega (arith, c.loop-i-test.false, c.len-i-end.ensures)) in
     kept-as c.self.invariant all (subst (IsHeld c.in_ok-clone.field-0 c.in_ok-clone-2.field-0) (sym all) (record {
       sound = h.sound;
       tags = λ i. sym (ids i) ∙ h.tags i;

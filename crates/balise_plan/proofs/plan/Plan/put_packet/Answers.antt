@@ -20,14 +20,14 @@ pub invariant_of-self-in_default-country : goal.invariant_of-self-in_default-cou
 invariant_of-self-in_default-country c =
     let plan = c.self.inside.groups.entries in
     let n : find same_tag c.args.g plan ≡ Some c.in-Some.group.now = sym c.in-Some.ensures.value in
-    let w = (c.get_mut.follows.holds c.in-Some.group.now).0 ∙ set_value_same (same_tag c.args.g) plan c.in-Some.group.now n in
+    let w = c.get_mut.follows.holds c.in-Some.group.now ∙ set_value_same (same_tag c.args.g) plan c.in-Some.group.now n in
     kept-as c.self.invariant w (subst (IsHeld c.self.inside.identities c.self.inside.names) (sym w) c.self.invariant.held)
 
 pub returns-in_default-country : goal.returns-in_default-country
 returns-in_default-country c =
     let plan = c.self.inside.groups.entries in
     let n : find same_tag c.args.g plan ≡ Some c.in-Some.group.now = sym c.in-Some.ensures.value in
-    let w = (c.get_mut.follows.holds c.in-Some.group.now).0 ∙ set_value_same (same_tag c.args.g) plan c.in-Some.group.now n in
+    let w = c.get_mut.follows.holds c.in-Some.group.now ∙ set_value_same (same_tag c.args.g) plan c.in-Some.group.now n in
     let fresh : (y : Telegram) → telegram_at c.args.g c.args.t plan ≡ Some y → find same_tag c.args.p y.packets ≡ None = subst (λ q. (y : Telegram) → telegram_at c.args.g c.args.t q.groups ≡ Some y → find same_tag c.args.p y.packets ≡ None) (sym c.self.view_is) c.requires.new in
     let spelt : (y : Telegram) → telegram_at c.args.g c.args.t plan ≡ Some y → IsSpelt (version_of y) c.args.packet = subst (λ q. (y : Telegram) → telegram_at c.args.g c.args.t q.groups ≡ Some y → IsSpelt (version_of y) c.args.packet) (sym c.self.view_is) c.requires.spelt in
     let r = lacking plan c.self.inside.identities c.self.inside.names c.self.invariant.held c.args.g c.args.t c.args.spot c.args.p c.args.packet c.in-Some.group.now n fresh spelt c.in_default-country.ensures in
@@ -37,14 +37,14 @@ pub invariant_of-self-in_default-links : goal.invariant_of-self-in_default-links
 invariant_of-self-in_default-links c =
     let plan = c.self.inside.groups.entries in
     let n : find same_tag c.args.g plan ≡ Some c.in-Some.group.now = sym c.in-Some.ensures.value in
-    let w = (c.get_mut.follows.holds c.in-Some.group.now).0 ∙ set_value_same (same_tag c.args.g) plan c.in-Some.group.now n in
+    let w = c.get_mut.follows.holds c.in-Some.group.now ∙ set_value_same (same_tag c.args.g) plan c.in-Some.group.now n in
     kept-as c.self.invariant w (subst (IsHeld c.self.inside.identities c.self.inside.names) (sym w) c.self.invariant.held)
 
 pub returns-in_default-links : goal.returns-in_default-links
 returns-in_default-links c =
     let plan = c.self.inside.groups.entries in
     let n : find same_tag c.args.g plan ≡ Some c.in-Some.group.now = sym c.in-Some.ensures.value in
-    let w = (c.get_mut.follows.holds c.in-Some.group.now).0 ∙ set_value_same (same_tag c.args.g) plan c.in-Some.group.now n in
+    let w = c.get_mut.follows.holds c.in-Some.group.now ∙ set_value_same (same_tag c.args.g) plan c.in-Some.group.now n in
     (inl refl, refl, ap (λ gs. record { groups = gs; changes = c.self.inside.changes }) w ∙ c.self.view_is)
 
 pub count-n-requires : goal.count-n-requires
@@ -59,7 +59,7 @@ pub invariant_of-self-then-is_err : goal.invariant_of-self-then-is_err
 invariant_of-self-then-is_err c =
     let plan = c.self.inside.groups.entries in
     let n : find same_tag c.args.g plan ≡ Some c.in-Some.group.now = sym c.in-Some.ensures.value in
-    let w = (c.get_mut.follows.holds c.in-Some.group.now).0 ∙ set_value_same (same_tag c.args.g) plan c.in-Some.group.now n in
+    let w = c.get_mut.follows.holds c.in-Some.group.now ∙ set_value_same (same_tag c.args.g) plan c.in-Some.group.now n in
     let kept : Keeps c.self.inside.names c.add_links.new.names = search rules in
     kept-as c.self.invariant w (subst (IsHeld c.self.inside.identities c.add_links.new.names) (sym w) (held-keeps c.self.inside.identities c.self.inside.names c.add_links.new.names plan c.self.invariant.held (c.add_links.ensures.full c.self.invariant.held.full) kept))
 
@@ -67,7 +67,7 @@ pub returns-then-is_err : goal.returns-then-is_err
 returns-then-is_err c =
     let plan = c.self.inside.groups.entries in
     let n : find same_tag c.args.g plan ≡ Some c.in-Some.group.now = sym c.in-Some.ensures.value in
-    let w = (c.get_mut.follows.holds c.in-Some.group.now).0 ∙ set_value_same (same_tag c.args.g) plan c.in-Some.group.now n in
+    let w = c.get_mut.follows.holds c.in-Some.group.now ∙ set_value_same (same_tag c.args.g) plan c.in-Some.group.now n in
     (inl refl, refl, ap (λ gs. record { groups = gs; changes = c.self.inside.changes }) w ∙ c.self.view_is)
 
 pub invariant_of-self-in-Err : goal.invariant_of-self-in-Err
@@ -76,7 +76,7 @@ invariant_of-self-in-Err c =
     let n : find same_tag c.args.g plan ≡ Some c.in-Some.group.now = sym c.in-Some.ensures.value in
     let fresh : (y : Telegram) → telegram_at c.args.g c.args.t plan ≡ Some y → find same_tag c.args.p y.packets ≡ None = subst (λ q. (y : Telegram) → telegram_at c.args.g c.args.t q.groups ≡ Some y → find same_tag c.args.p y.packets ≡ None) (sym c.self.view_is) c.requires.new in
     let spelt : (y : Telegram) → telegram_at c.args.g c.args.t plan ≡ Some y → IsSpelt (version_of y) c.args.packet = subst (λ q. (y : Telegram) → telegram_at c.args.g c.args.t q.groups ≡ Some y → IsSpelt (version_of y) c.args.packet) (sym c.self.view_is) c.requires.spelt in
-    let v = (c.get_mut.follows.holds c.put_packet.new.self).0 in
+    let v = c.get_mut.follows.holds c.put_packet.new.self in
     let adds : Adds c.args.g c.args.t c.args.p c.in-Ok.links.items c.count-n.result c.self.inside.names c.add_links.new.names = search rules in
     let forgets : Forgets c.args.g c.args.t c.args.p c.in-Ok.links.items c.count-n.result c.add_links.new.names c.forget_links.new.names = c.forget_links.ensures.forgotten in
     let kept = taken-back c.args.g c.args.t c.args.p c.in-Ok.links.items c.count-n.result c.self.inside.names c.add_links.new.names c.forget_links.new.names (lacks-put plan c.self.inside.identities c.self.inside.names c.self.invariant.held c.args.g c.args.t c.args.spot c.args.p c.args.packet c.in-Some.group.now n fresh spelt c.in-Some-country.country c.in-Some-country.ensures) adds forgets in
@@ -90,7 +90,7 @@ returns-in-Err c =
     let n : find same_tag c.args.g plan ≡ Some c.in-Some.group.now = sym c.in-Some.ensures.value in
     let fresh : (y : Telegram) → telegram_at c.args.g c.args.t plan ≡ Some y → find same_tag c.args.p y.packets ≡ None = subst (λ q. (y : Telegram) → telegram_at c.args.g c.args.t q.groups ≡ Some y → find same_tag c.args.p y.packets ≡ None) (sym c.self.view_is) c.requires.new in
     let spelt : (y : Telegram) → telegram_at c.args.g c.args.t plan ≡ Some y → IsSpelt (version_of y) c.args.packet = subst (λ q. (y : Telegram) → telegram_at c.args.g c.args.t q.groups ≡ Some y → IsSpelt (version_of y) c.args.packet) (sym c.self.view_is) c.requires.spelt in
-    let v = (c.get_mut.follows.holds c.put_packet.new.self).0 in
+    let v = c.get_mut.follows.holds c.put_packet.new.self in
     let r = put-failed plan c.self.inside.identities c.self.inside.names c.self.invariant.held c.args.g c.args.t c.args.spot c.args.p c.args.packet c.in-Some.group.now n fresh spelt c.in-Some-country.country c.in-Some-country.ensures c.put_packet.new.self c.in-Err.back c.in-Err.ensures in
     (subst (λ q. (c.in-Err.back.0 ≡ OutOfMemory) ⊎ (put_refusal c.args.g c.args.t c.args.spot c.args.packet q.groups ≡ Some c.in-Err.back.0)) c.self.view_is r.why, r.back, ap (λ gs. record { groups = gs; changes = c.self.inside.changes }) (v ∙ r.is) ∙ c.self.view_is)
 
@@ -100,7 +100,7 @@ invariant_of-self-2 c =
     let n : find same_tag c.args.g plan ≡ Some c.in-Some.group.now = sym c.in-Some.ensures.value in
     let fresh : (y : Telegram) → telegram_at c.args.g c.args.t plan ≡ Some y → find same_tag c.args.p y.packets ≡ None = subst (λ q. (y : Telegram) → telegram_at c.args.g c.args.t q.groups ≡ Some y → find same_tag c.args.p y.packets ≡ None) (sym c.self.view_is) c.requires.new in
     let spelt : (y : Telegram) → telegram_at c.args.g c.args.t plan ≡ Some y → IsSpelt (version_of y) c.args.packet = subst (λ q. (y : Telegram) → telegram_at c.args.g c.args.t q.groups ≡ Some y → IsSpelt (version_of y) c.args.packet) (sym c.self.view_is) c.requires.spelt in
-    let v = (c.get_mut.follows.holds c.put_packet.new.self).0 in
+    let v = c.get_mut.follows.holds c.put_packet.new.self in
     let adds : Adds c.args.g c.args.t c.args.p c.in-Ok.links.items c.count-n.result c.self.inside.names c.add_links.new.names = search rules in
     let all : Adds c.args.g c.args.t c.args.p c.in-Ok.links.items (length c.in-Ok.links.items) c.self.inside.names c.add_links.new.names = subst (λ k. Adds c.args.g c.args.t c.args.p c.in-Ok.links.items k c.self.inside.names c.add_links.new.names) c.count-n.ensures adds in
     let r = put-done plan c.self.inside.identities c.self.inside.names c.self.invariant.held c.args.g c.args.t c.args.spot c.args.p c.args.packet c.in-Some.group.now n fresh spelt c.in-Some-country.country c.in-Some-country.ensures c.put_packet.new.self c.in_default-put_packet.field-0 c.in_default-put_packet.ensures c.in-Ok.links.items c.in-Ok.ensures.ok c.add_links.new.names (c.add_links.ensures.full c.self.invariant.held.full) all in
@@ -112,7 +112,7 @@ returns c =
     let n : find same_tag c.args.g plan ≡ Some c.in-Some.group.now = sym c.in-Some.ensures.value in
     let fresh : (y : Telegram) → telegram_at c.args.g c.args.t plan ≡ Some y → find same_tag c.args.p y.packets ≡ None = subst (λ q. (y : Telegram) → telegram_at c.args.g c.args.t q.groups ≡ Some y → find same_tag c.args.p y.packets ≡ None) (sym c.self.view_is) c.requires.new in
     let spelt : (y : Telegram) → telegram_at c.args.g c.args.t plan ≡ Some y → IsSpelt (version_of y) c.args.packet = subst (λ q. (y : Telegram) → telegram_at c.args.g c.args.t q.groups ≡ Some y → IsSpelt (version_of y) c.args.packet) (sym c.self.view_is) c.requires.spelt in
-    let v = (c.get_mut.follows.holds c.put_packet.new.self).0 in
+    let v = c.get_mut.follows.holds c.put_packet.new.self in
     let adds : Adds c.args.g c.args.t c.args.p c.in-Ok.links.items c.count-n.result c.self.inside.names c.add_links.new.names = search rules in
     let all : Adds c.args.g c.args.t c.args.p c.in-Ok.links.items (length c.in-Ok.links.items) c.self.inside.names c.add_links.new.names = subst (λ k. Adds c.args.g c.args.t c.args.p c.in-Ok.links.items k c.self.inside.names c.add_links.new.names) c.count-n.ensures adds in
     let r = put-done plan c.self.inside.identities c.self.inside.names c.self.invariant.held c.args.g c.args.t c.args.spot c.args.p c.args.packet c.in-Some.group.now n fresh spelt c.in-Some-country.country c.in-Some-country.ensures c.put_packet.new.self c.in_default-put_packet.field-0 c.in_default-put_packet.ensures c.in-Ok.links.items c.in-Ok.ensures.ok c.add_links.new.names (c.add_links.ensures.full c.self.invariant.held.full) all in (

@@ -22,14 +22,14 @@ pub invariant_of-self-in-Err : goal.invariant_of-self-in-Err
 invariant_of-self-in-Err c =
     let plan = c.self.inside.groups.entries in
     let n : find same_tag c.args.g plan ≡ Some c.in-Some.group.now = sym c.in-Some.ensures.value in
-    let w = (c.get_mut.follows.holds c.in-Some.group.now).0 ∙ set_value_same (same_tag c.args.g) plan c.in-Some.group.now n in
+    let w = c.get_mut.follows.holds c.in-Some.group.now ∙ set_value_same (same_tag c.args.g) plan c.in-Some.group.now n in
     kept-as c.self.invariant w (subst (IsHeld c.self.inside.identities c.self.inside.names) (sym w) c.self.invariant.held)
 
 pub returns-in-Err-clause-does : goal.returns-in-Err-clause-does
 returns-in-Err-clause-does c =
     let plan = c.self.inside.groups.entries in
     let n : find same_tag c.args.g plan ≡ Some c.in-Some.group.now = sym c.in-Some.ensures.value in
-    let w = (c.get_mut.follows.holds c.in-Some.group.now).0 ∙ set_value_same (same_tag c.args.g) plan c.in-Some.group.now n in
+    let w = c.get_mut.follows.holds c.in-Some.group.now ∙ set_value_same (same_tag c.args.g) plan c.in-Some.group.now n in
     let r = untold plan c.self.inside.identities c.self.inside.names c.self.invariant.held c.args.g c.args.t c.args.p c.args.k c.args.value c.in-Some.group.now n c.in-Err.fault c.in-Err.ensures.fault in
     (subst (λ q. (c.in-Err.fault ≡ OutOfMemory) ⊎ (refusal (SetVar c.args.g c.args.t c.args.p NidBg c.args.k c.args.value) q.groups ≡ Some c.in-Err.fault)) c.self.view_is r, ap (λ gs. record { groups = gs; changes = c.self.inside.changes }) w ∙ c.self.view_is)
 
@@ -37,7 +37,7 @@ pub invariant_of-self-then-is_err : goal.invariant_of-self-then-is_err
 invariant_of-self-then-is_err c =
     let plan = c.self.inside.groups.entries in
     let n : find same_tag c.args.g plan ≡ Some c.in-Some.group.now = sym c.in-Some.ensures.value in
-    let w = (c.get_mut.follows.holds c.in-Some.group.now).0 ∙ set_value_same (same_tag c.args.g) plan c.in-Some.group.now n in
+    let w = c.get_mut.follows.holds c.in-Some.group.now ∙ set_value_same (same_tag c.args.g) plan c.in-Some.group.now n in
     let same : Keeps c.self.inside.names c.add_real.new.names = search rules in
     kept-as c.self.invariant w (subst (IsHeld c.self.inside.identities c.add_real.new.names) (sym w) (held-keeps c.self.inside.identities c.self.inside.names c.add_real.new.names plan c.self.invariant.held (c.add_real.ensures.full c.self.invariant.held.full) same))
 
@@ -45,14 +45,14 @@ pub returns-then-is_err-clause-does : goal.returns-then-is_err-clause-does
 returns-then-is_err-clause-does c =
     let plan = c.self.inside.groups.entries in
     let n : find same_tag c.args.g plan ≡ Some c.in-Some.group.now = sym c.in-Some.ensures.value in
-    let w = (c.get_mut.follows.holds c.in-Some.group.now).0 ∙ set_value_same (same_tag c.args.g) plan c.in-Some.group.now n in
+    let w = c.get_mut.follows.holds c.in-Some.group.now ∙ set_value_same (same_tag c.args.g) plan c.in-Some.group.now n in
     (inl refl, ap (λ gs. record { groups = gs; changes = c.self.inside.changes }) w ∙ c.self.view_is)
 
 pub invariant_of-self-in-Err-set_field : goal.invariant_of-self-in-Err-set_field
 invariant_of-self-in-Err-set_field c =
     let plan = c.self.inside.groups.entries in
     let n : find same_tag c.args.g plan ≡ Some c.in-Some.group.now = sym c.in-Some.ensures.value in
-    let v = (c.get_mut.follows.holds c.set_field.new.self).0 in
+    let v = c.get_mut.follows.holds c.set_field.new.self in
     let adds : AddsReal c.self.inside.names c.add_real.new.names (record { country = c.element-from.result.country; number = c.args.value }) (place c.args.g c.args.t c.args.p c.args.k) = search rules in
     let added : AddsReal c.self.inside.names c.add_real.new.names (record { country = (element_at c.in-Ok.links.items c.args.k).country; number = c.args.value }) (place c.args.g c.args.t c.args.p c.args.k) = subst (λ (i : Id). AddsReal c.self.inside.names c.add_real.new.names (record { country = i.country; number = c.args.value }) (place c.args.g c.args.t c.args.p c.args.k)) c.element-from.ensures adds in
     let f : ForgetsOther c.add_real.new.names c.forget_other.new.names (element_at c.in-Ok.links.items c.args.k) (record { country = (element_at c.in-Ok.links.items c.args.k).country; number = c.args.value }) (place c.args.g c.args.t c.args.p c.args.k) = subst (λ (i : Id). ForgetsOther c.add_real.new.names c.forget_other.new.names i (record { country = i.country; number = c.args.value }) (place c.args.g c.args.t c.args.p c.args.k)) c.element-from.ensures c.forget_other.ensures.forgotten in
@@ -66,7 +66,7 @@ pub returns-in-Err-set_field-clause-does : goal.returns-in-Err-set_field-clause-
 returns-in-Err-set_field-clause-does c =
     let plan = c.self.inside.groups.entries in
     let n : find same_tag c.args.g plan ≡ Some c.in-Some.group.now = sym c.in-Some.ensures.value in
-    let v = (c.get_mut.follows.holds c.set_field.new.self).0 in
+    let v = c.get_mut.follows.holds c.set_field.new.self in
     let r = left c.args.g c.args.t c.args.p NidBg c.args.k c.args.value plan c.self.invariant.held.sound c.in-Some.group.now c.set_field.new.self n c.in-Err-set_field.fault c.in-Err-set_field.ensures in
     let e = v ∙ ap (set_value (same_tag c.args.g) plan) r.1 ∙ set_value_same (same_tag c.args.g) plan c.in-Some.group.now n in
     (inr (subst (λ q. refusal (SetVar c.args.g c.args.t c.args.p NidBg c.args.k c.args.value) q.groups ≡ Some c.in-Err-set_field.fault) c.self.view_is r.0), ap (λ gs. record { groups = gs; changes = c.self.inside.changes }) e ∙ c.self.view_is)
@@ -75,7 +75,7 @@ pub invariant_of-self-2 : goal.invariant_of-self-2
 invariant_of-self-2 c =
     let plan = c.self.inside.groups.entries in
     let n : find same_tag c.args.g plan ≡ Some c.in-Some.group.now = sym c.in-Some.ensures.value in
-    let v = (c.get_mut.follows.holds c.set_field.new.self).0 in
+    let v = c.get_mut.follows.holds c.set_field.new.self in
     let adds : AddsReal c.self.inside.names c.add_real.new.names (record { country = c.element-from.result.country; number = c.args.value }) (place c.args.g c.args.t c.args.p c.args.k) = search rules in
     let added : AddsReal c.self.inside.names c.add_real.new.names (record { country = (element_at c.in-Ok.links.items c.args.k).country; number = c.args.value }) (place c.args.g c.args.t c.args.p c.args.k) = subst (λ (i : Id). AddsReal c.self.inside.names c.add_real.new.names (record { country = i.country; number = c.args.value }) (place c.args.g c.args.t c.args.p c.args.k)) c.element-from.ensures adds in
     let f : ForgetsOther c.add_real.new.names c.forget_other-2.new.names (record { country = (element_at c.in-Ok.links.items c.args.k).country; number = c.args.value }) (element_at c.in-Ok.links.items c.args.k) (place c.args.g c.args.t c.args.p c.args.k) = subst (λ (i : Id). ForgetsOther c.add_real.new.names c.forget_other-2.new.names (record { country = i.country; number = c.args.value }) i (place c.args.g c.args.t c.args.p c.args.k)) c.element-from.ensures c.forget_other-2.ensures.forgotten in
@@ -87,7 +87,7 @@ pub returns-clause-does : goal.returns-clause-does
 returns-clause-does c =
     let plan = c.self.inside.groups.entries in
     let n : find same_tag c.args.g plan ≡ Some c.in-Some.group.now = sym c.in-Some.ensures.value in
-    let v = (c.get_mut.follows.holds c.set_field.new.self).0 in
+    let v = c.get_mut.follows.holds c.set_field.new.self in
     let adds : AddsReal c.self.inside.names c.add_real.new.names (record { country = c.element-from.result.country; number = c.args.value }) (place c.args.g c.args.t c.args.p c.args.k) = search rules in
     let added : AddsReal c.self.inside.names c.add_real.new.names (record { country = (element_at c.in-Ok.links.items c.args.k).country; number = c.args.value }) (place c.args.g c.args.t c.args.p c.args.k) = subst (λ (i : Id). AddsReal c.self.inside.names c.add_real.new.names (record { country = i.country; number = c.args.value }) (place c.args.g c.args.t c.args.p c.args.k)) c.element-from.ensures adds in
     let f : ForgetsOther c.add_real.new.names c.forget_other-2.new.names (record { country = (element_at c.in-Ok.links.items c.args.k).country; number = c.args.value }) (element_at c.in-Ok.links.items c.args.k) (place c.args.g c.args.t c.args.p c.args.k) = subst (λ (i : Id). ForgetsOther c.add_real.new.names c.forget_other-2.new.names (record { country = i.country; number = c.args.value }) i (place c.args.g c.args.t c.args.p c.args.k)) c.element-from.ensures c.forget_other-2.ensures.forgotten in

@@ -36,7 +36,7 @@ invariant_of-self c =
     let forgets : ForgetsAll items names c.forget_first.new.names = subst (λ l. ForgetsAll l names c.forget_first.new.names) (take_all c.len.result items (omega (arith, c.len.ensures))) c.forget_first.ensures.forgotten in
     let out : map.Updates compare_falling ids c.remove.new.self (falling c.identity-own.result) None = search rules in
     let r = dropped plan ids names c.self.invariant.held c.args.g c.in-Some.group.now n items c.in-Ok.ensures.ok c.forget_first.new.names (c.forget_first.ensures.full c.self.invariant.held.full) forgets c.identity-own.result c.identity-own.ensures c.remove.new.self (λ q. out.0 (falling q)) in
-    let e : c.shift_remove_full.new.self.entries ≡ remove_entry (same_tag c.args.g) plan = c.shift_remove_full.ensures.entries in
+    let e : c.remove-2.new.self.entries ≡ remove_entry (same_tag c.args.g) plan = c.remove-2.ensures.entries in
     changed c.self.inside.changes (subst (IsHeld c.remove.new.self c.forget_first.new.names) (sym e) r.held)
 
 pub returns-clause-does : goal.returns-clause-does
@@ -49,7 +49,7 @@ returns-clause-does c =
     let forgets : ForgetsAll items names c.forget_first.new.names = subst (λ l. ForgetsAll l names c.forget_first.new.names) (take_all c.len.result items (omega (arith, c.len.ensures))) c.forget_first.ensures.forgotten in
     let out : map.Updates compare_falling ids c.remove.new.self (falling c.identity-own.result) None = search rules in
     let r = dropped plan ids names c.self.invariant.held c.args.g c.in-Some.group.now n items c.in-Ok.ensures.ok c.forget_first.new.names (c.forget_first.ensures.full c.self.invariant.held.full) forgets c.identity-own.result c.identity-own.ensures c.remove.new.self (λ q. out.0 (falling q)) in
-    let e : c.shift_remove_full.new.self.entries ≡ remove_entry (same_tag c.args.g) plan = c.shift_remove_full.ensures.entries in
+    let e : c.remove-2.new.self.entries ≡ remove_entry (same_tag c.args.g) plan = c.remove-2.ensures.entries in
     (subst (λ p. refusal (DropGroup c.args.g) p.groups ≡ None) c.self.view_is r.accepted, ap (λ gs. record { groups = gs; changes = c.self.inside.changes + 1 }) (e ∙ r.is) ∙ ap (edited (DropGroup c.args.g)) c.self.view_is)
 
 pub returns-clause-taken : goal.returns-clause-taken
@@ -58,11 +58,11 @@ returns-clause-taken c =
     let ids = c.self.inside.identities in
     let names = c.self.inside.names in
     let n : find same_tag c.args.g plan ≡ Some c.in-Some.group.now = sym c.in-Some.ensures.value in
-    let u : c.shift_remove_full.result ≡ Some c.unwrap-i.result = search rules in
-    let group : Some c.unwrap-i.result.2 ≡ Some c.in-Some.group.now = sym (ap (option_map (λ p. p.2)) u) ∙ c.shift_remove_full.ensures.value ∙ n in
-    let place : position (same_tag c.args.g) (keys_of plan) ≡ Some c.unwrap-i.result.0 = sym c.shift_remove_full.ensures.index ∙ ap (option_map (λ p. p.0)) u in
-    let next : c.tag_at-before.result ≡ behind same_tag c.args.g plan = c.tag_at-before.ensures ∙ ap (λ xs. option_map (λ (p : Tag × Group). p.0) (slice_get xs c.unwrap-i.result.0)) c.shift_remove_full.ensures.entries ∙ behind-place same_tag c.args.g plan c.unwrap-i.result.0 (at-key (same_tag c.args.g) plan c.unwrap-i.result.0 place) in (
-      subst (λ p. (noted (DropGroup c.args.g) p.groups).group ≡ Some c.unwrap-i.result.2) c.self.view_is (noted-group plan ids names c.self.invariant.held c.args.g c.in-Some.group.now n ∙ sym group),
+    let u : c.remove-2.result ≡ Some c.unwrap-i.result = search rules in
+    let group : Some c.unwrap-i.result.1 ≡ Some c.in-Some.group.now = sym (ap (option_map (λ p. p.1)) u) ∙ c.remove-2.ensures.value ∙ n in
+    let place : position (same_tag c.args.g) (keys_of plan) ≡ Some c.unwrap-i.result.0 = sym c.remove-2.ensures.place ∙ ap (option_map (λ p. p.0)) u in
+    let next : c.tag_at-before.result ≡ behind same_tag c.args.g plan = c.tag_at-before.ensures ∙ ap (λ xs. option_map (λ (p : Tag × Group). p.0) (slice_get xs c.unwrap-i.result.0)) c.remove-2.ensures.entries ∙ behind-place same_tag c.args.g plan c.unwrap-i.result.0 (at-key (same_tag c.args.g) plan c.unwrap-i.result.0 place) in (
+      subst (λ p. (noted (DropGroup c.args.g) p.groups).group ≡ Some c.unwrap-i.result.1) c.self.view_is (noted-group plan ids names c.self.invariant.held c.args.g c.in-Some.group.now n ∙ sym group),
       subst (λ p. (noted (DropGroup c.args.g) p.groups).before ≡ c.tag_at-before.result) c.self.view_is (noted-before plan ids names c.self.invariant.held c.args.g c.in-Some.group.now n ∙ sym next),
     )
 
@@ -72,6 +72,6 @@ returns-clause-sound c =
     let ids = c.self.inside.identities in
     let names = c.self.inside.names in
     let n : find same_tag c.args.g plan ≡ Some c.in-Some.group.now = sym c.in-Some.ensures.value in
-    let u : c.shift_remove_full.result ≡ Some c.unwrap-i.result = search rules in
-    let group : c.unwrap-i.result.2 ≡ c.in-Some.group.now = unsome (sym (ap (option_map (λ p. p.2)) u) ∙ c.shift_remove_full.ensures.value ∙ n) in
+    let u : c.remove-2.result ≡ Some c.unwrap-i.result = search rules in
+    let group : c.unwrap-i.result.1 ≡ c.in-Some.group.now = unsome (sym (ap (option_map (λ p. p.1)) u) ∙ c.remove-2.ensures.value ∙ n) in
     subst IsSoundGroup (sym group) (group-is plan ids names c.self.invariant.held c.args.g c.in-Some.group.now n)

@@ -1,0 +1,149 @@
+//! Groups under their tags, in order.
+
+ghost use Rattle.std.specs.Prelude.{◌≡◌, ◌≤◌, insert, length, option_map, position, slice_get, List, [], None, OnOk};
+ghost use Rattle.std.specs.Borrow.{sem};
+ghost use Rattle.std.specs.Map.{keys_of, remove_entry};
+ghost use Rattle.std.specs.Option.{option_copied, option_copied_mut};
+ghost use Rattle.balise_rules.specs.Tagged.{find};
+ghost use Rattle.balise_rules.specs.Tags.{same_tag};
+ghost use Rattle.balise_plan.specs.InOrder.{HasRoom};
+ghost use Rattle.balise_plan.specs.Lent.{lends_group};
+
+use crate::group::Group;
+use crate::order::{place_near, stands_at, tag_at};
+use balise_rules::Tag;
+use indexmap::IndexMap;
+use std::alloc::{AllocError, Global};
+use std::marker::Model;
+
+/// Groups under their tags: the tags in order, and what stands under each. A group that is put in or taken out so moves
+/// tags alone.
+#[derive(Drop)]
+pub(crate) struct OrderedGroups {
+    order: Vec<Tag>,
+    held: IndexMap<Tag, Group>,
+    // Where a group was put in or taken out last.
+    near: usize,
+}
+
+impl Model for OrderedGroups {
+    ghost use Rattle.balise_plan.specs.InOrder as specs;
+    ghost use Rattle.std.specs.Prelude.{vec_len, vec_capacity, ◌-◌};
+    ghost use Rattle.indexmap.specs.IndexMap.{spare};
+
+    ghost Value = { specs.OrderedGroups };
+
+    ghost view = { λ g. record { entries = specs.in_order g.held.entries g.order.items; room = vec_capacity g.order - vec_len g.order; spare = spare g.held } };
+
+    ghost invariant = { λ g. specs.IsOrder g.held.entries g.order.items };
+}
+
+impl OrderedGroups {
+    /// No group. Takes no memory.
+    pub(crate) fn new(alloc: Global) -> OrderedGroups
+        ensures { result.entries ≡ [] }
+    {
+        OrderedGroups {
+            order: Vec::new(alloc),
+            held: IndexMap::new(alloc),
+            near: 0,
+        }
+    }
+
+    /// The allocator that its lists take memory from.
+    pub(crate) fn allocator(&self) -> Global {
+        *self.held.allocator()
+    }
+
+    /// How many groups there are.
+    pub(crate) fn len(&self) -> usize
+        ensures { result ≡ length self.now.entries }
+    {
+        self.order.len()
+    }
+
+    /// The group with this tag.
+    pub(crate) fn get(&self, g: Tag) -> Option<&Group>
+        ensures value { option_copied result ≡ find same_tag g self.now.entries }
+    {
+        self.held.get(&g)
+    }
+
+    /// The group with this tag, to change.
+    pub(crate) fn get_mut(&mut self, g: Tag) -> Option<&mut Group>
+        ensures* writes_back { sem 𝓛 (lends_group self.entry g result) }
+        ensures value { option_copied_mut result ≡ find same_tag g self.old.entries }
+    {
+        self.held.get_mut(&g)
+    }
+
+    /// The group at a place, with its tag.
+    pub(crate) fn at(&self, i: usize) -> Option<(Tag, &Group)>
+        ensures { option_map (λ p. (p.0, p.1.now)) result ≡ slice_get self.now.entries i }
+    {
+        let Some(tag) = tag_at(&self.order, i) else {
+            return None;
+        };
+        match self.held.get(&tag) {
+            Some(group) => Some((tag, group)),
+            None => None,
+        }
+    }
+
+    /// The place of the group with this tag, from 0.
+    pub(crate) fn place_of(&self, g: Tag) -> Option<usize>
+        ensures { result ≡ position (same_tag g) (keys_of self.now.entries) }
+    {
+        place_near(&self.order, g, expected(&self.order, g, self.near))
+    }
+
+    /// Takes memory for more groups.
+    pub(crate) fn reserve(&mut self, more: usize) -> Result<(), AllocError>
+        ensures entries { self.new.entries ≡ self.old.entries }
+        ensures room { OnOk result (HasRoom more self.new) }
+    {
+        self.order.reserve(more)?;
+        self.held.reserve(more)
+    }
+
+    /// Puts a group in at a place, under a tag that is new. Takes no memory.
+    pub(crate) fn insert(&mut self, i: usize, g: Tag, group: Group)
+        requires within { i ≤ length self.old.entries }
+        requires new { find same_tag g self.old.entries ≡ None }
+        requires room { HasRoom 1 self.old }
+        ensures { self.new.entries ≡ insert self.old.entries i (g, group) }
+    {
+        let _ = self.order.insert(i, g);
+        let _ = self.held.insert(g, group);
+        self.near = i;
+    }
+
+    /// Takes a group out. Answers it and its place.
+    pub(crate) fn remove(&mut self, g: Tag) -> Option<(usize, Group)>
+        ensures place { option_map (λ p. p.0) result ≡ position (same_tag g) (keys_of self.old.entries) }
+        ensures value { option_map (λ p. p.1) result ≡ find same_tag g self.old.entries }
+        ensures entries { self.new.entries ≡ remove_entry (same_tag g) self.old.entries }
+    {
+        let Some(i) = self.place_of(g) else {
+            return None;
+        };
+        let Some(group) = self.held.swap_remove(&g) else {
+            return None;
+        };
+        let _ = self.order.remove(i);
+        self.near = i;
+        Some((i, group))
+    }
+}
+
+// Where to look for a tag first: where the last group was put in or taken out, or where the tag stood when the plan was
+// read.
+fn expected(order: &Vec<Tag>, g: Tag, near: usize) -> usize {
+    if stands_at(order, g, near) {
+        return near;
+    }
+    match g {
+        Tag::Base(n) => n as usize,
+        Tag::Fresh(_) => near,
+    }
+}

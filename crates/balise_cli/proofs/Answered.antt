@@ -1,14 +1,14 @@
 -- What a command is answered, from what its session answers.
-use Rattle.std.proofs.Common.{◌≡◌, ◌∙◌, inl, inr, ℕ, ◌<◌, List, [], Bool, true, false, ◌&&◌, ◌||◌, IsTrue, nat_lt, Option, Some, None, Result, Ok, Err, option_map, refl, sym, ap, subst}
+use Rattle.std.proofs.Common.{◌≡◌, ◌∙◌, inl, inr, ◌<◌, List, [], Bool, true, false, ◌&&◌, ◌||◌, IsTrue, nat_lt, Option, Some, None, Result, Ok, option_map, refl, sym, ap}
 use Rattle.std.proofs.lemmas.Bool.{lt-ltb}
 use Rattle.balise_rules.specs.declared.identity.Id.{Id}
 use Rattle.balise_rules.specs.declared.refusal.Refusal.{Refusal}
 use Rattle.balise_rules.specs.declared.review.ReviewLine.{ReviewLine}
 use Rattle.balise_rules.specs.declared.tag.Tag.{Tag}
-use Rattle.balise_rules.specs.Addresses.{Command, AskSet, AskSetHead, AskInsert, AskDelete, AskMove, AskAdd, AskDrop, AskRenumber, AskTurn}
+use Rattle.balise_rules.specs.Addresses.{AskSet, AskSetHead, AskInsert, AskDelete, AskMove, AskAdd, AskDrop, AskRenumber, AskTurn}
 use Rattle.balise_rules.specs.Plan.{Group, Plan}
 use Rattle.balise_rules.specs.Review.{review}
-use Rattle.balise_rules.specs.Session.{State, Call, Ask, Undo, Redo, Strike, Reply, Done, Undone, Redone, Struck, Refused, answer, most_commands, takes_memory}
+use Rattle.balise_rules.specs.Session.{State, Call, Ask, Undo, Redo, Strike, Reply, most_commands, takes_memory}
 use Rattle.balise_rules.proofs.Cases.{unsome}
 use Rattle.balise_text.specs.Commands.{call_of, reads_digits}
 use Rattle.balise_text.specs.Answers.{reply_of}

@@ -1,17 +1,21 @@
 -- The texts of the items of a list, and a text behind another.
-use Rattle.std.proofs.Common.{◌≡◌, ◌∙◌, ◌⊎◌, inl, inr, ℕ, ◌+◌, ◌<◌, ◌≤◌, List, [], ◌∷◌, ◌++◌, length, drop, map, get_or, Option, Some, None, Result, Ok, Err, OnErr, refl, sym, ap}
+use Rattle.std.proofs.Common.{◌≡◌, ◌∙◌, ◌⊎◌, inl, inr, ℕ, ◌+◌, ◌<◌, ◌≤◌, List, [], ◌∷◌, ◌++◌, length, drop, map, get_or, Option, Some, None, Result, Ok, Err, OnErr, OnOk, reverse, refl, sym, ap}
 use Rattle.std.specs.List.{slice_get}
 use Rattle.std.proofs.lemmas.Option.{slice_get_within, slice_get_cases, get_or_from_slice_get}
 use Rattle.std.specs.Io.KnownBytes.{Appends}
-use Rattle.balise_edits.specs.Lines.{line_in}
-use Rattle.balise_edits.specs.declared.line.Line.{Line}
-use Rattle.balise_rules.specs.Journal as rules
+use Rattle.std.proofs.KnownBytes.{Appends-trans}
+use Rattle.std.proofs.lemmas.List.{append-nil}
+use Rattle.balise_rules.specs.Journal.{Line, line_of, lines, undone}
+use Rattle.balise_rules.specs.Paths.{Entry}
+use Rattle.balise_rules.specs.Session.{Removed, State}
 use Rattle.balise_lines.specs.Writing.{AppendsSome}
 use Rattle.balise_lines.proofs.WrittenTexts.{some_after}
 use Rattle.balise_text.specs.Texts.{Text, text_of}
 use Rattle.balise_text.proofs.Lists.{text_left, no_text_left}
-use Rattle.balise_cli.specs.PlanTexts as texts
-use Rattle.balise_cli.specs.Private.{entry_line}
+use Rattle.balise_text.specs.Entries.{head_text}
+use Rattle.balise_text.proofs.Wrote.{all_as, some_as}
+use Rattle.balise_cli.specs.PlanTexts.{entry_line, journal_text, undone_line, with_end}
+use Rattle.balise_cli.specs.Private.{told}
 
 -- the first text was written, and then a beginning of the second
 pub some_behind : {A E : Type 0} (r : Result A E) (old now new : Option Text) (xs ys : Text) → Appends old now xs → OnErr r (AppendsSome now new ys) → OnErr r (AppendsSome old new (xs ++ ys))
@@ -30,10 +34,27 @@ past xs i (inr h) e = h.0
 pub no_text_at : {X : Type 0} (f : X → Text) (xs : List X) (i : ℕ) → None ≡ slice_get xs i → text_of (map f (drop i xs)) ≡ []
 no_text_at f xs i e = no_text_left f xs i (past xs i (slice_get_cases xs i).1 e)
 
-same_lines : (ls : List Line) → text_of (map entry_line ls) ≡ text_of (map texts.entry_line (map line_in ls))
-same_lines [] = refl
-same_lines (l ∷ ls) = ap (λ (t : Text). entry_line l ++ t) (same_lines ls)
+-- the lines of entries are those that the entries are told by
+pub told_text : (es : List Entry) (ls : List Line) → map line_of es ≡ ls → text_of (map entry_line ls) ≡ text_of (map told es)
+told_text es ls e = ap (λ ys. text_of (map entry_line ys)) (sym e) ∙ same_lines es
+  where
+    same_lines : (es : List Entry) → text_of (map entry_line (map line_of es)) ≡ text_of (map told es)
+    same_lines [] = refl
+    same_lines (e ∷ es) = ap (λ (t : Text). told e ++ t) (same_lines es)
 
--- the lines of entries are those of what the entries stand for
-pub entries_text : (ls items : List Line) (es : List rules.Line) → ls ≡ items → map line_in items ≡ es → text_of (map texts.entry_line es) ≡ text_of (map entry_line ls)
-entries_text ls items es e f = sym (same_lines ls ∙ ap (λ ys. text_of (map texts.entry_line ys)) (ap (map line_in) e ∙ f))
+-- where nothing is undone, the journal is its first line and the standing entries
+pub standing_text : (s : State) (es : List Entry) → map line_of es ≡ lines s → s.stack ≡ [] → journal_text s ≡ with_end (head_text s.serial) ++ text_of (map told es)
+standing_text s es e n =
+    let entries : Text = text_of (map entry_line (lines s)) in
+    let none : text_of (map undone_line (undone s)) ≡ [] = ap (λ (rs : List Removed). text_of (map undone_line (reverse (map (λ (r : Removed). r.item.0) rs)))) n in
+    ap (λ (t : Text). with_end (head_text s.serial) ++ t) (ap (λ (t : Text). entries ++ t) none ∙ append-nil entries ∙ told_text es (lines s) e)
+
+-- one text and then all of another
+pub all_behind : {A E : Type 0} (r : Result A E) (old now new : Option Text) (xs ys text : Text) → text ≡ xs ++ ys → Appends old now xs → OnOk r (Appends now new ys) → OnOk r (Appends old new text)
+all_behind (Ok a) old now new xs ys text e w s = all_as text _ _ _ e (Appends-trans _ _ _ xs ys w s)
+all_behind (Err b) old now new xs ys text e w s = tt
+
+-- one text and then a beginning of another
+pub part_behind : {A E : Type 0} (r : Result A E) (old now new : Option Text) (xs ys text : Text) → text ≡ xs ++ ys → Appends old now xs → OnErr r (AppendsSome now new ys) → OnErr r (AppendsSome old new text)
+part_behind (Ok a) old now new xs ys text e w s = tt
+part_behind (Err b) old now new xs ys text e w s = some_as text _ _ _ e (some_after _ _ _ xs ys w s)

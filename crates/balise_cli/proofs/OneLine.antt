@@ -1,16 +1,15 @@
 -- What one line does.
-use Rattle.std.proofs.Common.{◌≡◌, ℕ, [], ◌++◌, Bool, true, false, cond, ◌||◌, ◌&&◌, Option, Some, None, Result, Ok, Err, IfOk, OnErr, refl, sym, ap, subst, ◌∙◌}
+use Rattle.std.proofs.Common.{◌≡◌, ℕ, [], Bool, true, false, cond, ◌||◌, ◌&&◌, Option, Some, None, Result, Ok, Err, IfOk, OnErr, refl, sym, ap, subst, ◌∙◌}
 use Rattle.std.specs.Io.KnownBytes.{Appends}
 use Rattle.std.proofs.KnownBytes.{Appends-trans}
-use Rattle.balise_rules.specs.Session.{Reply, State}
+use Rattle.balise_rules.specs.Session.{State}
 use Rattle.balise_lines.specs.Writing.{AppendsSome}
 use Rattle.balise_lines.proofs.WrittenTexts.{some_after, some_front, some_nothing}
 use Rattle.balise_arguments.specs.declared.options.Flags.{Flags}
 use Rattle.balise_text.specs.Answers.{reply_of}
-use Rattle.balise_text.specs.Commands.{call_of}
 use Rattle.balise_text.specs.Replies.{bad_line, is_refused}
 use Rattle.balise_text.specs.Texts.{Text}
-use Rattle.balise_cli.specs.Output.{Bad, Between, Commands, Good, Header, InGroup, InJournal, IsStep, MayAnswer, Next, On, Over, Phase, Read, after_command, after_read, read_line, reply_text, reviewed}
+use Rattle.balise_cli.specs.Output.{Bad, Between, Commands, Good, Header, InGroup, InJournal, IsStep, Next, On, Over, Phase, Read, after_command, after_read, read_line, reply_text}
 use Rattle.balise_cli.specs.PlanTexts.{end_text}
 use Rattle.balise_cli.specs.Private.{DidAnswer, answer_text}
 use Rattle.balise_cli.specs.Machine.{DidRead, DidSome, DidStep, DidTake, DidTakeSome, last_text, phase_of}

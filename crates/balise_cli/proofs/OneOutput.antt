@@ -1,5 +1,5 @@
 -- Where no command wants memory there is one output.
-use Rattle.std.proofs.Common.{◌≡◌, ◌∙◌, inl, inr, ℕ, ◌+◌, Bool, true, false, List, [], ◌∷◌, ◌++◌, length, Option, Some, None, refl, sym, ap, subst}
+use Rattle.std.proofs.Common.{◌≡◌, ◌∙◌, inl, inr, ℕ, ◌+◌, true, false, List, [], ◌∷◌, ◌++◌, length, sym, ap, subst}
 use Rattle.balise_rules.specs.Session.{Reply, State}
 use Rattle.balise_lines.specs.Lines.{Line, lines_of, whole}
 use Rattle.balise_arguments.specs.declared.options.Flags.{Flags}

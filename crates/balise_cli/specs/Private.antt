@@ -3,12 +3,12 @@ use Rattle.std.specs.Prelude.{◌≡◌, ◌⊎◌, ◌<◌, Bool, true, IsTrue,
 use Rattle.balise_rules.specs.declared.identity.Id.{Id}
 use Rattle.balise_rules.specs.declared.refusal.Refusal.TheVariants.{OutOfMemory}
 use Rattle.balise_rules.specs.Addresses.{AskTurn}
+use Rattle.balise_rules.specs.Journal.{line_of}
+use Rattle.balise_rules.specs.Paths.{Entry}
 use Rattle.balise_rules.specs.Session.{State, Call, Ask, Reply, Refused, answer, most_commands, takes_memory}
 use Rattle.balise_text.specs.Answers.{reply_of}
 use Rattle.balise_text.specs.Commands.{call_of}
 use Rattle.balise_text.specs.Texts.{Text}
-use Rattle.balise_edits.specs.Lines.{line_in}
-use Rattle.balise_edits.specs.declared.line.Line.{Line}
 use Rattle.balise_cli.specs.PlanTexts as texts
 use Rattle.balise_cli.specs.Output.{MayAnswer, reply_text, reviewed}
 use Rattle.balise_cli.specs.declared.commands.Answer.{Answer}
@@ -34,5 +34,5 @@ abbrev pub answer_text : Bool → Answer → Text
 answer_text quiet a = reply_text quiet (reply_of a.reply) a.review.items
 
 -- the line of an entry
-abbrev pub entry_line : Line → Text
-entry_line l = texts.entry_line (line_in l)
+abbrev pub told : Entry → Text
+told e = texts.entry_line (line_of e)

@@ -99,7 +99,7 @@ insert_spelt i pig at b e plan sound h =
     subst (λ f. Spelt f plan) (unok x.then_is)
     (λ y q. subst (λ (z : Telegram). IsSpelt (version_of z) x.first) (unsome (sym here ∙ q)) spelt)
 
-command_spelt : (c : Command) → (e : Edit) → (plan : Plan) → IsSound plan → edit_of c plan ≡ Ok e → Spelt e plan
+pub command_spelt : (c : Command) → (e : Edit) → (plan : Plan) → IsSound plan → edit_of c plan ≡ Ok e → Spelt e plan
 command_spelt (AskInsert i pig at b) e plan s h = insert_spelt i pig at b e plan s h
 command_spelt (AskSet i pig pkt v k n) e plan s h = let w = in_turn (find_packet i pig pkt plan) (λ p. Ok (SetVar p.group p.place p.tag v k n)) e h in subst (λ f. Spelt f plan) (unok w.then_is) tt
 command_spelt (AskSetHead i pig v n) e plan s h = let w = in_turn (find_telegram i pig plan) (λ t. Ok (SetHead t.group t.place v n)) e h in subst (λ f. Spelt f plan) (unok w.then_is) tt

@@ -16,4 +16,3 @@ pub mod Few
 pub mod Reading
 pub mod Stacked
 pub mod Lines
-pub mod CommandsSpelt

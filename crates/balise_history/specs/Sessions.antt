@@ -1,8 +1,7 @@
 -- A session as it is seen, and its answers as replies.
-use Rattle.std.specs.Prelude.{◌≡◌, ◌⊎◌, ◌+◌, ◌≤◌, ◌^◌, ℕ, Result, Ok, Err}
+use Rattle.std.specs.Prelude.{◌≡◌, ◌+◌, ◌≤◌, ◌^◌, ℕ, Result, Ok, Err}
 use Rattle.balise_rules.specs.declared.refusal.Refusal.{Refusal}
-use Rattle.balise_rules.specs.declared.refusal.Refusal.TheVariants.{OutOfMemory}
-use Rattle.balise_rules.specs.Session.{State, Call, Reply, Refused, answer, most_commands}
+use Rattle.balise_rules.specs.Session.{State, Reply, Refused, most_commands}
 use Rattle.balise_history.specs.Held.{Edited, state_at}
 
 -- its state, and how many changes were made of its plan

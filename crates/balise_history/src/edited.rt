@@ -2,7 +2,7 @@
 
 mod entering;
 
-ghost use Rattle.std.specs.Prelude.{◌≡◌, ◌+◌, ◌<◌, ◌≤◌, ◌^◌, [], ℕ, length, map, reverse, IfOk, IsOkUnless, OnOk};
+ghost use Rattle.std.specs.Prelude.{◌≡◌, ◌≢◌, ◌+◌, ◌<◌, ◌≤◌, ◌^◌, [], ℕ, length, map, reverse, IfNone, IfOk, IfSome, IsOkUnless, OnOk};
 ghost use Rattle.balise_edits.specs.Lines.{line_in};
 ghost use Rattle.balise_history.specs.Commands.{command_of};
 ghost use Rattle.balise_history.specs.Held.{Answered, state_at};
@@ -84,13 +84,37 @@ impl EditedPlan {
         self.history.standing()
     }
 
-    /// The lines of the entries that would stand if all that was undone or struck were done again.
+    /// The entries that stand, where nothing is undone or struck.
+    pub(crate) fn all_standing(&self) -> Option<&[Entry]>
+        ensures some { IfSome result (λ es. self.now.stack ≡ []) }
+        ensures none { IfNone result (self.now.stack ≢ []) }
+        ensures entries { IfSome result (λ es. map line_of es.now ≡ map line_of (entries self.now.base (all_back self.now.stack self.now.standing))) }
+    {
+        match self.history.top() {
+            Some(_) => None,
+            None => Some(self.standing()),
+        }
+    }
+
+    /// The entries that would stand if all that was undone or struck were done again, as their lines tell them.
+    pub(crate) fn all_back(&self) -> Result<Vec<Entry>, Refusal>
+        ensures ok { IfOk result (λ v. map line_of v.items ≡ map line_of (entries self.now.base (all_back self.now.stack self.now.standing))) }
+        ensures fault { IsOkUnless result Refusal.OutOfMemory }
+    {
+        self.history.all_back()
+    }
+
+    /// Their lines.
     pub(crate) fn lines(&self) -> Result<Vec<Line>, Refusal>
         ensures ok { IfOk result (λ v. map line_in v.items ≡ map line_of (entries self.now.base (all_back self.now.stack self.now.standing))) }
         ensures fault { IsOkUnless result Refusal.OutOfMemory }
     {
-        let entries = self.history.all_back()?;
-        lines_of(self.history.allocator(), &entries)
+        let alloc = self.history.allocator();
+        if let Some(entries) = self.all_standing() {
+            return lines_of(alloc, entries);
+        }
+        let entries = self.all_back()?;
+        lines_of(alloc, &entries)
     }
 
     /// The serials of those undone or struck, the last one last.

@@ -1,11 +1,11 @@
 //! A session: commands on a plan, undo, redo and strike in place.
 
-ghost use Rattle.std.specs.Prelude.{◌≡◌, ◌+◌, ◌<◌, ◌≤◌, ◌^◌, ℕ, length, map, nat_le, Err, IfOk, IsOkUnless};
+ghost use Rattle.std.specs.Prelude.{◌≡◌, ◌≢◌, ◌+◌, ◌<◌, ◌≤◌, ◌^◌, [], ℕ, length, map, nat_le, Err, IfNone, IfOk, IfSome, IsOkUnless};
 ghost use Rattle.balise_edits.specs.Lines.{line_in};
 ghost use Rattle.balise_history.specs.Commands.{command_of};
 ghost use Rattle.balise_history.specs.Sessions.{reply_of, seen_at, ChangesOnce, IsWorn};
 ghost use Rattle.balise_rules.specs.Accepting.{Unused};
-ghost use Rattle.balise_rules.specs.Journal.{lines, undone};
+ghost use Rattle.balise_rules.specs.Journal.{line_of, lines, undone};
 ghost use Rattle.balise_rules.specs.Plan.{IsSound};
 ghost use Rattle.balise_rules.specs.Session.{entries, held, later, most_commands, opened, Answers};
 ghost use Rattle.balise_rules.specs.Session as rules;
@@ -151,13 +151,30 @@ impl Session {
         self.edited.standing()
     }
 
-    /// The lines of its journal: of the entries that would stand if all that was undone or struck were done again, with
-    /// the anchors and notes that they would have. Refused as `OutOfMemory` alone.
+    /// The lines of its journal: those of `all_back`. Refused as `OutOfMemory` alone.
     pub fn lines(&self) -> Result<Vec<Line>, Refusal>
         ensures ok { IfOk result (λ v. map line_in v.items ≡ lines self.now.state) }
         ensures fault { IsOkUnless result Refusal.OutOfMemory }
     {
         self.edited.lines()
+    }
+
+    /// The standing edits, where nothing is undone or struck: the journal tells them alone then. Takes no memory.
+    pub fn all_standing(&self) -> Option<&[Entry]>
+        ensures some { IfSome result (λ es. self.now.state.stack ≡ []) }
+        ensures none { IfNone result (self.now.state.stack ≢ []) }
+        ensures entries { IfSome result (λ es. map line_of es.now ≡ lines self.now.state) }
+    {
+        self.edited.all_standing()
+    }
+
+    /// The edits that its journal tells: those that would stand if all that was undone or struck were done again, with
+    /// the anchors and notes that they would have; of a note, as much as its line tells. Refused as `OutOfMemory` alone.
+    pub fn all_back(&self) -> Result<Vec<Entry>, Refusal>
+        ensures ok { IfOk result (λ v. map line_of v.items ≡ lines self.now.state) }
+        ensures fault { IsOkUnless result Refusal.OutOfMemory }
+    {
+        self.edited.all_back()
     }
 
     /// The serials of the edits that were undone or struck, the last one last. Refused as `OutOfMemory` alone.

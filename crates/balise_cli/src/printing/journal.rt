@@ -4,27 +4,36 @@ ghost use Rattle.std.specs.Prelude.{◌≡◌, IfErr, OnErr, OnOk, map};
 ghost use Rattle.std.specs.Io.KnownBytes.{Appends};
 ghost use Rattle.balise_cli.specs.Faults.{IsCause};
 ghost use Rattle.balise_cli.specs.PlanTexts.{journal_text, undone_line};
-ghost use Rattle.balise_cli.specs.Private.{entry_line};
+ghost use Rattle.balise_cli.specs.Private.{told};
 ghost use Rattle.balise_lines.specs.Counts.{one_more};
 ghost use Rattle.balise_lines.specs.Writing.{AppendsSome};
 ghost use Rattle.balise_text.specs.Texts.{text_of};
 
 use crate::fault::RunFault;
-use balise_history::{Line, Session};
+use balise_edits::Entry;
+use balise_history::Session;
 use balise_lines::{Counted, WriteFault};
 use balise_text::{put_entry, put_head, put_undone};
+use std::alloc::Global;
 use std::io::Write;
 
-// Writes the lines of entries.
-fn put_entries<W: Write>(writer: &mut Counted<W>, lines: &[Line]) -> Result<(), WriteFault>
-    ensures ok { OnOk result (Appends (W.contents writer.old.inner) (W.contents writer.new.inner) (text_of (map entry_line lines.now))) }
+// Writes the lines of entries, one after another.
+fn put_entries<W: Write>(
+    writer: &mut Counted<W>,
+    alloc: Global,
+    entries: &[Entry],
+) -> Result<(), RunFault>
+    ensures ok { OnOk result (Appends (W.contents writer.old.inner) (W.contents writer.new.inner) (text_of (map told entries.now))) }
     ensures unfailed { OnOk result (writer.new.failed ≡ writer.old.failed) }
-    ensures cause { OnErr result (writer.new.failed ≡ one_more writer.old.failed) }
-    ensures written { OnErr result (AppendsSome (W.contents writer.old.inner) (W.contents writer.new.inner) (text_of (map entry_line lines.now))) }
+    ensures cause { IfErr result (IsCause writer.old.failed writer.new.failed) }
+    ensures written { OnErr result (AppendsSome (W.contents writer.old.inner) (W.contents writer.new.inner) (text_of (map told entries.now))) }
 {
-    for line in lines {
-        if let Err(fault) = put_entry(writer, line) {
-            return Err(fault);
+    for entry in entries {
+        let Ok(line) = entry.line(alloc) else {
+            return Err(RunFault::OutOfMemory);
+        };
+        if let Err(fault) = put_entry(writer, &line) {
+            return Err(RunFault::from(fault));
         }
     }
     Ok(())
@@ -55,17 +64,21 @@ pub(crate) fn put_journal<W: Write>(
     ensures cause { IfErr result (IsCause writer.old.failed writer.new.failed) }
     ensures written { OnErr result (AppendsSome (W.contents writer.old.inner) (W.contents writer.new.inner) (journal_text session.now.state)) }
 {
-    let Ok(lines) = session.lines() else {
+    let alloc = session.plan().allocator();
+    if let Err(fault) = put_head(writer, session.next_serial()) {
+        return Err(RunFault::from(fault));
+    }
+    if let Some(entries) = session.all_standing() {
+        return put_entries(writer, alloc, entries);
+    }
+    let Ok(entries) = session.all_back() else {
         return Err(RunFault::OutOfMemory);
     };
     let Ok(undone) = session.undone() else {
         return Err(RunFault::OutOfMemory);
     };
-    if let Err(fault) = put_head(writer, session.next_serial()) {
-        return Err(RunFault::from(fault));
-    }
-    if let Err(fault) = put_entries(writer, &lines) {
-        return Err(RunFault::from(fault));
+    if let Err(fault) = put_entries(writer, alloc, &entries) {
+        return Err(fault);
     }
     match put_all_undone(writer, &undone) {
         Ok(()) => Ok(()),

@@ -248,3 +248,30 @@ fn what_stood_behind_is_read_back(rt: HostRuntime) {
         &["a1007f80a03250900f82a1201f06ffffffffffffffffffffffffc0"],
     );
 }
+
+/// How many entries a session's journal tells, and how many of them are lent, where all of them stand.
+fn told(rt: &impl Abort, session: &Session) -> (usize, Option<usize>) {
+    let all = session.all_back().expect(rt, "memory");
+    match session.all_standing() {
+        Some(standing) => (all.len(), Some(standing.len())),
+        None => (all.len(), None),
+    }
+}
+
+#[test]
+fn entries_that_a_journal_tells(rt: HostRuntime) {
+    let alloc = rt.alloc();
+    let mut session = session_of(&rt, alloc, &[REVOCATION]);
+    assert!(rt; told(&rt, &session) == (0, Some(0)));
+    for (step, is) in [
+        (Step::SetHead(100, Var::MMcount, 7), (1, Some(1))),
+        (Step::Turn(100), (2, Some(2))),
+        (Step::Undo, (2, None)),
+        (Step::Strike(1), (2, None)),
+        (Step::Redo, (2, None)),
+        (Step::Redo, (2, Some(2))),
+    ] {
+        assert!(rt; answer_to(&rt, alloc, &mut session, step).is_ok());
+        assert!(rt; told(&rt, &session) == is, "{step:?}");
+    }
+}

@@ -1,4 +1,4 @@
-use Rattle.std.proofs.Common.{◌≡◌, ◌++◌, true, false, Bool, map, Option, OnErr, sym, subst}
+use Rattle.std.proofs.Common.{◌≡◌, true, false, Bool, map, Option, OnErr, sym, subst}
 use Rattle.std.specs.Io.KnownBytes.{Appends}
 use Rattle.std.proofs.KnownBytes.{Appends-nil}
 use Rattle.balise_rules.specs.Session.{Reply}

@@ -7,7 +7,7 @@ use Rattle.balise_history.specs.Commands.{command_of}
 use Rattle.balise_history.specs.Held.{Edited, Accepts, IsHeld}
 use Rattle.balise_history.proofs.Adding.{plan-made}
 use Rattle.balise_history.proofs.Answering.{view, added-one, edit-accepts}
-use Rattle.balise_history.proofs.CommandsSpelt.{command_spelt}
+use Rattle.balise_edit_laws.proofs.ReadyCommands.{command_spelt}
 use Rattle.balise_history.proofs.edited.EditedPlan.edit.Goals as goal
 
 pub edit-requires : goal.edit-requires

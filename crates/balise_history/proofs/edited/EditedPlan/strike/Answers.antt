@@ -1,4 +1,4 @@
-use Rattle.std.proofs.Common.{◌≡◌, ◌≤◌, ◌+◌, ◌-◌, ◌∙◌, inl, ⊎_elim, ℕ, zero, suc, List, [], ◌∷◌, Some, None, length, take, drop, slice_get, refl, sym, ap, subst, arith, add-one}
+use Rattle.std.proofs.Common.{◌≡◌, ◌≤◌, ◌+◌, ◌-◌, ◌∙◌, ⊎_elim, ℕ, zero, suc, List, [], ◌∷◌, Some, None, length, take, drop, slice_get, refl, sym, ap, subst, arith, add-one}
 use Rattle.std.proofs.lemmas.Result.{err_from_is_err_and}
 use Rattle.balise_rules.specs.declared.refusal.Refusal.TheVariants.{NoSuchEdit}
 use Rattle.balise_rules.specs.Paths.{Entry}

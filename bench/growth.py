@@ -1,0 +1,137 @@
+#!/usr/bin/env python3
+"""Times one command of each kind at plans of four sizes and behind three lengths of history.
+
+Usage: growth.py PROGRAM OTHER [PICTURE]
+
+Prints two tables, microseconds of processor time for each command as PROGRAM / OTHER, and draws both as an SVG picture.
+A time is that of a run with the commands less that of the same input without them, the least of three runs each.
+"""
+import os
+import random
+import subprocess
+import sys
+import tempfile
+
+from make_load import group, name, plan
+
+GROUPS = (1_000, 10_000, 100_000, 500_000)
+EDITS = (100, 10_000, 1_000_000)
+LEAST = 0.02  # seconds that a figure has to show
+
+
+def on_groups(kind, count, rng):
+    """Two commands that leave the plan as it was."""
+    n = rng.randrange(count)
+    there = name(n)
+    if kind == "set a field":
+        return [f"set {there} 0 0 D_LINK 0 {rng.randrange(32768)}", "undo"]
+    if kind == "set a header's field":
+        return [f"seth {there} 0 M_MCOUNT {rng.randrange(255)}", "undo"]
+    if kind == "insert a packet":
+        return [f"insert {there} 0 0 42403e0a", "undo"]
+    if kind == "delete a packet":
+        return [f"delete {there} 0 0", "undo"]
+    if kind == "move a packet":
+        return [f"move {there} 0 1 0", "undo"]
+    if kind == "add a group":
+        return [f"add {n} {group(1_000_000)}", "undo"]
+    if kind == "drop a group":
+        return [f"drop {there}", "undo"]
+    if kind == "renumber a group":
+        return [f"renumber {there} 16200", "undo"]
+    return [f"turn {there}", "undo"]
+
+
+ON_GROUPS = ("set a field", "set a header's field", "insert a packet", "delete a packet", "move a packet", "add a group", "drop a group", "renumber a group", "turn a group")
+
+
+def behind_edits(kind, count, i):
+    """Commands behind `count` settings, each in another group, that leave as many standing."""
+    if kind == "undo and redo":
+        return ["undo", "redo"]
+    if kind == "set and undo":
+        return [f"seth {name(i % 10000)} 0 M_MCOUNT 9", "undo"]
+    if kind == "strike the last but ten, and redo":
+        return [f"strike {count - 10}", "redo"]
+    return ["strike 1", "redo"]
+
+
+BEHIND = ("undo and redo", "set and undo", "strike the last but ten, and redo", "strike the first, and redo")
+
+
+def seconds(program, folder, lines, flags=()):
+    with open(f"{folder}/input", "w") as text:
+        text.write("\n".join(lines) + "\n")
+    least = None
+    for _ in range(3):
+        with open(f"{folder}/input", "rb") as text:
+            run = subprocess.Popen([program, *flags], stdin=text, stdout=subprocess.DEVNULL)
+            _, status, usage = os.wait4(run.pid, 0)
+        took = usage.ru_utime + usage.ru_stime
+        least = took if least is None else min(least, took)
+    if os.waitstatus_to_exitcode(status) != 0:
+        sys.exit(f"status {os.waitstatus_to_exitcode(status)}: {lines[-2:]}")
+    return least
+
+
+def each(program, folder, before, commands, bare):
+    """Microseconds for one of the commands: more of them until they can be seen beside the rest."""
+    count = 200
+    while True:
+        lines = commands(count)
+        took = seconds(program, folder, before + lines) - bare
+        if took > max(LEAST, bare / 20) or len(lines) > 200_000:
+            return max(took, 0) / len(lines) * 1e6
+        count = min(count * 8, 200_001)
+
+
+def table(title, sizes, kinds, measure):
+    print(f"| {title} | " + " | ".join(f"{size:,}" for size in sizes) + " |")
+    print("|---|" + "---|" * len(sizes))
+    figures = {}
+    for kind in kinds:
+        figures[kind] = [measure(kind, size) for size in sizes]
+        print(f"| {kind} | " + " | ".join(f"{ours:.2f} / {other:.2f}" for ours, other in figures[kind]) + " |", flush=True)
+    print()
+    return figures
+
+
+def main(program, other, picture=None):
+    folder = tempfile.mkdtemp()
+    bare = {}
+
+    def both(key, before, commands):
+        answer = []
+        for path in (program, other):
+            if (path, key) not in bare:
+                bare[path, key] = seconds(path, folder, before)
+            answer.append(each(path, folder, before, commands, bare[path, key]))
+        return answer
+
+    def of_groups(kind, count):
+        before = []
+        plan(count, before)
+        before.append("edits")
+        rng = random.Random(7)
+        return both(("groups", count), before, lambda n: [line for _ in range(n) for line in on_groups(kind, count, rng)])
+
+    def of_edits(kind, count):
+        before = []
+        plan(10000, before)
+        before.append("edits")
+        before += [f"seth {name(i % 10000)} 0 M_MCOUNT {i % 250}" for i in range(min(count, 990_000))]
+        return both(("edits", count), before, lambda n: [line for i in range(min(n, 2_000)) for line in behind_edits(kind, min(count, 990_000), i)])
+
+    tables = [
+        ("groups in the plan", GROUPS, table("a command and its undo, at groups", GROUPS, ON_GROUPS, of_groups)),
+        ("standing edits", EDITS, table("a pair of commands, behind edits", EDITS, BEHIND, of_edits)),
+    ]
+    if picture:
+        from growth_picture import draw
+
+        with open(picture, "w") as out:
+            out.write(draw(tables))
+
+
+if __name__ == "__main__":
+    main(*sys.argv[1:])

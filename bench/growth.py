@@ -4,7 +4,8 @@
 Usage: growth.py PROGRAM OTHER [PICTURE]
 
 Prints two tables, microseconds of processor time for each command as PROGRAM / OTHER, and draws both as an SVG picture.
-A time is that of a run with the commands less that of the same input without them, the least of three runs each.
+A time is that of a run with 40,000 commands less that of the same input without them, the least of three runs each: let
+nothing else run.
 """
 import os
 import random
@@ -16,7 +17,7 @@ from make_load import group, name, plan
 
 GROUPS = (1_000, 10_000, 100_000, 500_000)
 EDITS = (100, 10_000, 1_000_000)
-LEAST = 0.02  # seconds that a figure has to show
+PAIRS = 20_000
 
 
 def on_groups(kind, count, rng):
@@ -75,14 +76,9 @@ def seconds(program, folder, lines, flags=()):
 
 
 def each(program, folder, before, commands, bare):
-    """Microseconds for one of the commands: more of them until they can be seen beside the rest."""
-    count = 200
-    while True:
-        lines = commands(count)
-        took = seconds(program, folder, before + lines) - bare
-        if took > max(LEAST, bare / 20) or len(lines) > 200_000:
-            return max(took, 0) / len(lines) * 1e6
-        count = min(count * 8, 200_001)
+    """Microseconds for one of the commands."""
+    lines = commands(PAIRS)
+    return max(seconds(program, folder, before + lines) - bare, 0) / len(lines) * 1e6
 
 
 def table(title, sizes, kinds, measure):
@@ -120,7 +116,7 @@ def main(program, other, picture=None):
         plan(10000, before)
         before.append("edits")
         before += [f"seth {name(i % 10000)} 0 M_MCOUNT {i % 250}" for i in range(min(count, 990_000))]
-        return both(("edits", count), before, lambda n: [line for i in range(min(n, 2_000)) for line in behind_edits(kind, min(count, 990_000), i)])
+        return both(("edits", count), before, lambda n: [line for i in range(PAIRS if kind in BEHIND[:2] else 200) for line in behind_edits(kind, min(count, 990_000), i)])
 
     tables = [
         ("groups in the plan", GROUPS, table("a command and its undo, at groups", GROUPS, ON_GROUPS, of_groups)),

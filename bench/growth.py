@@ -16,7 +16,7 @@ import tempfile
 from make_load import group, name, plan
 
 GROUPS = (1_000, 10_000, 100_000, 500_000)
-EDITS = (100, 10_000, 1_000_000)
+EDITS = (100, 10_000, 950_000)
 PAIRS = 20_000
 
 
@@ -51,7 +51,7 @@ def behind_edits(kind, count, i):
     if kind == "undo and redo":
         return ["undo", "redo"]
     if kind == "set and undo":
-        return [f"seth {name(i % 10000)} 0 M_MCOUNT 9", "undo"]
+        return [f"seth {name(1 + i % 9999)} 0 M_MCOUNT 255", "undo"]
     if kind == "strike the last but ten, and redo":
         return [f"strike {count - 10}", "redo"]
     return ["strike 1", "redo"]
@@ -112,11 +112,13 @@ def main(program, other, picture=None):
         return both(("groups", count), before, lambda n: [line for _ in range(n) for line in on_groups(kind, count, rng)])
 
     def of_edits(kind, count):
+        count = min(count, 950_000)
         before = []
         plan(10000, before)
-        before.append("edits")
-        before += [f"seth {name(i % 10000)} 0 M_MCOUNT {i % 250}" for i in range(min(count, 990_000))]
-        return both(("edits", count), before, lambda n: [line for i in range(PAIRS if kind in BEHIND[:2] else 200) for line in behind_edits(kind, min(count, 990_000), i)])
+        before += ["edits", "seth 0.0 0 M_MCOUNT 1"]
+        before += [f"seth {name(1 + i % 9999)} 0 M_MCOUNT {i % 250}" for i in range(count - 1)]
+        pairs = max(20, min(PAIRS, 2_000_000 // count)) if kind == BEHIND[-1] else PAIRS
+        return both(("edits", count), before, lambda n: [line for i in range(pairs) for line in behind_edits(kind, count, i)])
 
     tables = [
         ("groups in the plan", GROUPS, table("a command and its undo, at groups", GROUPS, ON_GROUPS, of_groups)),

@@ -75,9 +75,8 @@ def seconds(program, folder, lines, flags=()):
     return least
 
 
-def each(program, folder, before, commands, bare):
+def each(program, folder, before, lines, bare):
     """Microseconds for one of the commands."""
-    lines = commands(PAIRS)
     return max(seconds(program, folder, before + lines) - bare, 0) / len(lines) * 1e6
 
 
@@ -96,12 +95,12 @@ def main(program, other, picture=None):
     folder = tempfile.mkdtemp()
     bare = {}
 
-    def both(key, before, commands):
+    def both(key, before, lines):
         answer = []
         for path in (program, other):
             if (path, key) not in bare:
                 bare[path, key] = seconds(path, folder, before)
-            answer.append(each(path, folder, before, commands, bare[path, key]))
+            answer.append(each(path, folder, before, lines, bare[path, key]))
         return answer
 
     def of_groups(kind, count):
@@ -109,7 +108,7 @@ def main(program, other, picture=None):
         plan(count, before)
         before.append("edits")
         rng = random.Random(7)
-        return both(("groups", count), before, lambda n: [line for _ in range(n) for line in on_groups(kind, count, rng)])
+        return both(("groups", count), before, [line for _ in range(PAIRS) for line in on_groups(kind, count, rng)])
 
     def of_edits(kind, count):
         count = min(count, 950_000)
@@ -118,7 +117,7 @@ def main(program, other, picture=None):
         before += ["edits", "seth 0.0 0 M_MCOUNT 1"]
         before += [f"seth {name(1 + i % 9999)} 0 M_MCOUNT {i % 250}" for i in range(count - 1)]
         pairs = max(20, min(PAIRS, 2_000_000 // count)) if kind == BEHIND[-1] else PAIRS
-        return both(("edits", count), before, lambda n: [line for i in range(pairs) for line in behind_edits(kind, count, i)])
+        return both(("edits", count), before, [line for i in range(pairs) for line in behind_edits(kind, count, i)])
 
     tables = [
         ("groups in the plan", GROUPS, table("a command and its undo, at groups", GROUPS, ON_GROUPS, of_groups)),

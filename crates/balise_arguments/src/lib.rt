@@ -9,6 +9,3 @@ pub use arguments::flags;
 pub use clap::Error;
 pub use fault::ArgumentsFault;
 pub use options::Flags;
-
-#[cfg(test)]
-mod tests;

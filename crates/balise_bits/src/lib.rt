@@ -8,8 +8,6 @@ mod cells;
 mod fault;
 mod nibbles;
 mod store;
-#[cfg(test)]
-mod tests;
 mod window;
 
 pub use balise_rules::Refusal;

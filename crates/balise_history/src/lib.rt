@@ -17,10 +17,6 @@ pub use balise_edits::{
     Bits, Edit, Entry, Group, GroupTag, Id, Line, LineEdit, Noted, Packet, PacketTag, Plan,
     Refusal, Tag, Var,
 };
-
-#[cfg(test)]
-mod tests;
-
 pub use command::Command;
 pub use journal_fault::JournalFault;
 pub use opening::{Opening, from_entries};

@@ -13,8 +13,6 @@ mod packet;
 mod parts;
 mod search;
 mod tables;
-#[cfg(test)]
-mod tests;
 mod visit;
 mod walker;
 

@@ -13,6 +13,3 @@ pub use counted::Counted;
 pub use fault::{LineFault, WriteFault};
 pub use lines::{Lines, Next};
 pub use putting::put;
-
-#[cfg(test)]
-mod tests;

@@ -10,5 +10,5 @@ use Rattle.balise_plan.specs.contracts.group.Group as group
 use Rattle.balise_plan.specs.contracts.ordered_groups.OrderedGroups.{the_row}
 
 -- the group under the tag is what was last written to it, and where there is none all stays
-abbrev pub lends_group : MutBor OrderedGroups → Tag → Option (MutBor (Group)) → Fml
+abbrev pub lends_group : MutBor OrderedGroups → Tag → Option (MutBor Group) → Fml
 lends_group s g r = LendsSo the_row group.the_row s r (λ n w. n.entries ≡ set_value (same_tag g) s.now.entries w) (λ n. n.entries ≡ s.now.entries)

@@ -16,8 +16,6 @@ mod ordered_groups;
 mod plan;
 mod relink;
 mod spot;
-#[cfg(test)]
-mod tests;
 mod walk;
 
 pub use balise_bits::Bits;

@@ -17,6 +17,3 @@ pub use refusal::Refusal;
 pub use review::{ReviewLine, Reviewed};
 pub use tag::Tag;
 pub use variable::Var;
-
-#[cfg(test)]
-mod happy_paths;

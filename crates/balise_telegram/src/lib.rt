@@ -15,6 +15,3 @@ pub use fault::TelegramFault;
 pub use header::Header;
 pub use packed::PackedTelegram;
 pub use telegram::Telegram;
-
-#[cfg(test)]
-mod tests;

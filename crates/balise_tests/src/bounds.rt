@@ -2,7 +2,6 @@
 
 use crate::devices::{Repeated, Tally};
 use balise_cli::{Counted, Flags, RunFault, Status, run};
-use std::test::Fail;
 
 const FRONT: &str = "plan 1\nedits\n";
 
@@ -11,7 +10,7 @@ const GROUP: &[u8] =
 
 /// A command line of 4,096 letters, behind a plan without groups, and one of 4,097.
 #[test]
-fn longest_line(rt: HostRuntime) -> Result<(), Fail> {
+fn longest_line(rt: HostRuntime) {
     for (letters, ended, output) in [
         (
             4_096,
@@ -26,7 +25,6 @@ fn longest_line(rt: HostRuntime) -> Result<(), Fail> {
         assert_eq!(rt; answer, ended);
         assert_eq!(rt; writer.inner().as_slice(), output.as_bytes());
     }
-    Ok(())
 }
 
 /// After 1,000,000 accepted commands each further one is refused.
@@ -85,16 +83,16 @@ fn bad_lines_at_the_limit(rt: HostRuntime) {
 
 /// 1,000 edits, all undone, give the plan that was read.
 #[test]
-fn a_thousand_edits_undone(rt: HostRuntime) -> Result<(), Fail> {
+fn a_thousand_edits_undone(rt: HostRuntime) {
     let mut input = String::new(rt.alloc());
-    input.push_str(
-        "plan 1\ngroup\na1007f80a0327fffffffffffffffffffffffffffffffffffffffc0\nedits\n",
-    )?;
+    input
+        .push_str("plan 1\ngroup\na1007f80a0327fffffffffffffffffffffffffffffffffffffffc0\nedits\n")
+        .expect(&rt, "memory");
     for _ in 0..1_000 {
-        input.push_str("turn 5.100\n")?;
+        input.push_str("turn 5.100\n").expect(&rt, "memory");
     }
     for _ in 0..1_000 {
-        input.push_str("undo\n")?;
+        input.push_str("undo\n").expect(&rt, "memory");
     }
     let flags = Flags {
         quiet: true,
@@ -108,7 +106,6 @@ fn a_thousand_edits_undone(rt: HostRuntime) -> Result<(), Fail> {
         writer.inner().as_slice(),
         b"plan 1\ngroup\na1007f80a0327fffffffffffffffffffffffffffffffffffffffc0\n".as_slice()
     );
-    Ok(())
 }
 
 /// An input without end is too long at last.

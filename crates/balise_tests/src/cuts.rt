@@ -4,7 +4,6 @@ use crate::devices::Slow;
 use balise_cli::{Counted, Flags, Status, run};
 use std::alloc::Global;
 use std::process::Abort;
-use std::test::Fail;
 
 const INPUT: &[u8] =
     b"plan 1\ngroup\na104ff80a032505023a0a0320096047fffffffffffffffffffffc0\na1157f80a0324b0010697fffffffffffffffffffffffffffffffc0\na1247f80a0327fffffffffffffffffffffffffffffffffffffffc0\ngroup\na1007f80a032c15022a07d00326301ffffffffffffffffffffffc0\nedits\nturn 5.100\ninsert 5.100 0 0 42403e0a\nstrike 1\n";
@@ -123,7 +122,7 @@ fn check(rt: &impl Abort, alloc: Global, length: usize, due: &str, status: Statu
 
 /// Each length is in one row of the tables, and what stands there is printed.
 #[test]
-fn each_cut(rt: HostRuntime) -> Result<(), Fail> {
+fn each_cut(rt: HostRuntime) {
     for length in 0..=INPUT.len() {
         let mut rows: u32 = 0;
         for (lengths, text) in REFUSED {
@@ -136,11 +135,10 @@ fn each_cut(rt: HostRuntime) -> Result<(), Fail> {
             if holds(lengths, length) {
                 rows = rows.saturating_add(1);
                 let turn = if is_turned { TURN } else { "" };
-                let due = format!(in rt.alloc(); "{turn}{text}{plan}")?;
+                let due = format!(in rt.alloc(); "{turn}{text}{plan}").expect(&rt, "memory");
                 check(&rt, rt.alloc(), length, due.as_str(), status);
             }
         }
         assert_eq!(rt; rows, 1, "{length}");
     }
-    Ok(())
 }

@@ -5,7 +5,6 @@ use balise_cli::{Counted, Flags, RunFault, Status, run};
 use std::alloc::Global;
 use std::io::ErrorKind;
 use std::process::Abort;
-use std::test::Fail;
 
 /// An input with so many lines before its commands, what each command is answered, and what is printed behind.
 struct Case {
@@ -67,21 +66,21 @@ const CASES: [Case; 3] = [
 const STEPS: [usize; 4] = [1, 2, 3, 4096];
 
 /// What has been written where so many lines were read, and the input goes on.
-fn written(alloc: Global, case: &Case, lines: usize) -> Result<String, Fail> {
+fn written(rt: &impl Abort, alloc: Global, case: &Case, lines: usize) -> String {
     let mut text = String::new(alloc);
     for (i, answer) in case.answers.iter().enumerate() {
         if case.front.saturating_add(i) < lines {
-            text.push_str(answer)?;
+            text.push_str(answer).expect(rt, "memory");
         }
     }
-    Ok(text)
+    text
 }
 
 /// The whole output.
-fn output(alloc: Global, case: &Case) -> Result<String, Fail> {
-    let mut text = written(alloc, case, usize::MAX)?;
-    text.push_str(case.end)?;
-    Ok(text)
+fn output(rt: &impl Abort, alloc: Global, case: &Case) -> String {
+    let mut text = written(rt, alloc, case, usize::MAX);
+    text.push_str(case.end).expect(rt, "memory");
+    text
 }
 
 fn lines_in(bytes: &[u8]) -> usize {
@@ -95,35 +94,38 @@ fn lines_in(bytes: &[u8]) -> usize {
 }
 
 /// Runs with reads of so many bytes, and answers how many there were.
-fn reads_of(rt: &impl Abort, alloc: Global, case: &Case, step: usize) -> Result<u64, Fail> {
+fn reads_of(rt: &impl Abort, alloc: Global, case: &Case, step: usize) -> u64 {
     let mut reader = Slow::new(case.input, step);
     let mut writer = Counted::new(Vec::new(alloc));
     let answer = run(alloc, &mut reader, &mut writer, case.flags);
     assert_eq!(rt; answer, Ok(case.status));
-    assert_eq!(rt; writer.inner().as_slice(), output(alloc, case)?.as_bytes());
-    Ok(reader.inner().calls)
+    assert_eq!(rt;
+        writer.inner().as_slice(),
+        output(rt, alloc, case).as_bytes()
+    );
+    reader.inner().calls
 }
 
 /// Runs with writes of so many bytes, and answers how many there were.
-fn writes_of(rt: &impl Abort, alloc: Global, case: &Case, step: usize) -> Result<u64, Fail> {
+fn writes_of(rt: &impl Abort, alloc: Global, case: &Case, step: usize) -> u64 {
     let mut reader = Slow::new(case.input, 4096);
     let mut writer = Narrow::new(alloc, step, 0, Failure::Nothing);
     let answer = run(alloc, &mut reader, &mut writer, case.flags);
     assert_eq!(rt; answer, Ok(case.status));
     assert_eq!(rt;
         writer.inner().text.as_slice(),
-        output(alloc, case)?.as_bytes()
+        output(rt, alloc, case).as_bytes()
     );
-    Ok(writer.inner().calls)
+    writer.inner().calls
 }
 
 /// The replies to the commands whose lines came before the failing call have been written, and nothing else. No read
 /// comes behind it.
 #[test]
-fn each_read_fails(rt: HostRuntime) -> Result<(), Fail> {
+fn each_read_fails(rt: HostRuntime) {
     for case in &CASES {
         for step in STEPS {
-            for call in 1..=reads_of(&rt, rt.alloc(), case, step)? {
+            for call in 1..=reads_of(&rt, rt.alloc(), case, step) {
                 for kind in [
                     ErrorKind::Other,
                     ErrorKind::Interrupted,
@@ -137,22 +139,21 @@ fn each_read_fails(rt: HostRuntime) -> Result<(), Fail> {
                     assert_eq!(rt; writer.failed(), 0);
                     let given = case.input.len().saturating_sub(reader.inner().bytes.len());
                     let lines = lines_in(case.input.get(..given).unwrap_or(case.input));
-                    let due = written(rt.alloc(), case, lines)?;
+                    let due = written(&rt, rt.alloc(), case, lines);
                     assert_eq!(rt; writer.inner().as_slice(), due.as_bytes());
                 }
             }
         }
     }
-    Ok(())
 }
 
 /// What was written is a beginning of the output, which ends where the failing call came. No write comes behind it.
 #[test]
-fn each_write_fails(rt: HostRuntime) -> Result<(), Fail> {
+fn each_write_fails(rt: HostRuntime) {
     for case in &CASES {
-        let whole = output(rt.alloc(), case)?;
+        let whole = output(&rt, rt.alloc(), case);
         for step in STEPS {
-            for call in 1..=writes_of(&rt, rt.alloc(), case, step)? {
+            for call in 1..=writes_of(&rt, rt.alloc(), case, step) {
                 for how in [
                     Failure::Error(ErrorKind::Other),
                     Failure::Error(ErrorKind::Interrupted),
@@ -170,7 +171,6 @@ fn each_write_fails(rt: HostRuntime) -> Result<(), Fail> {
             }
         }
     }
-    Ok(())
 }
 
 /// Three bytes in one call, and then a fault: `ok` and a space are held.

@@ -77,7 +77,7 @@ const REFUSED: [(&str, &str); 22] = [
     ),
 ];
 
-fn check<R: Abort>(rt: &R, alloc: Global, input: &str, output: &str, status: Status) {
+fn check(rt: &impl Abort, alloc: Global, input: &str, output: &str, status: Status) {
     let mut reader = Counted::new(input.as_bytes());
     let mut writer = Counted::new(Vec::new(alloc));
     let ended = run(alloc, &mut reader, &mut writer, Flags::default());

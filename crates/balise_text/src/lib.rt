@@ -26,8 +26,6 @@ mod refused;
 mod replies;
 mod reply;
 mod reviews;
-#[cfg(test)]
-mod tests;
 
 pub use balise_history::{Bits, Command, Id, Line, LineEdit, Noted, Refusal, Tag, Var};
 pub use balise_lines::{Counted, WriteFault};

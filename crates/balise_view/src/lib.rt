@@ -4,7 +4,5 @@
 mod group;
 mod packet;
 mod telegram;
-#[cfg(test)]
-mod tests;
 
 pub use group::group_line;

@@ -1,0 +1,5 @@
+//! Tests of balise_arguments: what `flags` answers.
+#![tactic(auto)]
+
+#[cfg(test)]
+mod arguments;

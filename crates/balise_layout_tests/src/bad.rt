@@ -1,0 +1,46 @@
+//! Bits that are no packet.
+
+use crate::packets::REVOCATION;
+use balise_bits::Bits;
+use balise_layout::{LayoutFault, Packet};
+
+// Digits, a place among their bits, and the fault there in a telegram of version 2.1.
+const ROWS: [(&str, usize, LayoutFault); 14] = [
+    // No bits, no bits behind the place, and a place past the end.
+    ("", 0, LayoutFault::PacketCut),
+    (REVOCATION, 32, LayoutFault::PacketCut),
+    (REVOCATION, 4294967295, LayoutFault::PacketCut),
+    // Less than 8 bits, number 0, number 255, and less than 23 bits.
+    (REVOCATION, 25, LayoutFault::PacketCut),
+    ("00", 0, LayoutFault::PacketZero),
+    ("ff", 0, LayoutFault::LayoutMismatch),
+    ("4240", 0, LayoutFault::PacketCut),
+    // L_PACKET 22, and past the end.
+    ("2c002c0000", 0, LayoutFault::PacketCut),
+    ("42403e", 0, LayoutFault::PacketCut),
+    // Longer and shorter than the fields.
+    ("4240400a", 0, LayoutFault::LayoutMismatch),
+    ("42403c0a", 0, LayoutFault::LayoutMismatch),
+    ("88404e0190", 0, LayoutFault::LayoutMismatch),
+    (
+        "1b40fc80002810659224107d062180f0",
+        0,
+        LayoutFault::LayoutMismatch,
+    ),
+    // Q_DIFF 3.
+    (
+        "1b40fa80002816659224107d062180f0",
+        0,
+        LayoutFault::LayoutMismatch,
+    ),
+];
+
+#[test]
+fn bits_that_are_no_packet_are_refused(rt: HostRuntime) {
+    for row in &ROWS {
+        let bits = Bits::digits(rt.alloc(), row.0).expect(&rt, "memory");
+        let fault = Packet::read(&bits, row.1, 33).err();
+        assert!(rt; fault == Some(row.2));
+        assert!(rt; Packet::check(&bits, row.1, 33) == Err(row.2));
+    }
+}

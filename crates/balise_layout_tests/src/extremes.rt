@@ -1,0 +1,113 @@
+//! The longest packets of a long telegram: read, with all their fields and elements.
+
+use crate::packets::{check_digits, packet_of};
+use balise_bits::Bits;
+use balise_layout::{Id, Packet, Var};
+use std::alloc::Global;
+use std::process::Abort;
+
+// A packet 27 of two sections with 31 and 21 differences, the most that a long telegram holds: 762 bits.
+const MOST_DIFFERENCES: &str =
+    "1b45f4800040f800d71d71915238be374545468516cfccb71b42083db3512525820ee78c75156e599c3e4d05848106df4d33135e291eba415d0ffffffab3a20e6386788ca70c4e9b2a9e83218a77de1b4bbd240e59248ed2a0066bbeba48b500";
+// A packet 5 of 18 elements, four with a country, which fills a long telegram: 772 bits.
+const FULL_LINKS: &str =
+    "0546088007000200883ef070b450faf018709450bbfffe546c3c7d3bfff2a138f0001992eee54643c6d7cc4ed8cfa39c2154232f800fd2cb538ba329392aff4d5bb75dcea8c478cb3d6dad05b5bb139433a9f697b0b7d0ee104a109befff78b950";
+
+// A packet 5 of 19 elements without a country, the most that a long telegram holds: 771 bits. Element k names 100 k + 1.
+const MOST_ELEMENTS: &str =
+    "05460600640002009006500cb4100cc032504019c096f0c034019102006903eb4500d409650c01ac15ef1c036032104006d070b4900dc0fa51401bc226f2c03804b10600710a2b4d00e415e51c01cc2eef3c03a06410800750d4b5100ec1c25240";
+
+// Some of the values: the first and the last of a variable, and those at the border of the sections.
+const DIFFERENCES: [(Var, u32, Option<u32>); 16] = [
+    (Var::LPacket, 0, Some(762)),
+    (Var::NIter, 0, Some(31)),
+    (Var::NIter, 1, Some(1)),
+    (Var::NIter, 2, Some(21)),
+    (Var::NIter, 3, None),
+    (Var::DStatic, 1, Some(32767)),
+    (Var::VStatic, 1, Some(127)),
+    (Var::QDiff, 51, Some(0)),
+    (Var::NcCddiff, 17, Some(5)),
+    (Var::NcDiff, 33, Some(14)),
+    (Var::NcDiff, 34, None),
+    (Var::VDiff, 0, Some(3)),
+    (Var::VDiff, 30, Some(93)),
+    (Var::VDiff, 31, Some(104)),
+    (Var::VDiff, 51, Some(84)),
+    (Var::VDiff, 52, None),
+];
+
+// The countries and numbers that the elements name in a telegram of country 5.
+const NAMED: [(u32, u32); 18] = [
+    (5, 1),
+    (5, 901),
+    (6, 1801),
+    (1023, 2701),
+    (1023, 16383),
+    (1023, 0),
+    (1023, 5401),
+    (1023, 6301),
+    (1023, 7201),
+    (0, 8101),
+    (0, 9001),
+    (0, 9901),
+    (0, 10801),
+    (0, 11701),
+    (0, 12601),
+    (0, 13501),
+    (0, 14401),
+    (511, 15301),
+];
+
+// That the packet has so many bits and fields, whose values one after another are its digits.
+fn check_spelling(
+    rt: &impl Abort,
+    alloc: Global,
+    digits: &str,
+    width: usize,
+    count: usize,
+) -> Packet {
+    let packet = packet_of(rt, alloc, digits, 33);
+    assert_eq!(rt; packet.width(), width);
+    check_digits(rt, alloc, &packet, digits);
+    let fields = packet.fields().expect(rt, "memory");
+    assert_eq!(rt; fields.len(), count);
+    let mut bits = Bits::new(alloc);
+    for (var, occurrence, value) in fields {
+        assert!(rt; value >> var.width() == 0);
+        assert!(rt; packet.field(var, occurrence) == Some(value));
+        bits.push(var.width(), value).expect(rt, "memory");
+    }
+    let text = bits.to_hex().expect(rt, "memory");
+    assert_eq!(rt; text.as_str(), digits);
+    packet
+}
+
+#[test]
+fn a_packet_27_of_52_differences_is_read(rt: HostRuntime) {
+    let packet = check_spelling(&rt, rt.alloc(), MOST_DIFFERENCES, 762, 169);
+    for (var, occurrence, value) in DIFFERENCES {
+        assert!(rt; packet.field(var, occurrence) == value);
+    }
+}
+
+#[test]
+fn a_packet_5_of_18_elements_is_read(rt: HostRuntime) {
+    let packet = check_spelling(&rt, rt.alloc(), FULL_LINKS, 772, 117);
+    let links = packet.links(5).expect(&rt, "memory");
+    assert_eq!(rt; links.len(), NAMED.len());
+    for (id, (country, number)) in links.into_iter().zip(NAMED) {
+        assert!(rt; id == Id { country, number });
+    }
+}
+
+#[test]
+fn a_packet_5_of_19_elements_is_read(rt: HostRuntime) {
+    let packet = check_spelling(&rt, rt.alloc(), MOST_ELEMENTS, 771, 119);
+    let links = packet.links(5).expect(&rt, "memory");
+    assert_eq!(rt; links.len(), 19);
+    for (k, id) in links.into_iter().enumerate() {
+        let number = 100 * k as u32 + 1;
+        assert!(rt; id == Id { country: 5, number });
+    }
+}

@@ -1,0 +1,107 @@
+//! What kind of packet each is, and the laws at a packet of each layout.
+
+use crate::packets::{
+    GRADIENTS, INFILL, LEVELS, LINKS, OPAQUE, RESTRICTION, REVOCATION, SPEEDS, check_digits,
+    packet_of,
+};
+use balise_bits::Bits;
+use balise_layout::laws::{
+    as_long_as_said, is_steady, one_spelling, reads_what_is_spelt, setting_keeps, spells_once,
+    spelt_where_known, written_is_read,
+};
+use balise_layout::{
+    GradientProfile, InfillLocation, Kind, Layout, LevelTransition, Linking, Opaque, Packet,
+    Revocation, SpeedProfile, SpeedRestriction, Var, is_known,
+};
+use std::alloc::Global;
+use std::process::Abort;
+
+// A packet in digits, the version of its telegram, and its kind.
+type Row = (&'static str, u32, Kind);
+
+const ROWS: [Row; 10] = [
+    (LINKS, 33, Kind::Linking),
+    (GRADIENTS, 33, Kind::GradientProfile),
+    (SPEEDS, 33, Kind::SpeedProfile),
+    (SPEEDS, 16, Kind::Opaque),
+    (LEVELS, 33, Kind::LevelTransition),
+    (LEVELS, 16, Kind::Opaque),
+    (RESTRICTION, 16, Kind::SpeedRestriction),
+    (REVOCATION, 33, Kind::Revocation),
+    (INFILL, 16, Kind::InfillLocation),
+    (OPAQUE, 33, Kind::Opaque),
+];
+
+#[test]
+fn packets_are_of_their_kinds(rt: HostRuntime) {
+    for (digits, version, kind) in ROWS {
+        let packet = packet_of(&rt, rt.alloc(), digits, version);
+        assert!(rt; packet.kind() == kind);
+        assert!(rt; Kind::of(version, packet.number()) == kind);
+        assert!(rt; kind.is_known() == (kind != Kind::Opaque));
+    }
+}
+
+#[test]
+fn versions_know_their_packets(rt: HostRuntime) {
+    for (version, number, known) in [
+        (16, 5, true),
+        (16, 21, true),
+        (16, 65, true),
+        (16, 66, true),
+        (16, 136, true),
+        (16, 27, false),
+        (31, 41, false),
+        (32, 27, true),
+        (47, 41, true),
+        (48, 27, false),
+        (33, 44, false),
+        (33, 255, false),
+    ] {
+        assert!(rt; is_known(version, number) == known);
+    }
+}
+
+// What the laws say of this packet: read again with other bits behind it, it is the same, of the length in
+// L_PACKET and spelt, whatever Q_DIR is.
+fn check_again(rt: &impl Abort, alloc: Global, packet: &mut Packet, version: u32) {
+    for dir in 0..4 {
+        packet.set_field(Var::QDir, 0, dir).expect(rt, "memory");
+        let mut bits = Bits::new(alloc);
+        packet.write(&mut bits).expect(rt, "memory");
+        let text = bits.to_hex().expect(rt, "memory");
+        assert!(rt; packet.field(Var::LPacket, 0) == u32::try_from(bits.len()).ok());
+        assert!(rt; packet.is_spelt(version));
+        bits.push(8, 255).expect(rt, "memory");
+        let (again, end) = Packet::read(&bits, 0, version).expect(rt, "memory");
+        assert_eq!(rt; end, packet.width());
+        check_digits(rt, alloc, &again, text.as_str());
+    }
+}
+
+// Calls the laws of a layout, and sees what they say of a packet of it.
+fn check_laws<R: Abort, L: Layout>(rt: &R, alloc: Global, digits: &str, version: u32) {
+    is_steady::<L>();
+    spelt_where_known::<L>();
+    written_is_read::<L>();
+    as_long_as_said::<L>();
+    one_spelling::<L>();
+    let mut packet = packet_of(rt, alloc, digits, version);
+    assert!(rt; L::takes(packet.number()));
+    check_again(rt, alloc, &mut packet, version)
+}
+
+#[test]
+fn the_laws_hold_at_a_packet_of_each_layout(rt: HostRuntime) {
+    reads_what_is_spelt();
+    spells_once();
+    setting_keeps();
+    check_laws::<_, Linking>(&rt, rt.alloc(), LINKS, 33);
+    check_laws::<_, GradientProfile>(&rt, rt.alloc(), GRADIENTS, 33);
+    check_laws::<_, SpeedProfile>(&rt, rt.alloc(), SPEEDS, 33);
+    check_laws::<_, LevelTransition>(&rt, rt.alloc(), LEVELS, 33);
+    check_laws::<_, SpeedRestriction>(&rt, rt.alloc(), RESTRICTION, 16);
+    check_laws::<_, Revocation>(&rt, rt.alloc(), REVOCATION, 33);
+    check_laws::<_, InfillLocation>(&rt, rt.alloc(), INFILL, 16);
+    check_laws::<_, Opaque>(&rt, rt.alloc(), SPEEDS, 16)
+}

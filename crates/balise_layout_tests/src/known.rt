@@ -1,0 +1,223 @@
+//! Packets read, shown and listed.
+
+use crate::packets::{
+    GRADIENTS, INFILL, INFILL_ABROAD, LEVELS, LINK, LINKS, OPAQUE, RESTRICTION, REVOCATION, SPEEDS,
+    check_digits, packet_of,
+};
+use balise_bits::Bits;
+use balise_layout::{Id, Packet, Var};
+use std::alloc::Global;
+use std::process::Abort;
+
+// A packet in digits, the version of its telegram, its length, number and direction.
+type Row = (&'static str, u32, usize, u32, u32);
+
+const ROWS: [Row; 12] = [
+    (LINKS, 33, 118, 5, 1),
+    (LINK, 33, 69, 5, 1),
+    (GRADIENTS, 33, 78, 21, 1),
+    (SPEEDS, 33, 125, 27, 1),
+    (SPEEDS, 16, 125, 27, 1),
+    (LEVELS, 33, 89, 41, 1),
+    (LEVELS, 16, 89, 41, 1),
+    (RESTRICTION, 16, 71, 65, 1),
+    (REVOCATION, 33, 31, 66, 1),
+    (INFILL, 33, 38, 136, 1),
+    (INFILL_ABROAD, 16, 48, 136, 1),
+    (OPAQUE, 33, 32, 44, 0),
+];
+
+fn check_row(rt: &impl Abort, alloc: Global, row: &Row) {
+    let bits = Bits::digits(alloc, row.0).expect(rt, "memory");
+    let (packet, end) = Packet::read(&bits, 0, row.1).expect(rt, "memory");
+    let shown = (end, packet.width(), packet.number(), packet.q_dir());
+    assert!(rt; shown == (row.2, row.2, row.3, row.4));
+    assert!(rt; Packet::check(&bits, 0, row.1) == Ok(row.2));
+    assert!(rt; Packet::place_in(&bits, 0, row.1, Var::LPacket, 0) == Some(10));
+    assert!(rt; Packet::place_in(&bits, 0, row.1, Var::LPacket, 1).is_none());
+    assert!(rt; packet.is_spelt(row.1));
+    check_digits(rt, alloc, &packet, row.0)
+}
+
+#[test]
+fn packets_are_read_and_written(rt: HostRuntime) {
+    for row in &ROWS {
+        check_row(&rt, rt.alloc(), row);
+    }
+}
+
+#[test]
+fn packets_are_copied(rt: HostRuntime) {
+    for row in &ROWS {
+        let packet = packet_of(&rt, rt.alloc(), row.0, row.1);
+        let copy = packet.copy().expect(&rt, "memory");
+        check_digits(&rt, rt.alloc(), &copy, row.0);
+    }
+}
+
+#[test]
+fn a_packet_is_read_where_it_stands(rt: HostRuntime) {
+    // A header, packet 66 from bit 50 on, and packet 255.
+    let bits = Bits::digits(rt.alloc(), "a1007f80a03250900f82ff").expect(&rt, "memory");
+    let (packet, end) = Packet::read(&bits, 50, 33).expect(&rt, "memory");
+    assert_eq!(rt; end, 81);
+    check_digits(&rt, rt.alloc(), &packet, REVOCATION)
+}
+
+const LINKS_FIELDS: [(Var, u32, u32); 18] = [
+    (Var::NidPacket, 0, 5),
+    (Var::QDir, 0, 1),
+    (Var::LPacket, 0, 118),
+    (Var::QScale, 0, 1),
+    (Var::DLink, 0, 300),
+    (Var::QNewcountry, 0, 1),
+    (Var::NidC, 0, 6),
+    (Var::NidBg, 0, 100),
+    (Var::QLinkorientation, 0, 0),
+    (Var::QLinkreaction, 0, 2),
+    (Var::QLocacc, 0, 12),
+    (Var::NIter, 0, 1),
+    (Var::DLink, 1, 400),
+    (Var::QNewcountry, 1, 0),
+    (Var::NidBg, 1, 100),
+    (Var::QLinkorientation, 1, 1),
+    (Var::QLinkreaction, 1, 2),
+    (Var::QLocacc, 1, 12),
+];
+
+const SPEEDS_FIELDS: [(Var, u32, u32); 22] = [
+    (Var::NidPacket, 0, 27),
+    (Var::QDir, 0, 1),
+    (Var::LPacket, 0, 125),
+    (Var::QScale, 0, 1),
+    (Var::DStatic, 0, 0),
+    (Var::VStatic, 0, 20),
+    (Var::QFront, 0, 0),
+    (Var::NIter, 0, 2),
+    (Var::QDiff, 0, 0),
+    (Var::NcCddiff, 0, 3),
+    (Var::VDiff, 0, 22),
+    (Var::QDiff, 1, 1),
+    (Var::NcDiff, 0, 2),
+    (Var::VDiff, 1, 18),
+    (Var::NIter, 1, 1),
+    (Var::DStatic, 1, 1000),
+    (Var::VStatic, 1, 24),
+    (Var::QFront, 1, 1),
+    (Var::NIter, 2, 1),
+    (Var::QDiff, 2, 2),
+    (Var::NcDiff, 1, 0),
+    (Var::VDiff, 2, 30),
+];
+
+fn check_fields(
+    rt: &impl Abort,
+    alloc: Global,
+    digits: &str,
+    version: u32,
+    expected: &[(Var, u32, u32)],
+) {
+    let fields = packet_of(rt, alloc, digits, version)
+        .fields()
+        .expect(rt, "memory");
+    assert!(rt; fields.as_slice() == expected);
+}
+
+#[test]
+fn fields_are_listed(rt: HostRuntime) {
+    check_fields(&rt, rt.alloc(), LINKS, 33, &LINKS_FIELDS);
+    check_fields(&rt, rt.alloc(), SPEEDS, 33, &SPEEDS_FIELDS);
+    check_fields(&rt, rt.alloc(), SPEEDS, 16, &SPEEDS_FIELDS[..3])
+}
+
+fn check_links(rt: &impl Abort, packet: &Packet, expected: &[Id]) {
+    let links = packet.links(5).expect(rt, "memory");
+    assert!(rt; links.as_slice() == expected);
+}
+
+const SIX: Id = Id {
+    country: 6,
+    number: 100,
+};
+
+const FIVE: Id = Id {
+    country: 5,
+    number: 100,
+};
+
+// An element that names nothing.
+const NONE: Id = Id {
+    country: 6,
+    number: 16383,
+};
+
+#[test]
+fn links_are_listed(rt: HostRuntime) {
+    let mut packet = packet_of(&rt, rt.alloc(), LINKS, 33);
+    check_links(&rt, &packet, &[SIX, SIX]);
+    packet.name_link(0, 16383);
+    check_links(&rt, &packet, &[NONE, SIX])
+}
+
+#[test]
+fn links_are_listed_where_a_packet_stands(rt: HostRuntime) {
+    for (digits, version, expected) in [
+        (LINKS, 33, [SIX, SIX].as_slice()),
+        (LINK, 16, [FIVE].as_slice()),
+        (INFILL, 33, [FIVE].as_slice()),
+        (INFILL_ABROAD, 33, [SIX].as_slice()),
+        (SPEEDS, 33, [].as_slice()),
+        (OPAQUE, 33, [].as_slice()),
+    ] {
+        let mut bits = Bits::new(rt.alloc());
+        bits.push_zeros(50).expect(&rt, "memory");
+        packet_of(&rt, rt.alloc(), digits, version)
+            .write(&mut bits)
+            .expect(&rt, "memory");
+        let links = Packet::links_in(&bits, 50, version, 5).expect(&rt, "memory");
+        assert!(rt; links.as_slice() == expected, "{digits}");
+        let none = Packet::links_in(&bits, 49, version, 5).expect(&rt, "memory");
+        assert!(rt; none.is_empty(), "{digits}");
+    }
+}
+
+#[test]
+fn links_have_the_telegrams_country(rt: HostRuntime) {
+    let packet = packet_of(&rt, rt.alloc(), LINK, 33);
+    check_links(&rt, &packet, &[FIVE]);
+    let packet = packet_of(&rt, rt.alloc(), SPEEDS, 33);
+    check_links(&rt, &packet, &[])
+}
+
+#[test]
+fn an_infill_location_names_one_group(rt: HostRuntime) {
+    let mut packet = packet_of(&rt, rt.alloc(), INFILL, 33);
+    check_links(&rt, &packet, &[FIVE]);
+    packet.flip_link(0);
+    check_digits(&rt, rt.alloc(), &packet, INFILL);
+    packet.name_link(0, 150);
+    packet.flip_dir();
+    check_digits(&rt, rt.alloc(), &packet, "88004c0258");
+    let mut packet = packet_of(&rt, rt.alloc(), INFILL_ABROAD, 33);
+    check_links(&rt, &packet, &[SIX]);
+    packet.name_link(0, 16383);
+    packet.name_link(1, 5);
+    check_links(&rt, &packet, &[NONE]);
+    check_digits(&rt, rt.alloc(), &packet, "88406101bfff")
+}
+
+#[test]
+fn versions_spell_what_they_know(rt: HostRuntime) {
+    let speeds = packet_of(&rt, rt.alloc(), SPEEDS, 33);
+    let kept = packet_of(&rt, rt.alloc(), SPEEDS, 16);
+    for (version, known) in [
+        (16, false),
+        (31, false),
+        (32, true),
+        (47, true),
+        (48, false),
+    ] {
+        assert!(rt; speeds.is_spelt(version) == known);
+        assert!(rt; kept.is_spelt(version) != known);
+    }
+}

@@ -1,0 +1,66 @@
+//! Plans of many groups.
+
+use crate::digits::LINKING;
+use crate::plans::id;
+use crate::steps::{Answer, Step, make, put_back};
+use crate::walking::agrees;
+use balise_plan::{Bits, GroupTag, Plan};
+use std::alloc::Global;
+use std::process::Abort;
+
+const FIRST: GroupTag = GroupTag::Base(0);
+
+/// 1,000 groups of country 5, of which each names the next one and the last the first, or all name the first.
+fn thousand(rt: &impl Abort, alloc: Global, ring: bool) -> Vec<Vec<Bits>> {
+    let mut groups = Vec::new(alloc);
+    for number in 0..1000 {
+        let named = if ring & (number < 999) { number + 1 } else { 0 };
+        let mut bits = Bits::from_hex(alloc, LINKING, 210).expect(rt, "digits");
+        assert!(rt; bits.len() == 210);
+        bits.put(35, 14, number);
+        assert!(rt; bits.len() == 210);
+        bits.put(91, 14, named);
+        let mut telegrams = Vec::new(alloc);
+        assert!(rt; telegrams.push(bits).is_ok());
+        assert!(rt; groups.push(telegrams).is_ok());
+    }
+    groups
+}
+
+/// Takes each of 1,000 groups out and puts it back.
+fn put_each_back(rt: &impl Abort, plan: &mut Plan) {
+    for i in 0..1000 {
+        put_back(rt, plan, GroupTag::Base(i));
+    }
+}
+
+#[test]
+fn takes_1000_groups_out_and_puts_them_back(rt: HostRuntime) {
+    let alloc = rt.alloc();
+    for ring in [true, false] {
+        let groups = thousand(&rt, alloc, ring);
+        let mut plan = Plan::read(alloc, thousand(&rt, alloc, ring)).expect(&rt, "a plan");
+        put_each_back(&rt, &mut plan);
+        assert_eq!(rt; plan.changes(), 2000);
+        assert!(rt; plan.shown().expect(&rt, "memory") == groups);
+        assert!(rt; agrees(&rt, alloc, &plan, [].as_slice()));
+    }
+}
+
+#[test]
+fn renumbers_1000_links_at_once(rt: HostRuntime) {
+    let alloc = rt.alloc();
+    let groups = thousand(&rt, alloc, false);
+    let mut plan = Plan::read(alloc, thousand(&rt, alloc, false)).expect(&rt, "a plan");
+    for (number, old) in [(16382, 0), (0, 16382)] {
+        let step = Step::Rename(FIRST, number);
+        assert!(rt; make(&rt, alloc, &mut plan, step) == Ok(Answer::Old(old)));
+        let links = plan.links_to(id(5, number)).map(|links| links.len());
+        assert_eq!(rt; links, Some(1000));
+        assert!(rt; plan.links_to(id(5, old)).is_none());
+        assert!(rt; make(&rt, alloc, &mut plan, Step::Turn(FIRST)) == Ok(Answer::Done));
+    }
+    let copy = plan.copy().expect(&rt, "memory");
+    assert!(rt; plan.shown().expect(&rt, "memory") == groups);
+    assert!(rt; copy.shown().expect(&rt, "memory") == groups);
+}

@@ -1,0 +1,88 @@
+//! Telegrams held as their bits, with digits made by hand.
+
+use crate::changes::{FLIPPED, HEADER_PUT, LINKING, NAMED, RENAMED, TURNED};
+use crate::telegrams::{TWO_PACKETS, bits};
+use balise_telegram::{Bits, PackedTelegram, PacketTag, TelegramFault, Var};
+use std::alloc::Global;
+use std::process::Abort;
+
+/// What reading these bits answers, where the telegram shows the same bits, held as them and opened.
+pub(crate) fn read(rt: &impl Abort, bits: &Bits) -> Option<TelegramFault> {
+    match PackedTelegram::read(bits.copy().expect(rt, "memory")) {
+        Ok(telegram) => {
+            assert!(rt; telegram.shown() == bits);
+            let open = telegram.open().expect(rt, "memory");
+            assert!(rt; open.shown().expect(rt, "memory") == *bits);
+            None
+        }
+        Err(fault) => Some(fault),
+    }
+}
+
+fn packed(rt: &impl Abort, alloc: Global, text: &str) -> PackedTelegram {
+    PackedTelegram::read(bits(rt, alloc, text)).expect(rt, "a telegram")
+}
+
+/// That the telegram shows these digits.
+fn check_shown(rt: &impl Abort, alloc: Global, packed: &PackedTelegram, text: &str) {
+    assert!(rt; *packed.shown() == bits(rt, alloc, text), "{text}");
+}
+
+#[test]
+fn tells_of_its_packets(rt: HostRuntime) {
+    let packed = packed(&rt, rt.alloc(), TWO_PACKETS);
+    assert_eq!(rt; packed.width(), 210);
+    assert_eq!(rt; packed.used(), 120);
+    assert_eq!(rt; packed.room(), 90);
+    assert_eq!(rt; packed.count(), 2);
+    assert_eq!(rt; packed.version(), 33);
+    assert!(rt; packed.head(Var::MMcount) == Some(255));
+    assert!(rt; packed.head(Var::NidTsr).is_none());
+    for (i, restriction) in [(0, 5), (1, 7)] {
+        let tag = PacketTag::Base(i);
+        assert!(rt; packed.packet_at(i as usize) == Some((tag, 66)));
+        assert!(rt; packed.field(tag, Var::NidTsr, 0) == Some(restriction));
+        assert!(rt; packed.field(tag, Var::NidTsr, 1).is_none());
+    }
+    assert!(rt; packed.packet_at(2).is_none());
+    assert!(rt; packed.packet_at(4294967296).is_none());
+    for tag in [PacketTag::Base(2), PacketTag::Fresh(0)] {
+        assert!(rt; packed.field(tag, Var::NidTsr, 0).is_none());
+        assert!(rt; packed.links(tag).expect(&rt, "memory").is_empty());
+    }
+}
+
+#[test]
+#[tactic(auto, unfolding(balise_rules::specs::Variables::width_of))]
+fn changes_a_copy_in_place(rt: HostRuntime) {
+    let alloc = rt.alloc();
+    let first = packed(&rt, alloc, TWO_PACKETS);
+    let mut packed = first.copy().expect(&rt, "memory");
+    packed.flip_dir(PacketTag::Base(0));
+    check_shown(&rt, alloc, &packed, TURNED);
+    packed.flip_dir(PacketTag::Base(0));
+    assert!(rt; packed.set_field(PacketTag::Base(1), Var::NidTsr, 0, 9) == Ok(7));
+    let set = "a1007f80a03250900f82a1201f09ffffffffffffffffffffffffc0";
+    check_shown(&rt, alloc, &packed, set);
+    assert!(rt; packed.set_field(PacketTag::Base(1), Var::NidTsr, 0, 7) == Ok(9));
+    assert!(rt; packed.set_head(Var::MDup, 2) == Ok(0));
+    assert!(rt; packed.head(Var::MDup) == Some(2));
+    assert!(rt; packed.set_head(Var::MDup, 0) == Ok(2));
+    packed.put_head(Var::NPig, 3);
+    packed.put_head(Var::NidBg, 777);
+    check_shown(&rt, alloc, &packed, HEADER_PUT);
+    check_shown(&rt, alloc, &first, TWO_PACKETS);
+}
+
+#[test]
+fn changes_an_element_in_place(rt: HostRuntime) {
+    let alloc = rt.alloc();
+    let (mut packed, tag) = (packed(&rt, alloc, LINKING), PacketTag::Base(0));
+    let links = packed.links(tag).expect(&rt, "memory");
+    assert!(rt; links.as_slice() == [NAMED].as_slice());
+    packed.flip_link(tag, 0);
+    check_shown(&rt, alloc, &packed, FLIPPED);
+    packed.flip_link(tag, 0);
+    packed.name_link(tag, 0, 777);
+    check_shown(&rt, alloc, &packed, RENAMED);
+}

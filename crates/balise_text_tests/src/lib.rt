@@ -1,0 +1,9 @@
+//! Tests of balise_text: each kind of line once, each refusal once.
+#![tactic(auto)]
+
+#[cfg(test)]
+mod commands;
+#[cfg(test)]
+mod journals;
+#[cfg(test)]
+mod replies;

@@ -1,26 +1,16 @@
--- The texts of the items of a list, and a text behind another.
-use Rattle.std.proofs.Common.{◌≡◌, ◌∙◌, ◌⊎◌, inl, inr, ℕ, ◌+◌, ◌<◌, ◌≤◌, List, [], ◌∷◌, ◌++◌, length, drop, map, get_or, Option, Some, None, Result, Ok, Err, OnErr, OnOk, reverse, refl, sym, ap}
+-- The texts of the items of a list.
+use Rattle.std.proofs.Common.{◌≡◌, ◌∙◌, ◌⊎◌, inl, inr, ℕ, ◌+◌, ◌<◌, ◌≤◌, List, [], ◌∷◌, ◌++◌, length, drop, map, get_or, Some, None, reverse, refl, sym, ap}
 use Rattle.std.specs.List.{slice_get}
 use Rattle.std.proofs.lemmas.Option.{slice_get_within, slice_get_cases, get_or_from_slice_get}
-use Rattle.std.specs.Io.KnownBytes.{Appends}
-use Rattle.std.proofs.KnownBytes.{Appends-trans}
 use Rattle.std.proofs.lemmas.List.{append-nil}
 use Rattle.balise_rules.specs.Journal.{Line, line_of, lines, undone}
 use Rattle.balise_rules.specs.Paths.{Entry}
 use Rattle.balise_rules.specs.Session.{Removed, State}
-use Rattle.balise_lines.specs.Writing.{AppendsSome}
-use Rattle.balise_lines.proofs.WrittenTexts.{some_after}
 use Rattle.balise_text.specs.Texts.{Text, text_of}
 use Rattle.balise_text.proofs.Lists.{text_left, no_text_left}
 use Rattle.balise_text.specs.Entries.{head_text}
-use Rattle.balise_text.proofs.Wrote.{all_as, some_as}
 use Rattle.balise_cli.specs.PlanTexts.{entry_line, journal_text, undone_line, with_end}
 use Rattle.balise_cli.specs.Private.{told}
-
--- the first text was written, and then a beginning of the second
-pub some_behind : {A E : Type 0} (r : Result A E) (old now new : Option Text) (xs ys : Text) → Appends old now xs → OnErr r (AppendsSome now new ys) → OnErr r (AppendsSome old new (xs ++ ys))
-some_behind (Ok a) old now new xs ys w s = tt
-some_behind (Err e) old now new xs ys w s = some_after old now new xs ys w s
 
 -- the item at a place stands next
 pub text_at : {X : Type 0} (f : X → Text) (xs : List X) (i : ℕ) (x : X) → Some x ≡ slice_get xs i → text_of (map f (drop i xs)) ≡ f x ++ text_of (map f (drop (i + 1) xs))
@@ -48,13 +38,3 @@ standing_text s es e n =
     let entries : Text = text_of (map entry_line (lines s)) in
     let none : text_of (map undone_line (undone s)) ≡ [] = ap (λ (rs : List Removed). text_of (map undone_line (reverse (map (λ (r : Removed). r.item.0) rs)))) n in
     ap (λ (t : Text). with_end (head_text s.serial) ++ t) (ap (λ (t : Text). entries ++ t) none ∙ append-nil entries ∙ told_text es (lines s) e)
-
--- one text and then all of another
-pub all_behind : {A E : Type 0} (r : Result A E) (old now new : Option Text) (xs ys text : Text) → text ≡ xs ++ ys → Appends old now xs → OnOk r (Appends now new ys) → OnOk r (Appends old new text)
-all_behind (Ok a) old now new xs ys text e w s = all_as text _ _ _ e (Appends-trans _ _ _ xs ys w s)
-all_behind (Err b) old now new xs ys text e w s = tt
-
--- one text and then a beginning of another
-pub part_behind : {A E : Type 0} (r : Result A E) (old now new : Option Text) (xs ys text : Text) → text ≡ xs ++ ys → Appends old now xs → OnErr r (AppendsSome now new ys) → OnErr r (AppendsSome old new text)
-part_behind (Ok a) old now new xs ys text e w s = tt
-part_behind (Err b) old now new xs ys text e w s = some_as text _ _ _ e (some_after _ _ _ xs ys w s)

@@ -3,6 +3,8 @@ pub mod OneOutput
 pub mod BasePlans
 pub mod Answered
 pub mod ItemTexts
+pub mod TextsBehind
+pub mod Causes
 pub mod GroupsClosed
 pub mod OneLine
 pub mod LinesDone

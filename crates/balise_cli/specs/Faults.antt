@@ -1,8 +1,10 @@
 -- The faults of a run: the refusals that are printed for them, and what each says of the writer.
-use Rattle.std.specs.Prelude.{◌≡◌, ℕ}
+use Rattle.std.specs.Prelude.{◌≡◌, ℕ, List, Option, Result, MatchResult}
 use Rattle.balise_rules.specs.declared.refusal.Refusal.{Refusal}
 use Rattle.balise_rules.specs.declared.refusal.Refusal.TheVariants as refusal
 use Rattle.balise_lines.specs.Counts.{one_more}
+use Rattle.balise_lines.specs.Writing.{WritesAll, WritesSome}
+use Rattle.balise_lines.specs.declared.counted.Counted.{Counted}
 use Rattle.balise_cli.specs.declared.fault.RunFault.{RunFault}
 use Rattle.balise_cli.specs.declared.fault.RunFault.TheVariants.{InputTooLong, OutOfMemory, ReadFault, WriteFault}
 
@@ -17,6 +19,10 @@ abbrev pub IsCause : ℕ → ℕ → RunFault → Type 0
 IsCause old new OutOfMemory = new ≡ old
 IsCause old new WriteFault = new ≡ one_more old
 IsCause old new e = ⊥
+
+-- all of the text was written and no call failed, or a beginning of it and then this fault
+abbrev pub Prints : {W A : Type 0} → (W → Option (List ℕ)) → Counted W → Counted W → Result A RunFault → List ℕ → Type 0
+Prints contents old new r text = MatchResult r (λ _. WritesAll contents old new text) (λ fault. WritesSome (λ before after. IsCause before after fault) contents old new text)
 
 -- the fault of a run, by the counts of the reader and of the writer before and after it
 abbrev pub IsFault : ℕ → ℕ → ℕ → ℕ → RunFault → Type 0

@@ -1,12 +1,10 @@
 //! The commands.
 
-ghost use Rattle.std.specs.Prelude.{◌≡◌, IfOk, IsOkUnless, OnErr, OnOk, map};
-ghost use Rattle.std.specs.Io.KnownBytes.{Appends};
+ghost use Rattle.std.specs.Prelude.{◌≡◌, IfOk, IsOkUnless, map};
 ghost use Rattle.balise_cli.specs.Output.{group_review};
 ghost use Rattle.balise_cli.specs.Private.{answer_text, turned_by, DidAnswer, DidDo, TurnsWith};
 ghost use Rattle.balise_history.specs.Commands.{command_of};
-ghost use Rattle.balise_lines.specs.Counts.{one_more};
-ghost use Rattle.balise_lines.specs.Writing.{AppendsSome};
+ghost use Rattle.balise_lines.specs.Writing.{Writes};
 ghost use Rattle.balise_rules.specs.Plan.{group_named};
 ghost use Rattle.balise_rules.specs.Session as rules;
 ghost use Rattle.balise_text.specs.Answers.{reply_of};
@@ -133,10 +131,7 @@ pub(crate) fn answer_line(alloc: Global, session: &mut Session, line: &[u8]) -> 
 
 // Writes what is to be looked at.
 fn put_reviews<W: Write>(writer: &mut Counted<W>, lines: &[ReviewLine]) -> Result<(), WriteFault>
-    ensures ok { OnOk result (Appends (W.contents writer.old.inner) (W.contents writer.new.inner) (text_of (map review_line lines.now))) }
-    ensures unfailed { OnOk result (writer.new.failed ≡ writer.old.failed) }
-    ensures cause { OnErr result (writer.new.failed ≡ one_more writer.old.failed) }
-    ensures written { OnErr result (AppendsSome (W.contents writer.old.inner) (W.contents writer.new.inner) (text_of (map review_line lines.now))) }
+    ensures { Writes W.contents writer.old writer.new result (text_of (map review_line lines.now)) }
 {
     for line in lines {
         if let Err(fault) = put_review(writer, *line) {
@@ -152,10 +147,7 @@ pub(crate) fn put_answer<W: Write>(
     quiet: bool,
     answer: &Answer,
 ) -> Result<(), WriteFault>
-    ensures ok { OnOk result (Appends (W.contents writer.old.inner) (W.contents writer.new.inner) (answer_text quiet answer.now)) }
-    ensures unfailed { OnOk result (writer.new.failed ≡ writer.old.failed) }
-    ensures cause { OnErr result (writer.new.failed ≡ one_more writer.old.failed) }
-    ensures written { OnErr result (AppendsSome (W.contents writer.old.inner) (W.contents writer.new.inner) (answer_text quiet answer.now)) }
+    ensures { Writes W.contents writer.old writer.new result (answer_text quiet answer.now) }
 {
     if !quiet || answer.reply.is_refused() {
         if let Err(fault) = put_reply(writer, answer.reply) {

@@ -2,7 +2,7 @@
 
 ghost use Rattle.std.specs.Prelude.{◌≡◌, IfErr, IfOk, OnErr, OnOk};
 ghost use Rattle.std.specs.Io.KnownBytes.{Appends};
-ghost use Rattle.balise_cli.specs.Faults.{IsCause};
+ghost use Rattle.balise_cli.specs.Faults.{IsCause, Prints};
 ghost use Rattle.balise_cli.specs.Machine.{DidEnd, DidRead, DidSome, DidStep, DidTake, DidTakeSome, last_text, phase_of};
 ghost use Rattle.balise_cli.specs.Output.{Commands, Header, at_end, read_line};
 ghost use Rattle.balise_lines.specs.Writing.{AppendsSome};
@@ -78,10 +78,7 @@ fn finish_bad<W: Write>(
     refusal: Refusal,
 ) -> Result<Status, RunFault>
     ensures status { IfOk result (λ status. status ≡ Status.BadInput) }
-    ensures ok { OnOk result (Appends (W.contents writer.old.inner) (W.contents writer.new.inner) (bad_line number refusal)) }
-    ensures unfailed { OnOk result (writer.new.failed ≡ writer.old.failed) }
-    ensures cause { IfErr result (IsCause writer.old.failed writer.new.failed) }
-    ensures written { OnErr result (AppendsSome (W.contents writer.old.inner) (W.contents writer.new.inner) (bad_line number refusal)) }
+    ensures line { Prints W.contents writer.old writer.new result (bad_line number refusal) }
 {
     if let Err(fault) = put_bad(writer, number, refusal) {
         return Err(RunFault::from(fault));

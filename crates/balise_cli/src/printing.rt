@@ -4,11 +4,8 @@ mod journal;
 mod plan;
 mod view;
 
-ghost use Rattle.std.specs.Prelude.{◌≡◌, IfErr, OnErr, OnOk};
-ghost use Rattle.std.specs.Io.KnownBytes.{Appends};
-ghost use Rattle.balise_cli.specs.Faults.{IsCause};
+ghost use Rattle.balise_cli.specs.Faults.{Prints};
 ghost use Rattle.balise_cli.specs.PlanTexts.{end_text, if_asked, journal_text, view_text};
-ghost use Rattle.balise_lines.specs.Writing.{AppendsSome};
 
 use crate::fault::RunFault;
 use balise_arguments::Flags;
@@ -26,10 +23,7 @@ fn put_journal_if<W: Write>(
     asked: bool,
     session: &Session,
 ) -> Result<(), RunFault>
-    ensures ok { OnOk result (Appends (W.contents writer.old.inner) (W.contents writer.new.inner) (if_asked asked (journal_text session.now.state))) }
-    ensures unfailed { OnOk result (writer.new.failed ≡ writer.old.failed) }
-    ensures cause { IfErr result (IsCause writer.old.failed writer.new.failed) }
-    ensures written { OnErr result (AppendsSome (W.contents writer.old.inner) (W.contents writer.new.inner) (if_asked asked (journal_text session.now.state))) }
+    ensures { Prints W.contents writer.old writer.new result (if_asked asked (journal_text session.now.state)) }
 {
     if asked {
         return put_journal(writer, session);
@@ -44,10 +38,7 @@ fn put_view_if<W: Write>(
     asked: bool,
     plan: &Plan,
 ) -> Result<(), RunFault>
-    ensures ok { OnOk result (Appends (W.contents writer.old.inner) (W.contents writer.new.inner) (if_asked asked (view_text plan.now.groups))) }
-    ensures unfailed { OnOk result (writer.new.failed ≡ writer.old.failed) }
-    ensures cause { IfErr result (IsCause writer.old.failed writer.new.failed) }
-    ensures written { OnErr result (AppendsSome (W.contents writer.old.inner) (W.contents writer.new.inner) (if_asked asked (view_text plan.now.groups))) }
+    ensures { Prints W.contents writer.old writer.new result (if_asked asked (view_text plan.now.groups)) }
 {
     if asked {
         return put_view(alloc, writer, plan);
@@ -62,10 +53,7 @@ pub(crate) fn put_end<W: Write>(
     flags: Flags,
     session: &Session,
 ) -> Result<(), RunFault>
-    ensures ok { OnOk result (Appends (W.contents writer.old.inner) (W.contents writer.new.inner) (end_text flags session.now.state)) }
-    ensures unfailed { OnOk result (writer.new.failed ≡ writer.old.failed) }
-    ensures cause { IfErr result (IsCause writer.old.failed writer.new.failed) }
-    ensures written { OnErr result (AppendsSome (W.contents writer.old.inner) (W.contents writer.new.inner) (end_text flags session.now.state)) }
+    ensures { Prints W.contents writer.old writer.new result (end_text flags session.now.state) }
 {
     if let Err(fault) = put_plan(alloc, writer, session.plan()) {
         return Err(fault);

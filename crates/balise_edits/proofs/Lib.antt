@@ -9,7 +9,6 @@ pub mod Oriented
 pub mod SetNames
 pub mod Bare
 pub mod Items
-pub mod Trying
 pub mod FoundLines
 pub mod Gathering
 pub mod Linked

@@ -16,8 +16,6 @@ mod naming;
 mod note;
 mod path;
 mod reviewing;
-#[cfg(test)]
-mod tests;
 
 pub use balise_plan::{
     Address, Balise, Bits, Group, GroupTag, Id, LinkPlace, Packet, PacketTag, Place, Plan, Refusal,

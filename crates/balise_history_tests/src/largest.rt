@@ -132,7 +132,7 @@ fn group(rt: &impl Abort, alloc: Global, number: u32) -> Vec<Bits> {
     assert!(rt; number < 16384);
     bits.put(35, 14, number);
     let mut telegrams = Vec::new(alloc);
-    assert!(rt; telegrams.push(bits).is_ok());
+    telegrams.push(bits).expect(rt, "memory");
     telegrams
 }
 

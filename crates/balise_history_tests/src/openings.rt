@@ -131,8 +131,10 @@ fn lines_that_fit_or_not(rt: HostRuntime) {
 /// The lines of two settings, the second under this serial.
 fn two(rt: &impl Abort, alloc: Global, serial: u32) -> Vec<Line> {
     let mut lines = Vec::new(alloc);
-    assert!(rt; lines.push(set(1, Tag::Base(0), 9, 5)).is_ok());
-    assert!(rt; lines.push(set(serial, Tag::Base(0), 7, 9)).is_ok());
+    lines.push(set(1, Tag::Base(0), 9, 5)).expect(rt, "memory");
+    lines
+        .push(set(serial, Tag::Base(0), 7, 9))
+        .expect(rt, "memory");
     lines
 }
 

@@ -55,7 +55,7 @@ pub(crate) fn telegrams(rt: &impl Abort, alloc: Global, text: &str) -> Vec<Bits>
     let mut telegrams = Vec::new(alloc);
     for word in text.split_whitespace() {
         let bits = Bits::from_hex(alloc, word, 210).expect(rt, "digits");
-        assert!(rt; telegrams.push(bits).is_ok());
+        telegrams.push(bits).expect(rt, "memory");
     }
     telegrams
 }
@@ -67,7 +67,9 @@ pub(crate) fn plan_of(rt: &impl Abort, alloc: Global, texts: &[&str]) -> Result<
 {
     let mut groups = Vec::new(alloc);
     for text in texts.iter() {
-        assert!(rt; groups.push(telegrams(rt, alloc, *text)).is_ok());
+        groups
+            .push(telegrams(rt, alloc, *text))
+            .expect(rt, "memory");
     }
     match Plan::read(alloc, groups) {
         Ok(plan) => Ok(plan),

@@ -5,4 +5,5 @@ pub mod LongLines
 pub mod TakenLines
 pub mod InputsLeft
 pub mod WrittenTexts
+pub mod PartsWritten
 pub mod JoinedLines

@@ -44,7 +44,7 @@ fn eight(rt: &impl Abort, alloc: Global, text: &str) -> Vec<Bits> {
         bits.put(9, 3, pig);
         assert!(rt; bits.len() == 830);
         bits.put(12, 3, 7);
-        assert!(rt; telegrams.push(bits).is_ok());
+        telegrams.push(bits).expect(rt, "memory");
     }
     telegrams
 }
@@ -52,11 +52,11 @@ fn eight(rt: &impl Abort, alloc: Global, text: &str) -> Vec<Bits> {
 /// The plan of eight such telegrams and of a group of one telegram of 830 bits.
 fn nine(rt: &impl Abort, alloc: Global, text: &str, other: &str) -> Vec<Vec<Bits>> {
     let mut groups = Vec::new(alloc);
-    assert!(rt; groups.push(eight(rt, alloc, text)).is_ok());
+    groups.push(eight(rt, alloc, text)).expect(rt, "memory");
     let mut one = Vec::new(alloc);
     let bits = Bits::from_hex(alloc, other, 830).expect(rt, "digits");
-    assert!(rt; one.push(bits).is_ok());
-    assert!(rt; groups.push(one).is_ok());
+    one.push(bits).expect(rt, "memory");
+    groups.push(one).expect(rt, "memory");
     groups
 }
 

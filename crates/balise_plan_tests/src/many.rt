@@ -21,8 +21,8 @@ fn thousand(rt: &impl Abort, alloc: Global, ring: bool) -> Vec<Vec<Bits>> {
         assert!(rt; bits.len() == 210);
         bits.put(91, 14, named);
         let mut telegrams = Vec::new(alloc);
-        assert!(rt; telegrams.push(bits).is_ok());
-        assert!(rt; groups.push(telegrams).is_ok());
+        telegrams.push(bits).expect(rt, "memory");
+        groups.push(telegrams).expect(rt, "memory");
     }
     groups
 }

@@ -19,7 +19,7 @@ pub(crate) fn telegrams(rt: &impl Abort, alloc: Global, text: &str) -> Vec<Bits>
             _ => 32,
         };
         let bits = Bits::from_hex(alloc, word, len).expect(rt, "digits");
-        assert!(rt; telegrams.push(bits).is_ok());
+        telegrams.push(bits).expect(rt, "memory");
     }
     telegrams
 }
@@ -28,7 +28,9 @@ pub(crate) fn telegrams(rt: &impl Abort, alloc: Global, text: &str) -> Vec<Bits>
 pub(crate) fn read(rt: &impl Abort, alloc: Global, texts: &[&str]) -> Result<Plan, Refusal> {
     let mut groups = Vec::new(alloc);
     for text in texts.iter() {
-        assert!(rt; groups.push(telegrams(rt, alloc, *text)).is_ok());
+        groups
+            .push(telegrams(rt, alloc, *text))
+            .expect(rt, "memory");
     }
     Plan::read(alloc, groups)
 }

@@ -39,8 +39,8 @@ const LONG_INFILL: &str = "a1007f80a033e2101380647fffffffffffffffffffffffffffffc
 fn joined(rt: &impl Abort, alloc: Global, words: &[&str]) -> String {
     let mut text = String::new(alloc);
     for word in words.iter() {
-        assert!(rt; text.push_str(*word).is_ok());
-        assert!(rt; text.push_str(" ").is_ok());
+        text.push_str(*word).expect(rt, "memory");
+        text.push_str(" ").expect(rt, "memory");
     }
     text
 }

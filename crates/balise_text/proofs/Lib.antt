@@ -2,7 +2,6 @@ pub mod Numbers
 pub mod Parts
 pub mod Taking
 pub mod DigitWords
-pub mod Wrote
 pub mod Lists
 pub mod Bytes
 pub mod Decimals

@@ -1,9 +1,7 @@
 //! Prints the digits of bits. No memory is taken.
 
-ghost use Rattle.std.specs.Prelude.{◌≡◌, ◌<◌, ◌%◌, OnErr, OnOk, length};
-ghost use Rattle.std.specs.Io.KnownBytes.{Appends};
-ghost use Rattle.balise_lines.specs.Counts.{one_more};
-ghost use Rattle.balise_lines.specs.Writing.{AppendsSome};
+ghost use Rattle.std.specs.Prelude.{◌≡◌, ◌<◌, ◌%◌, length};
+ghost use Rattle.balise_lines.specs.Writing.{Writes};
 ghost use Rattle.balise_rules.specs.Digits.{digit_of, hex_of};
 ghost use Rattle.balise_text.specs.Printing.{byte_at};
 
@@ -39,10 +37,7 @@ fn digit(value: u8) -> u8
 
 /// Writes the digits of bits in lower case, two for each byte, the last byte filled with zeros.
 pub fn put_digits<W: Write>(writer: &mut Counted<W>, bits: &Bits) -> Result<(), WriteFault>
-    ensures ok { OnOk result (Appends (W.contents writer.old.inner) (W.contents writer.new.inner) (hex_of bits.now)) }
-    ensures unfailed { OnOk result (writer.new.failed ≡ writer.old.failed) }
-    ensures cause { OnErr result (writer.new.failed ≡ one_more writer.old.failed) }
-    ensures written { OnErr result (AppendsSome (W.contents writer.old.inner) (W.contents writer.new.inner) (hex_of bits.now)) }
+    ensures { Writes W.contents writer.old writer.new result (hex_of bits.now) }
 {
     for place in 0..bits.len().div_ceil(8) {
         let value = byte(bits, 8 * place);

@@ -1,9 +1,7 @@
 //! Prints the lines of a journal. No memory is taken.
 
-ghost use Rattle.std.specs.Prelude.{◌≡◌, ◌++◌, ◌∷◌, [], OnErr, OnOk, codes, map};
-ghost use Rattle.std.specs.Io.KnownBytes.{Appends};
-ghost use Rattle.balise_lines.specs.Counts.{one_more};
-ghost use Rattle.balise_lines.specs.Writing.{AppendsSome};
+ghost use Rattle.std.specs.Prelude.{◌++◌, ◌∷◌, [], codes, map};
+ghost use Rattle.balise_lines.specs.Writing.{Writes};
 ghost use Rattle.balise_edits.specs.Lines.{line_edit_of, line_in, noted_in};
 ghost use Rattle.balise_rules.specs.Digits.{hex_of};
 ghost use Rattle.balise_text.specs.Entries.{edit_words, entry_text, head_text, noted_words, undone_text};
@@ -18,10 +16,7 @@ use std::io::Write;
 
 // The digits of telegrams, a space before each.
 fn put_telegrams<W: Write>(writer: &mut Counted<W>, telegrams: &[Bits]) -> Result<(), WriteFault>
-    ensures ok { OnOk result (Appends (W.contents writer.old.inner) (W.contents writer.new.inner) (behind_marks 32 (map hex_of telegrams.now))) }
-    ensures unfailed { OnOk result (writer.new.failed ≡ writer.old.failed) }
-    ensures cause { OnErr result (writer.new.failed ≡ one_more writer.old.failed) }
-    ensures written { OnErr result (AppendsSome (W.contents writer.old.inner) (W.contents writer.new.inner) (behind_marks 32 (map hex_of telegrams.now))) }
+    ensures { Writes W.contents writer.old writer.new result (behind_marks 32 (map hex_of telegrams.now)) }
 {
     for bits in telegrams {
         if let Err(fault) = put_words(writer, &[Word::Digits(bits)]) {
@@ -37,10 +32,7 @@ fn put_added<W: Write>(
     after: Option<Tag>,
     telegrams: &[Bits],
 ) -> Result<(), WriteFault>
-    ensures ok { OnOk result (Appends (W.contents writer.old.inner) (W.contents writer.new.inner) (behind_marks 32 (codes "add" ∷ anchor_text after ∷ map hex_of telegrams.now))) }
-    ensures unfailed { OnOk result (writer.new.failed ≡ writer.old.failed) }
-    ensures cause { OnErr result (writer.new.failed ≡ one_more writer.old.failed) }
-    ensures written { OnErr result (AppendsSome (W.contents writer.old.inner) (W.contents writer.new.inner) (behind_marks 32 (codes "add" ∷ anchor_text after ∷ map hex_of telegrams.now))) }
+    ensures { Writes W.contents writer.old writer.new result (behind_marks 32 (codes "add" ∷ anchor_text after ∷ map hex_of telegrams.now)) }
 {
     if let Err(fault) = put_words(writer, &[Word::Name(b"add"), Word::Anchor(after)]) {
         return Err(fault);
@@ -53,10 +45,7 @@ fn put_added<W: Write>(
 
 // The words of an edit, a space before each.
 fn put_edit<W: Write>(writer: &mut Counted<W>, edit: &LineEdit) -> Result<(), WriteFault>
-    ensures ok { OnOk result (Appends (W.contents writer.old.inner) (W.contents writer.new.inner) (behind_marks 32 (edit_words (line_edit_of edit.now)))) }
-    ensures unfailed { OnOk result (writer.new.failed ≡ writer.old.failed) }
-    ensures cause { OnErr result (writer.new.failed ≡ one_more writer.old.failed) }
-    ensures written { OnErr result (AppendsSome (W.contents writer.old.inner) (W.contents writer.new.inner) (behind_marks 32 (edit_words (line_edit_of edit.now)))) }
+    ensures { Writes W.contents writer.old writer.new result (behind_marks 32 (edit_words (line_edit_of edit.now))) }
 {
     match edit {
         LineEdit::SetVar {
@@ -129,10 +118,7 @@ fn put_edit<W: Write>(writer: &mut Counted<W>, edit: &LineEdit) -> Result<(), Wr
 
 // The word of what is noted, with a space before it.
 fn put_noted<W: Write>(writer: &mut Counted<W>, noted: Noted) -> Result<(), WriteFault>
-    ensures ok { OnOk result (Appends (W.contents writer.old.inner) (W.contents writer.new.inner) (behind_marks 32 (noted_words (noted_in noted)))) }
-    ensures unfailed { OnOk result (writer.new.failed ≡ writer.old.failed) }
-    ensures cause { OnErr result (writer.new.failed ≡ one_more writer.old.failed) }
-    ensures written { OnErr result (AppendsSome (W.contents writer.old.inner) (W.contents writer.new.inner) (behind_marks 32 (noted_words (noted_in noted)))) }
+    ensures { Writes W.contents writer.old writer.new result (behind_marks 32 (noted_words (noted_in noted))) }
 {
     match noted {
         Noted::Nothing => put_words(writer, &[]),
@@ -145,10 +131,7 @@ fn put_noted<W: Write>(writer: &mut Counted<W>, noted: Noted) -> Result<(), Writ
 
 /// Writes the line of an entry, with its end.
 pub fn put_entry<W: Write>(writer: &mut Counted<W>, line: &Line) -> Result<(), WriteFault>
-    ensures ok { OnOk result (Appends (W.contents writer.old.inner) (W.contents writer.new.inner) (entry_text (line_in line.now) ++ codes "\n")) }
-    ensures unfailed { OnOk result (writer.new.failed ≡ writer.old.failed) }
-    ensures cause { OnErr result (writer.new.failed ≡ one_more writer.old.failed) }
-    ensures written { OnErr result (AppendsSome (W.contents writer.old.inner) (W.contents writer.new.inner) (entry_text (line_in line.now) ++ codes "\n")) }
+    ensures { Writes W.contents writer.old writer.new result (entry_text (line_in line.now) ++ codes "\n") }
 {
     if let Err(fault) = put_number(writer, line.serial) {
         return Err(fault);
@@ -167,20 +150,14 @@ pub fn put_entry<W: Write>(writer: &mut Counted<W>, line: &Line) -> Result<(), W
 
 /// Writes the first line of a journal, with its end: version 2, and the serial of the next edit.
 pub fn put_head<W: Write>(writer: &mut Counted<W>, next: u32) -> Result<(), WriteFault>
-    ensures ok { OnOk result (Appends (W.contents writer.old.inner) (W.contents writer.new.inner) (head_text next ++ codes "\n")) }
-    ensures unfailed { OnOk result (writer.new.failed ≡ writer.old.failed) }
-    ensures cause { OnErr result (writer.new.failed ≡ one_more writer.old.failed) }
-    ensures written { OnErr result (AppendsSome (W.contents writer.old.inner) (W.contents writer.new.inner) (head_text next ++ codes "\n")) }
+    ensures { Writes W.contents writer.old writer.new result (head_text next ++ codes "\n") }
 {
     put_line(writer, b"journal", &[Word::Name(b"2"), Word::Number(next)])
 }
 
 /// Writes the line of an edit that was undone, with its end, by the edit's serial.
 pub fn put_undone<W: Write>(writer: &mut Counted<W>, serial: u32) -> Result<(), WriteFault>
-    ensures ok { OnOk result (Appends (W.contents writer.old.inner) (W.contents writer.new.inner) (undone_text serial ++ codes "\n")) }
-    ensures unfailed { OnOk result (writer.new.failed ≡ writer.old.failed) }
-    ensures cause { OnErr result (writer.new.failed ≡ one_more writer.old.failed) }
-    ensures written { OnErr result (AppendsSome (W.contents writer.old.inner) (W.contents writer.new.inner) (undone_text serial ++ codes "\n")) }
+    ensures { Writes W.contents writer.old writer.new result (undone_text serial ++ codes "\n") }
 {
     put_line(writer, b"undone", &[Word::Number(serial)])
 }

@@ -1,9 +1,7 @@
 //! Prints words and lines. No memory is taken.
 
-ghost use Rattle.std.specs.Prelude.{◌≡◌, ◌∷◌, OnErr, OnOk, decimal, map};
-ghost use Rattle.std.specs.Io.KnownBytes.{Appends};
-ghost use Rattle.balise_lines.specs.Counts.{one_more};
-ghost use Rattle.balise_lines.specs.Writing.{AppendsSome};
+ghost use Rattle.std.specs.Prelude.{◌∷◌, decimal, map};
+ghost use Rattle.balise_lines.specs.Writing.{Writes};
 ghost use Rattle.balise_text.specs.Places.{packet_path, tag_text, telegram_path};
 ghost use Rattle.balise_text.specs.Printing.{word_text};
 ghost use Rattle.balise_text.specs.Reviews.{id_text};
@@ -33,10 +31,7 @@ pub(crate) enum Word<'a> {
 
 /// Writes texts one after another.
 pub fn put_texts<W: Write>(writer: &mut Counted<W>, texts: &[&[u8]]) -> Result<(), WriteFault>
-    ensures ok { OnOk result (Appends (W.contents writer.old.inner) (W.contents writer.new.inner) (text_of (map (λ t. t.now) texts.now))) }
-    ensures unfailed { OnOk result (writer.new.failed ≡ writer.old.failed) }
-    ensures cause { OnErr result (writer.new.failed ≡ one_more writer.old.failed) }
-    ensures written { OnErr result (AppendsSome (W.contents writer.old.inner) (W.contents writer.new.inner) (text_of (map (λ t. t.now) texts.now))) }
+    ensures { Writes W.contents writer.old writer.new result (text_of (map (λ t. t.now) texts.now)) }
 {
     for text in texts {
         if let Err(fault) = put(writer, text) {
@@ -48,10 +43,7 @@ pub fn put_texts<W: Write>(writer: &mut Counted<W>, texts: &[&[u8]]) -> Result<(
 
 // A tag, by its letter and number.
 fn put_tag<W: Write>(writer: &mut Counted<W>, tag: Tag) -> Result<(), WriteFault>
-    ensures ok { OnOk result (Appends (W.contents writer.old.inner) (W.contents writer.new.inner) (tag_text tag)) }
-    ensures unfailed { OnOk result (writer.new.failed ≡ writer.old.failed) }
-    ensures cause { OnErr result (writer.new.failed ≡ one_more writer.old.failed) }
-    ensures written { OnErr result (AppendsSome (W.contents writer.old.inner) (W.contents writer.new.inner) (tag_text tag)) }
+    ensures { Writes W.contents writer.old writer.new result (tag_text tag) }
 {
     let mut buffer = Buffer::new();
     match tag {
@@ -62,10 +54,7 @@ fn put_tag<W: Write>(writer: &mut Counted<W>, tag: Tag) -> Result<(), WriteFault
 
 // The tags of a group and of a telegram.
 fn put_telegram_path<W: Write>(writer: &mut Counted<W>, g: Tag, t: u32) -> Result<(), WriteFault>
-    ensures ok { OnOk result (Appends (W.contents writer.old.inner) (W.contents writer.new.inner) (telegram_path g t)) }
-    ensures unfailed { OnOk result (writer.new.failed ≡ writer.old.failed) }
-    ensures cause { OnErr result (writer.new.failed ≡ one_more writer.old.failed) }
-    ensures written { OnErr result (AppendsSome (W.contents writer.old.inner) (W.contents writer.new.inner) (telegram_path g t)) }
+    ensures { Writes W.contents writer.old writer.new result (telegram_path g t) }
 {
     if let Err(fault) = put_tag(writer, g) {
         return Err(fault);
@@ -86,10 +75,7 @@ fn put_packet_path<W: Write>(
     t: u32,
     p: Tag,
 ) -> Result<(), WriteFault>
-    ensures ok { OnOk result (Appends (W.contents writer.old.inner) (W.contents writer.new.inner) (packet_path g t p)) }
-    ensures unfailed { OnOk result (writer.new.failed ≡ writer.old.failed) }
-    ensures cause { OnErr result (writer.new.failed ≡ one_more writer.old.failed) }
-    ensures written { OnErr result (AppendsSome (W.contents writer.old.inner) (W.contents writer.new.inner) (packet_path g t p)) }
+    ensures { Writes W.contents writer.old writer.new result (packet_path g t p) }
 {
     if let Err(fault) = put_tag(writer, g) {
         return Err(fault);
@@ -111,10 +97,7 @@ fn put_packet_path<W: Write>(
 
 // An identity: country and number.
 fn put_id<W: Write>(writer: &mut Counted<W>, id: Id) -> Result<(), WriteFault>
-    ensures ok { OnOk result (Appends (W.contents writer.old.inner) (W.contents writer.new.inner) (id_text id)) }
-    ensures unfailed { OnOk result (writer.new.failed ≡ writer.old.failed) }
-    ensures cause { OnErr result (writer.new.failed ≡ one_more writer.old.failed) }
-    ensures written { OnErr result (AppendsSome (W.contents writer.old.inner) (W.contents writer.new.inner) (id_text id)) }
+    ensures { Writes W.contents writer.old writer.new result (id_text id) }
 {
     let mut country = Buffer::new();
     let mut number = Buffer::new();
@@ -130,10 +113,7 @@ fn put_id<W: Write>(writer: &mut Counted<W>, id: Id) -> Result<(), WriteFault>
 
 /// Writes a number in decimal.
 pub(crate) fn put_number<W: Write>(writer: &mut Counted<W>, number: u32) -> Result<(), WriteFault>
-    ensures ok { OnOk result (Appends (W.contents writer.old.inner) (W.contents writer.new.inner) (decimal number)) }
-    ensures unfailed { OnOk result (writer.new.failed ≡ writer.old.failed) }
-    ensures cause { OnErr result (writer.new.failed ≡ one_more writer.old.failed) }
-    ensures written { OnErr result (AppendsSome (W.contents writer.old.inner) (W.contents writer.new.inner) (decimal number)) }
+    ensures { Writes W.contents writer.old writer.new result (decimal number) }
 {
     let mut buffer = Buffer::new();
     put(writer, buffer.format(number).as_bytes())
@@ -141,10 +121,7 @@ pub(crate) fn put_number<W: Write>(writer: &mut Counted<W>, number: u32) -> Resu
 
 // The number of a line in decimal.
 fn put_line_number<W: Write>(writer: &mut Counted<W>, number: u64) -> Result<(), WriteFault>
-    ensures ok { OnOk result (Appends (W.contents writer.old.inner) (W.contents writer.new.inner) (decimal number)) }
-    ensures unfailed { OnOk result (writer.new.failed ≡ writer.old.failed) }
-    ensures cause { OnErr result (writer.new.failed ≡ one_more writer.old.failed) }
-    ensures written { OnErr result (AppendsSome (W.contents writer.old.inner) (W.contents writer.new.inner) (decimal number)) }
+    ensures { Writes W.contents writer.old writer.new result (decimal number) }
 {
     let mut buffer = Buffer::new();
     put(writer, buffer.format(number).as_bytes())
@@ -152,10 +129,7 @@ fn put_line_number<W: Write>(writer: &mut Counted<W>, number: u64) -> Result<(),
 
 /// Writes a word.
 pub(crate) fn put_word<W: Write>(writer: &mut Counted<W>, word: &Word) -> Result<(), WriteFault>
-    ensures ok { OnOk result (Appends (W.contents writer.old.inner) (W.contents writer.new.inner) (word_text word.now)) }
-    ensures unfailed { OnOk result (writer.new.failed ≡ writer.old.failed) }
-    ensures cause { OnErr result (writer.new.failed ≡ one_more writer.old.failed) }
-    ensures written { OnErr result (AppendsSome (W.contents writer.old.inner) (W.contents writer.new.inner) (word_text word.now)) }
+    ensures { Writes W.contents writer.old writer.new result (word_text word.now) }
 {
     match *word {
         Word::Name(name) => put(writer, name),
@@ -175,10 +149,7 @@ pub(crate) fn put_word<W: Write>(writer: &mut Counted<W>, word: &Word) -> Result
 
 /// Writes words, a space before each.
 pub(crate) fn put_words<W: Write>(writer: &mut Counted<W>, words: &[Word]) -> Result<(), WriteFault>
-    ensures ok { OnOk result (Appends (W.contents writer.old.inner) (W.contents writer.new.inner) (behind_marks 32 (map word_text words.now))) }
-    ensures unfailed { OnOk result (writer.new.failed ≡ writer.old.failed) }
-    ensures cause { OnErr result (writer.new.failed ≡ one_more writer.old.failed) }
-    ensures written { OnErr result (AppendsSome (W.contents writer.old.inner) (W.contents writer.new.inner) (behind_marks 32 (map word_text words.now))) }
+    ensures { Writes W.contents writer.old writer.new result (behind_marks 32 (map word_text words.now)) }
 {
     for word in words {
         if let Err(fault) = put(writer, b" ") {
@@ -197,10 +168,7 @@ pub(crate) fn put_line<W: Write>(
     name: &[u8],
     words: &[Word],
 ) -> Result<(), WriteFault>
-    ensures ok { OnOk result (Appends (W.contents writer.old.inner) (W.contents writer.new.inner) (whole_line (name.now ∷ map word_text words.now))) }
-    ensures unfailed { OnOk result (writer.new.failed ≡ writer.old.failed) }
-    ensures cause { OnErr result (writer.new.failed ≡ one_more writer.old.failed) }
-    ensures written { OnErr result (AppendsSome (W.contents writer.old.inner) (W.contents writer.new.inner) (whole_line (name.now ∷ map word_text words.now))) }
+    ensures { Writes W.contents writer.old writer.new result (whole_line (name.now ∷ map word_text words.now)) }
 {
     if let Err(fault) = put(writer, name) {
         return Err(fault);

@@ -1,9 +1,7 @@
 //! Prints replies, and why a plan, a journal or a run is refused. No memory is taken.
 
-ghost use Rattle.std.specs.Prelude.{◌≡◌, ◌≤◌, ◌∷◌, [], OnErr, OnOk, decimal, drop, length};
-ghost use Rattle.std.specs.Io.KnownBytes.{Appends};
-ghost use Rattle.balise_lines.specs.Counts.{one_more};
-ghost use Rattle.balise_lines.specs.Writing.{AppendsSome};
+ghost use Rattle.std.specs.Prelude.{◌≡◌, ◌≤◌, ◌∷◌, [], decimal, drop, length};
+ghost use Rattle.balise_lines.specs.Writing.{Writes};
 ghost use Rattle.balise_text.specs.Answers.{reply_of};
 ghost use Rattle.balise_text.specs.Replies.{bad_line, fault_line, refused_line, reply_line};
 ghost use Rattle.balise_text.specs.Texts.{whole_line};
@@ -40,10 +38,7 @@ fn put_number_line<W: Write>(
     number: u32,
 ) -> Result<(), WriteFault>
     requires { length name.now ≤ 8 }
-    ensures ok { OnOk result (Appends (W.contents writer.old.inner) (W.contents writer.new.inner) (whole_line (name.now ∷ decimal number ∷ []))) }
-    ensures unfailed { OnOk result (writer.new.failed ≡ writer.old.failed) }
-    ensures cause { OnErr result (writer.new.failed ≡ one_more writer.old.failed) }
-    ensures written { OnErr result (AppendsSome (W.contents writer.old.inner) (W.contents writer.new.inner) (whole_line (name.now ∷ decimal number ∷ []))) }
+    ensures { Writes W.contents writer.old writer.new result (whole_line (name.now ∷ decimal number ∷ [])) }
 {
     let mut line = [0; ROOM];
     let start = number_line(&mut line, name, number);
@@ -52,10 +47,7 @@ fn put_number_line<W: Write>(
 
 // The line of a command that is refused.
 fn put_refused<W: Write>(writer: &mut Counted<W>, refusal: Refusal) -> Result<(), WriteFault>
-    ensures ok { OnOk result (Appends (W.contents writer.old.inner) (W.contents writer.new.inner) (refused_line refusal)) }
-    ensures unfailed { OnOk result (writer.new.failed ≡ writer.old.failed) }
-    ensures cause { OnErr result (writer.new.failed ≡ one_more writer.old.failed) }
-    ensures written { OnErr result (AppendsSome (W.contents writer.old.inner) (W.contents writer.new.inner) (refused_line refusal)) }
+    ensures { Writes W.contents writer.old writer.new result (refused_line refusal) }
 {
     if let Refusal::DependsOn(serial) = refusal {
         let number = Word::Number(refusal.number());
@@ -67,10 +59,7 @@ fn put_refused<W: Write>(writer: &mut Counted<W>, refusal: Refusal) -> Result<()
 
 /// Writes the line that answers a command, with its end.
 pub fn put_reply<W: Write>(writer: &mut Counted<W>, reply: Reply) -> Result<(), WriteFault>
-    ensures ok { OnOk result (Appends (W.contents writer.old.inner) (W.contents writer.new.inner) (reply_line (reply_of reply))) }
-    ensures unfailed { OnOk result (writer.new.failed ≡ writer.old.failed) }
-    ensures cause { OnErr result (writer.new.failed ≡ one_more writer.old.failed) }
-    ensures written { OnErr result (AppendsSome (W.contents writer.old.inner) (W.contents writer.new.inner) (reply_line (reply_of reply))) }
+    ensures { Writes W.contents writer.old writer.new result (reply_line (reply_of reply)) }
 {
     match reply {
         Reply::Done(serial) => put_number_line(writer, b"ok", serial),
@@ -87,10 +76,7 @@ pub fn put_bad<W: Write>(
     number: u64,
     refusal: Refusal,
 ) -> Result<(), WriteFault>
-    ensures ok { OnOk result (Appends (W.contents writer.old.inner) (W.contents writer.new.inner) (bad_line number refusal)) }
-    ensures unfailed { OnOk result (writer.new.failed ≡ writer.old.failed) }
-    ensures cause { OnErr result (writer.new.failed ≡ one_more writer.old.failed) }
-    ensures written { OnErr result (AppendsSome (W.contents writer.old.inner) (W.contents writer.new.inner) (bad_line number refusal)) }
+    ensures { Writes W.contents writer.old writer.new result (bad_line number refusal) }
 {
     put_line(
         writer,
@@ -105,10 +91,7 @@ pub fn put_bad<W: Write>(
 
 /// Writes the line for a run that ends with a fault, with its end.
 pub fn put_fault<W: Write>(writer: &mut Counted<W>, refusal: Refusal) -> Result<(), WriteFault>
-    ensures ok { OnOk result (Appends (W.contents writer.old.inner) (W.contents writer.new.inner) (fault_line refusal)) }
-    ensures unfailed { OnOk result (writer.new.failed ≡ writer.old.failed) }
-    ensures cause { OnErr result (writer.new.failed ≡ one_more writer.old.failed) }
-    ensures written { OnErr result (AppendsSome (W.contents writer.old.inner) (W.contents writer.new.inner) (fault_line refusal)) }
+    ensures { Writes W.contents writer.old writer.new result (fault_line refusal) }
 {
     put_line(
         writer,

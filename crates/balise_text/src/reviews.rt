@@ -1,9 +1,6 @@
 //! Prints what is to be looked at after a turn. No memory is taken.
 
-ghost use Rattle.std.specs.Prelude.{◌≡◌, OnErr, OnOk};
-ghost use Rattle.std.specs.Io.KnownBytes.{Appends};
-ghost use Rattle.balise_lines.specs.Counts.{one_more};
-ghost use Rattle.balise_lines.specs.Writing.{AppendsSome};
+ghost use Rattle.balise_lines.specs.Writing.{Writes};
 ghost use Rattle.balise_text.specs.Reviews.{review_line};
 
 use crate::printing::{Word, put_line};
@@ -13,10 +10,7 @@ use std::io::Write;
 
 /// Writes the line of a review, with its end.
 pub fn put_review<W: Write>(writer: &mut Counted<W>, line: ReviewLine) -> Result<(), WriteFault>
-    ensures ok { OnOk result (Appends (W.contents writer.old.inner) (W.contents writer.new.inner) (review_line line)) }
-    ensures unfailed { OnOk result (writer.new.failed ≡ writer.old.failed) }
-    ensures cause { OnErr result (writer.new.failed ≡ one_more writer.old.failed) }
-    ensures written { OnErr result (AppendsSome (W.contents writer.old.inner) (W.contents writer.new.inner) (review_line line)) }
+    ensures { Writes W.contents writer.old writer.new result (review_line line) }
 {
     let id = Word::Identity(line.id);
     let pig = Word::Number(line.pig);

@@ -12,7 +12,7 @@ fn read(rt: &impl Abort, alloc: Global, text: &str) -> Group {
     for word in text.split_whitespace() {
         let width = if word.len() == 208 { 830 } else { 210 };
         let bits = Bits::from_hex(alloc, word, width).expect(rt, "digits");
-        assert!(rt; telegrams.push(bits).is_ok());
+        telegrams.push(bits).expect(rt, "memory");
     }
     Group::read(alloc, telegrams).expect(rt, "a group")
 }

@@ -1,12 +1,10 @@
 //! Writes the journal.
 
-ghost use Rattle.std.specs.Prelude.{◌≡◌, IfErr, OnErr, OnOk, map};
-ghost use Rattle.std.specs.Io.KnownBytes.{Appends};
-ghost use Rattle.balise_cli.specs.Faults.{IsCause};
+ghost use Rattle.std.specs.Prelude.{map};
+ghost use Rattle.balise_cli.specs.Faults.{Prints};
 ghost use Rattle.balise_cli.specs.PlanTexts.{journal_text, undone_line};
 ghost use Rattle.balise_cli.specs.Private.{told};
-ghost use Rattle.balise_lines.specs.Counts.{one_more};
-ghost use Rattle.balise_lines.specs.Writing.{AppendsSome};
+ghost use Rattle.balise_lines.specs.Writing.{Writes};
 ghost use Rattle.balise_text.specs.Texts.{text_of};
 
 use crate::fault::RunFault;
@@ -23,10 +21,7 @@ fn put_entries<W: Write>(
     alloc: Global,
     entries: &[Entry],
 ) -> Result<(), RunFault>
-    ensures ok { OnOk result (Appends (W.contents writer.old.inner) (W.contents writer.new.inner) (text_of (map told entries.now))) }
-    ensures unfailed { OnOk result (writer.new.failed ≡ writer.old.failed) }
-    ensures cause { IfErr result (IsCause writer.old.failed writer.new.failed) }
-    ensures written { OnErr result (AppendsSome (W.contents writer.old.inner) (W.contents writer.new.inner) (text_of (map told entries.now))) }
+    ensures { Prints W.contents writer.old writer.new result (text_of (map told entries.now)) }
 {
     for entry in entries {
         let Ok(line) = entry.line(alloc) else {
@@ -41,10 +36,7 @@ fn put_entries<W: Write>(
 
 // Writes the serials of what was undone or struck.
 fn put_all_undone<W: Write>(writer: &mut Counted<W>, serials: &[u32]) -> Result<(), WriteFault>
-    ensures ok { OnOk result (Appends (W.contents writer.old.inner) (W.contents writer.new.inner) (text_of (map undone_line serials.now))) }
-    ensures unfailed { OnOk result (writer.new.failed ≡ writer.old.failed) }
-    ensures cause { OnErr result (writer.new.failed ≡ one_more writer.old.failed) }
-    ensures written { OnErr result (AppendsSome (W.contents writer.old.inner) (W.contents writer.new.inner) (text_of (map undone_line serials.now))) }
+    ensures { Writes W.contents writer.old writer.new result (text_of (map undone_line serials.now)) }
 {
     for serial in serials {
         if let Err(fault) = put_undone(writer, *serial) {
@@ -59,10 +51,7 @@ pub(crate) fn put_journal<W: Write>(
     writer: &mut Counted<W>,
     session: &Session,
 ) -> Result<(), RunFault>
-    ensures ok { OnOk result (Appends (W.contents writer.old.inner) (W.contents writer.new.inner) (journal_text session.now.state)) }
-    ensures unfailed { OnOk result (writer.new.failed ≡ writer.old.failed) }
-    ensures cause { IfErr result (IsCause writer.old.failed writer.new.failed) }
-    ensures written { OnErr result (AppendsSome (W.contents writer.old.inner) (W.contents writer.new.inner) (journal_text session.now.state)) }
+    ensures { Prints W.contents writer.old writer.new result (journal_text session.now.state) }
 {
     let alloc = session.plan().allocator();
     if let Err(fault) = put_head(writer, session.next_serial()) {

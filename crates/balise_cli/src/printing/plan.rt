@@ -1,10 +1,7 @@
 //! Writes the plan.
 
-ghost use Rattle.std.specs.Prelude.{◌≡◌, IfErr, OnErr, OnOk};
-ghost use Rattle.std.specs.Io.KnownBytes.{Appends};
-ghost use Rattle.balise_cli.specs.Faults.{IsCause};
+ghost use Rattle.balise_cli.specs.Faults.{Prints};
 ghost use Rattle.balise_cli.specs.PlanTexts.{group_lines, plan_text, telegram_line};
-ghost use Rattle.balise_lines.specs.Writing.{AppendsSome};
 
 use crate::fault::RunFault;
 use balise_history::{Group, Plan, Tag};
@@ -20,10 +17,7 @@ fn put_telegram<W: Write>(
     tag: u32,
     balise: &Balise,
 ) -> Result<(), RunFault>
-    ensures ok { OnOk result (Appends (W.contents writer.old.inner) (W.contents writer.new.inner) (telegram_line (tag, balise.now))) }
-    ensures unfailed { OnOk result (writer.new.failed ≡ writer.old.failed) }
-    ensures cause { IfErr result (IsCause writer.old.failed writer.new.failed) }
-    ensures written { OnErr result (AppendsSome (W.contents writer.old.inner) (W.contents writer.new.inner) (telegram_line (tag, balise.now))) }
+    ensures { Prints W.contents writer.old writer.new result (telegram_line (tag, balise.now)) }
 {
     if balise.hex_into(digits).is_err() {
         return Err(RunFault::OutOfMemory);
@@ -44,10 +38,7 @@ fn put_group<W: Write>(
     tag: Tag,
     group: &Group,
 ) -> Result<(), RunFault>
-    ensures ok { OnOk result (Appends (W.contents writer.old.inner) (W.contents writer.new.inner) (group_lines (tag, group.now))) }
-    ensures unfailed { OnOk result (writer.new.failed ≡ writer.old.failed) }
-    ensures cause { IfErr result (IsCause writer.old.failed writer.new.failed) }
-    ensures written { OnErr result (AppendsSome (W.contents writer.old.inner) (W.contents writer.new.inner) (group_lines (tag, group.now))) }
+    ensures { Prints W.contents writer.old writer.new result (group_lines (tag, group.now)) }
 {
     if let Err(fault) = put(writer, b"group\n") {
         return Err(RunFault::from(fault));
@@ -69,10 +60,7 @@ pub(crate) fn put_plan<W: Write>(
     writer: &mut Counted<W>,
     plan: &Plan,
 ) -> Result<(), RunFault>
-    ensures ok { OnOk result (Appends (W.contents writer.old.inner) (W.contents writer.new.inner) (plan_text plan.now.groups)) }
-    ensures unfailed { OnOk result (writer.new.failed ≡ writer.old.failed) }
-    ensures cause { IfErr result (IsCause writer.old.failed writer.new.failed) }
-    ensures written { OnErr result (AppendsSome (W.contents writer.old.inner) (W.contents writer.new.inner) (plan_text plan.now.groups)) }
+    ensures { Prints W.contents writer.old writer.new result (plan_text plan.now.groups) }
 {
     if let Err(fault) = put(writer, b"plan 1\n") {
         return Err(RunFault::from(fault));

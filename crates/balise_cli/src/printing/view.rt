@@ -1,10 +1,7 @@
 //! Writes the view.
 
-ghost use Rattle.std.specs.Prelude.{◌≡◌, IfErr, OnErr, OnOk};
-ghost use Rattle.std.specs.Io.KnownBytes.{Appends};
-ghost use Rattle.balise_cli.specs.Faults.{IsCause};
+ghost use Rattle.balise_cli.specs.Faults.{Prints};
 ghost use Rattle.balise_cli.specs.PlanTexts.{view_text, with_end};
-ghost use Rattle.balise_lines.specs.Writing.{AppendsSome};
 ghost use Rattle.balise_view.specs.View.{group_text};
 
 use crate::fault::RunFault;
@@ -20,10 +17,7 @@ fn put_group<W: Write>(
     writer: &mut Counted<W>,
     group: &Group,
 ) -> Result<(), RunFault>
-    ensures ok { OnOk result (Appends (W.contents writer.old.inner) (W.contents writer.new.inner) (with_end (group_text group.now))) }
-    ensures unfailed { OnOk result (writer.new.failed ≡ writer.old.failed) }
-    ensures cause { IfErr result (IsCause writer.old.failed writer.new.failed) }
-    ensures written { OnErr result (AppendsSome (W.contents writer.old.inner) (W.contents writer.new.inner) (with_end (group_text group.now))) }
+    ensures { Prints W.contents writer.old writer.new result (with_end (group_text group.now)) }
 {
     let Ok(line) = group_line(alloc, group) else {
         return Err(RunFault::OutOfMemory);
@@ -43,10 +37,7 @@ pub(crate) fn put_view<W: Write>(
     writer: &mut Counted<W>,
     plan: &Plan,
 ) -> Result<(), RunFault>
-    ensures ok { OnOk result (Appends (W.contents writer.old.inner) (W.contents writer.new.inner) (view_text plan.now.groups)) }
-    ensures unfailed { OnOk result (writer.new.failed ≡ writer.old.failed) }
-    ensures cause { IfErr result (IsCause writer.old.failed writer.new.failed) }
-    ensures written { OnErr result (AppendsSome (W.contents writer.old.inner) (W.contents writer.new.inner) (view_text plan.now.groups)) }
+    ensures { Prints W.contents writer.old writer.new result (view_text plan.now.groups) }
 {
     for place in 0..plan.count() {
         let Some((_, group)) = plan.at(place) else {

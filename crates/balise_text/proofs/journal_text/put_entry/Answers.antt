@@ -1,34 +1,35 @@
 use Rattle.std.proofs.Common.{◌++◌, decimal, refl}
 use Rattle.balise_edits.specs.Lines.{line_in}
-use Rattle.balise_text.proofs.Wrote.{wrote_none, wrote_some, wrote_last, some_last}
+use Rattle.balise_lines.specs.Writing.{LastFailed}
+use Rattle.balise_lines.proofs.PartsWritten.{wrote_none, wrote_some, wrote_last, some_last}
 use Rattle.balise_text.proofs.PrintedLines.{after_edit, after_noted, after_serial, behind_serial, edit_part, end, noted_part, text}
 use Rattle.balise_text.proofs.journal_text.put_entry.Goals as goal
 
-pub returns-in-Err-clause-written : goal.returns-in-Err-clause-written
-returns-in-Err-clause-written g c =
+pub returns-in-Err : goal.returns-in-Err
+returns-in-Err g c =
     let l = line_in c.args.line.now in
-    wrote_some (text l) (text l) (decimal l.serial) (edit_part l ++ (noted_part l ++ end)) _ _ _ (behind_serial l) (wrote_none (text l) _) c.in-Err.ensures.written
+    wrote_some LastFailed _ (text l) (text l) (decimal l.serial) (edit_part l ++ (noted_part l ++ end)) _ _ _ (behind_serial l) (wrote_none _ (text l) _) c.in-Err.ensures
 
-pub returns-in-Err-put_edit-clause-written : goal.returns-in-Err-put_edit-clause-written
-returns-in-Err-put_edit-clause-written g c =
+pub returns-in-Err-put_edit : goal.returns-in-Err-put_edit
+returns-in-Err-put_edit g c =
     let l = line_in c.args.line.now in
-    let w = after_serial l _ _ c.in_default.ensures.ok in
-    wrote_some (text l) _ (edit_part l) (noted_part l ++ end) _ _ _ refl w c.in-Err-put_edit.ensures.written
+    let w = after_serial _ l _ _ c.in_default.ensures in
+    wrote_some LastFailed _ (text l) _ (edit_part l) (noted_part l ++ end) _ _ _ refl w c.in-Err-put_edit.ensures
 
-pub returns-in-Err-put_noted-clause-written : goal.returns-in-Err-put_noted-clause-written
-returns-in-Err-put_noted-clause-written g c =
+pub returns-in-Err-put_noted : goal.returns-in-Err-put_noted
+returns-in-Err-put_noted g c =
     let l = line_in c.args.line.now in
-    let w = after_edit l _ _ _ (after_serial l _ _ c.in_default.ensures.ok) c.in_default-put_edit.ensures.ok in
-    wrote_some (text l) _ (noted_part l) end _ _ _ refl w c.in-Err-put_noted.ensures.written
+    let w = after_edit _ l _ _ _ (after_serial _ l _ _ c.in_default.ensures) c.in_default-put_edit.ensures in
+    wrote_some LastFailed _ (text l) _ (noted_part l) end _ _ _ refl w c.in-Err-put_noted.ensures
 
-pub returns-in-Err-put-clause-written : goal.returns-in-Err-put-clause-written
-returns-in-Err-put-clause-written g c =
+pub returns-in-Err-put : goal.returns-in-Err-put
+returns-in-Err-put g c =
     let l = line_in c.args.line.now in
-    let w = after_noted l _ _ _ (after_edit l _ _ _ (after_serial l _ _ c.in_default.ensures.ok) c.in_default-put_edit.ensures.ok) c.in_default-put_noted.ensures.ok in
-    some_last (text l) end end _ _ _ refl w c.in-Err-put.ensures.written
+    let w = after_noted _ l _ _ _ (after_edit _ l _ _ _ (after_serial _ l _ _ c.in_default.ensures) c.in_default-put_edit.ensures) c.in_default-put_noted.ensures in
+    some_last LastFailed _ (text l) end end _ _ _ refl w c.in-Err-put.ensures
 
-pub returns-clause-ok : goal.returns-clause-ok
-returns-clause-ok g c =
+pub returns : goal.returns
+returns g c =
     let l = line_in c.args.line.now in
-    let w = after_noted l _ _ _ (after_edit l _ _ _ (after_serial l _ _ c.in_default.ensures.ok) c.in_default-put_edit.ensures.ok) c.in_default-put_noted.ensures.ok in
-    wrote_last (text l) end end _ _ _ refl w c.in_default-put.ensures.ok
+    let w = after_noted _ l _ _ _ (after_edit _ l _ _ _ (after_serial _ l _ _ c.in_default.ensures) c.in_default-put_edit.ensures) c.in_default-put_noted.ensures in
+    wrote_last _ (text l) end end _ _ _ refl w c.in_default-put.ensures

@@ -1,23 +1,24 @@
 use Rattle.std.proofs.Common.{◌≡◌, ◌∙◌, ◌+◌, ◌++◌, ◌∷◌, codes, drop, map, refl, sym, ap}
 use Rattle.balise_text.specs.Texts.{Text, behind_marks}
 use Rattle.balise_text.specs.Printing.{word_text}
-use Rattle.balise_text.proofs.Wrote.{wrote_more, wrote_some}
+use Rattle.balise_lines.specs.Writing.{LastFailed}
+use Rattle.balise_lines.proofs.PartsWritten.{wrote_more, wrote_some}
 use Rattle.balise_text.proofs.Lists.{word_left}
 use Rattle.balise_text.proofs.printing.put_words.Goals as goal
 
-pub returns-in-Err-clause-written : goal.returns-in-Err-clause-written
-returns-in-Err-clause-written g c =
+pub returns-in-Err : goal.returns-in-Err
+returns-in-Err g c =
     let i = c.loop-word.word-index in
-    wrote_some _ _ (codes " ") _ _ _ _ (word_left 32 word_text c.args.words.now i c.word-item.result c.loop-word-test.true) c.loop-word.invariant.1 c.in-Err.ensures.written
+    wrote_some LastFailed _ _ _ (codes " ") _ _ _ _ (word_left 32 word_text c.args.words.now i c.word-item.result c.loop-word-test.true) c.loop-word.invariant c.in-Err.ensures
 
-pub returns-in-Err-put_word-clause-written : goal.returns-in-Err-put_word-clause-written
-returns-in-Err-put_word-clause-written g c =
+pub returns-in-Err-put_word : goal.returns-in-Err-put_word
+returns-in-Err-put_word g c =
     let ws = c.args.words.now in
     let i = c.loop-word.word-index in
     let more : Text = behind_marks 32 (map word_text (drop (i + 1) ws)) in
     let item : Text = word_text c.word-item.result in
     let e : behind_marks 32 (map word_text (drop i ws)) ≡ codes " " ++ (item ++ more) = word_left 32 word_text ws i c.word-item.result c.loop-word-test.true ∙ ap (λ x. 32 ∷ (word_text x ++ more)) (sym c.word-item.is) in
-    wrote_some _ (item ++ more) item more _ _ _ refl (wrote_more _ _ (codes " ") (item ++ more) _ _ _ e c.loop-word.invariant.1 c.in_default.ensures.ok) c.in-Err-put_word.ensures.written
+    wrote_some LastFailed _ _ (item ++ more) item more _ _ _ refl (wrote_more _ _ _ (codes " ") (item ++ more) _ _ _ e c.loop-word.invariant c.in_default.ensures) c.in-Err-put_word.ensures
 
 pub loop-word-preserved : goal.loop-word-preserved
 loop-word-preserved g c =
@@ -25,7 +26,5 @@ loop-word-preserved g c =
     let i = c.loop-word.word-index in
     let more : Text = behind_marks 32 (map word_text (drop (i + 1) ws)) in
     let item : Text = word_text c.word-item.result in
-    let e : behind_marks 32 (map word_text (drop i ws)) ≡ codes " " ++ (item ++ more) = word_left 32 word_text ws i c.word-item.result c.loop-word-test.true ∙ ap (λ x. 32 ∷ (word_text x ++ more)) (sym c.word-item.is) in (
-      c.in_default-put_word.ensures.unfailed ∙ (c.in_default.ensures.unfailed ∙ c.loop-word.invariant.0),
-      wrote_more _ (item ++ more) item more _ _ _ refl (wrote_more _ _ (codes " ") (item ++ more) _ _ _ e c.loop-word.invariant.1 c.in_default.ensures.ok) c.in_default-put_word.ensures.ok,
-    )
+    let e : behind_marks 32 (map word_text (drop i ws)) ≡ codes " " ++ (item ++ more) = word_left 32 word_text ws i c.word-item.result c.loop-word-test.true ∙ ap (λ x. 32 ∷ (word_text x ++ more)) (sym c.word-item.is) in
+    wrote_more _ _ (item ++ more) item more _ _ _ refl (wrote_more _ _ _ (codes " ") (item ++ more) _ _ _ e c.loop-word.invariant c.in_default.ensures) c.in_default-put_word.ensures

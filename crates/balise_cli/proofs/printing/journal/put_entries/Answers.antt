@@ -1,13 +1,15 @@
-use Rattle.std.proofs.Common.{◌≡◌, ◌∙◌, ◌+◌, ◌++◌, drop, refl, map, sym, ap}
+use Rattle.std.proofs.Common.{◌≡◌, ◌∙◌, ◌+◌, ◌++◌, drop, map, sym, ap}
+use Rattle.balise_lines.specs.Writing.{LastFailed}
+use Rattle.balise_lines.proofs.PartsWritten.{all_as, some_as, wrote_none, wrote_more, wrote_some}
+use Rattle.balise_text.specs.Texts.{Text, text_of}
+use Rattle.balise_text.proofs.Lists.{text_left}
 use Rattle.balise_cli.specs.PlanTexts.{entry_line}
 use Rattle.balise_cli.specs.Private.{told}
-use Rattle.balise_text.specs.Texts.{Text, text_of}
-use Rattle.balise_text.proofs.Wrote.{all_as, some_as, wrote_none, wrote_more, wrote_some}
-use Rattle.balise_text.proofs.Lists.{text_left}
+use Rattle.balise_cli.proofs.Causes.{call_failed}
 use Rattle.balise_cli.proofs.printing.journal.put_entries.Goals as goal
 
 pub loop-entry-init : goal.loop-entry-init
-loop-entry-init g c = (refl, wrote_none (text_of (map told c.args.entries.now)) (g.W.Write.contents c.args.writer.now.inner))
+loop-entry-init g c = wrote_none _ _ _
 
 pub loop-entry-preserved : goal.loop-entry-preserved
 loop-entry-preserved g c =
@@ -15,16 +17,14 @@ loop-entry-preserved g c =
     let i = c.loop-entry.entry-index in
     let more : Text = text_of (map told (drop (i + 1) es)) in
     let item : Text = told c.entry-item.result in
-    let e : text_of (map told (drop i es)) ≡ item ++ more = text_left told es i c.entry-item.result c.loop-entry-test.true ∙ ap (λ x. told x ++ more) (sym c.entry-item.is) in (
-      c.in_default-put_entry.ensures.unfailed ∙ c.loop-entry.invariant.0,
-      wrote_more _ _ item more _ _ _ e c.loop-entry.invariant.1 (all_as item _ _ _ (ap entry_line (sym c.in-Ok.ensures.ok)) c.in_default-put_entry.ensures.ok),
-    )
+    let e : text_of (map told (drop i es)) ≡ item ++ more = text_left told es i c.entry-item.result c.loop-entry-test.true ∙ ap (λ x. told x ++ more) (sym c.entry-item.is) in
+    wrote_more _ _ _ item more _ _ _ e c.loop-entry.invariant (all_as _ item _ _ _ (ap entry_line (sym c.in-Ok.ensures.ok)) c.in_default-put_entry.ensures)
 
-pub returns-in-Err-clause-written : goal.returns-in-Err-clause-written
-returns-in-Err-clause-written g c =
+pub returns-in-Err : goal.returns-in-Err
+returns-in-Err g c =
     let es = c.args.entries.now in
     let i = c.loop-entry.entry-index in
     let more : Text = text_of (map told (drop (i + 1) es)) in
     let item : Text = told c.entry-item.result in
     let e : text_of (map told (drop i es)) ≡ item ++ more = text_left told es i c.entry-item.result c.loop-entry-test.true ∙ ap (λ x. told x ++ more) (sym c.entry-item.is) in
-    wrote_some _ _ item more _ _ _ e c.loop-entry.invariant.1 (some_as item _ _ _ (ap entry_line (sym c.in-Ok.ensures.ok)) c.in-Err.ensures.written)
+    call_failed _ _ _ _ _ c.from.ensures (wrote_some LastFailed _ _ _ item more _ _ _ e c.loop-entry.invariant (some_as LastFailed _ item _ _ _ (ap entry_line (sym c.in-Ok.ensures.ok)) c.in-Err.ensures))

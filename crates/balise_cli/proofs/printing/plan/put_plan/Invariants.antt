@@ -1,8 +1,8 @@
-use Rattle.std.proofs.Common.{◌≡◌, drop, map}
+use Rattle.std.proofs.Common.{drop, map}
 use Rattle.balise_text.specs.Texts.{text_of}
-use Rattle.balise_text.proofs.Wrote.{Wrote}
+use Rattle.balise_lines.proofs.PartsWritten.{Wrote}
 use Rattle.balise_cli.specs.PlanTexts.{group_lines, plan_text}
 use Rattle.balise_cli.proofs.printing.plan.put_plan.Given as goal
 
 abbrev pub invariant-loop-place : goal.invariant-loop-place
-invariant-loop-place g l = (l.writer.failed ≡ l.fn.writer.failed) × Wrote (plan_text l.plan.groups) (text_of (map group_lines (drop l.place l.plan.groups))) (g.W.Write.contents l.fn.writer.inner) (g.W.Write.contents l.writer.inner)
+invariant-loop-place g l = Wrote g.W.Write.contents (plan_text l.plan.groups) (text_of (map group_lines (drop l.place l.plan.groups))) l.fn.writer l.writer

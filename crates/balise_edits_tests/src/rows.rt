@@ -1,46 +1,11 @@
 //! Edits of known plans: each is done, taken back and done again.
 
-use crate::tests::doing::{follow, read, telegrams};
-use crate::tests::entries::packet_of;
-use crate::{Bits, Edit, Packet, Refusal, Tag, Var};
-use std::alloc::Global;
-use std::process::Abort;
-
-// 5.100, without packets.
-const EMPTY: &str = "a1007f80a0327fffffffffffffffffffffffffffffffffffffffc0";
-
-// 5.100, with a packet 66.
-const REVOCATION: &str = "a1007f80a03250900f82ffffffffffffffffffffffffffffffffc0";
-
-// 5.101, whose packet 5 names 5.100.
-const LINKING: &str = "a1007f80a032c15022a07d00326301ffffffffffffffffffffffc0";
-
-// 5.102, whose packet 5 names 6.100 twice: a further element keeps the country.
-const ABROAD: &str = "a1007f80a03341503b204b20300c88c0819000c98cffffffffffc0";
-
-const FIRST: Tag = Tag::Base(0);
-
-const SECOND: Tag = Tag::Base(1);
-
-fn set(g: Tag, p: Tag, var: Var, k: u32, value: u32) -> Edit {
-    Edit::SetVar {
-        g,
-        t: 0,
-        p,
-        var,
-        k,
-        value,
-    }
-}
-
-fn insert(rt: &impl Abort, alloc: Global, g: Tag, after: Option<Tag>, digits: &str) -> Edit {
-    Edit::InsertPacket {
-        g,
-        t: 0,
-        after,
-        packet: packet_of(rt, alloc, digits),
-    }
-}
+use crate::doing::{follow, read, telegrams};
+use crate::edits::{
+    ABROAD, EMPTY, FIRST, LINKING, REVOCATION, SECOND, delete, insert, remove, renumber, set,
+    shift, turn,
+};
+use balise_edits::{Bits, Edit, Packet, Refusal, Tag, Var};
 
 #[test]
 fn links_and_numbers(rt: HostRuntime) {
@@ -49,10 +14,7 @@ fn links_and_numbers(rt: HostRuntime) {
     let renumbered = "a1007f80a0647fffffffffffffffffffffffffffffffffffffffc0";
     let following = "a1007f80a032c15022a07d00646301ffffffffffffffffffffffc0";
     let set_abroad = "a1007f80a03341503b204b20300c88c08190012d8cffffffffffc0";
-    let edit = Edit::Renumber {
-        g: FIRST,
-        number: 200,
-    };
+    let edit = renumber(FIRST, 200);
     follow(
         &rt,
         alloc,
@@ -79,10 +41,7 @@ fn numbers_refused(rt: HostRuntime) {
     let alloc = rt.alloc();
     let mut plan = read(&rt, alloc, &[LINKING]);
     // A number that is only named is taken too.
-    let edit = Edit::Renumber {
-        g: FIRST,
-        number: 100,
-    };
+    let edit = renumber(FIRST, 100);
     follow(
         &rt,
         alloc,
@@ -92,10 +51,7 @@ fn numbers_refused(rt: HostRuntime) {
         Err(Refusal::NumberTaken),
         &[LINKING],
     );
-    let edit = Edit::Renumber {
-        g: FIRST,
-        number: 16383,
-    };
+    let edit = renumber(FIRST, 16383);
     follow(
         &rt,
         alloc,
@@ -105,10 +61,7 @@ fn numbers_refused(rt: HostRuntime) {
         Err(Refusal::NumberReserved),
         &[LINKING],
     );
-    let edit = Edit::Renumber {
-        g: FIRST,
-        number: 16384,
-    };
+    let edit = renumber(FIRST, 16384);
     follow(
         &rt,
         alloc,
@@ -118,10 +71,7 @@ fn numbers_refused(rt: HostRuntime) {
         Err(Refusal::ValueTooWide),
         &[LINKING],
     );
-    let edit = Edit::Renumber {
-        g: SECOND,
-        number: 7,
-    };
+    let edit = renumber(SECOND, 7);
     follow(
         &rt,
         alloc,
@@ -142,7 +92,7 @@ fn a_group_turned(rt: HostRuntime) {
         "a1047f80a0327fffffffffffffffffffffffffffffffffffffffc0 a114ff80a0324b1010697fffffffffffffffffffffffffffffffc0 a1257f80a032504023a0a0320096047fffffffffffffffffffffc0";
     let link_turned = "a1007f80a032c15022a07d00322301ffffffffffffffffffffffc0";
     let mut plan = read(&rt, alloc, &[three, LINKING]);
-    let edit = Edit::TurnGroup { g: FIRST };
+    let edit = turn(FIRST);
     follow(
         &rt,
         alloc,
@@ -162,11 +112,7 @@ fn padding_stays(rt: HostRuntime) {
     let mut plan = read(&rt, alloc, &[coloured]);
     let edit = insert(&rt, alloc, FIRST, None, "42403e0a");
     follow(&rt, alloc, &mut plan, 1, edit, Ok(()), &[filled]);
-    let edit = Edit::DeletePacket {
-        g: FIRST,
-        t: 0,
-        p: Tag::Fresh(1),
-    };
+    let edit = delete(Tag::Fresh(1));
     follow(&rt, alloc, &mut plan, 2, edit, Ok(()), &[coloured]);
 }
 
@@ -193,12 +139,7 @@ fn a_telegram_filled(rt: HostRuntime) {
         Err(Refusal::NoRoom),
         &[full],
     );
-    let edit = Edit::MovePacket {
-        g: FIRST,
-        t: 0,
-        p: Tag::Fresh(1),
-        after: None,
-    };
+    let edit = shift(Tag::Fresh(1), None);
     follow(
         &rt,
         alloc,
@@ -276,7 +217,7 @@ fn heads_and_groups(rt: HostRuntime) {
         value: 254,
     };
     follow(&rt, alloc, &mut plan, 1, edit, Ok(()), &[counted, LINKING]);
-    let edit = Edit::DropGroup { g: FIRST };
+    let edit = remove(FIRST);
     follow(&rt, alloc, &mut plan, 2, edit, Ok(()), &[LINKING]);
     let edit = Edit::AddGroup {
         after: Some(SECOND),

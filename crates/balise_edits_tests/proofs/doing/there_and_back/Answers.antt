@@ -1,9 +1,9 @@
-use Rattle.std.proofs.Common.{◌≡◌, ◌+◌, ◌≤◌, ℕ, sym, subst, arith}
+use Rattle.std.proofs.Common.{sym, subst, arith}
 use Rattle.balise_rules.specs.Accepting.{Unused}
 use Rattle.balise_edits.specs.Edits.{edit_of}
-use Rattle.balise_edits.proofs.Trying.{last_of, next_of, again_of}
+use Rattle.balise_edits_tests.proofs.Trying.{last_of, next_of, again_of}
 use Rattle.balise_plan.specs.Held.{Plan}
-use Rattle.balise_edits.proofs.tests.doing.there_and_back.Goals as goal
+use Rattle.balise_edits_tests.proofs.doing.there_and_back.Goals as goal
 
 pub returns-in-Err : goal.returns-in-Err
 returns-in-Err g c n h = subst (λ (q : Plan). Unused n q.groups) (sym c.in-Err.ensures.1) (c.requires.new n (omega (arith, h)))

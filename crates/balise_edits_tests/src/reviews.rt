@@ -1,20 +1,15 @@
 //! Reviews of groups before they are turned.
 
-use crate::tests::doing::read;
-use crate::{EditFault, Id, ReviewLine, Reviewed, Tag, Var, review};
+use crate::doing::read;
+use crate::edits::{EMPTY, LINKING};
+use balise_edits::{EditFault, Id, ReviewLine, Reviewed, Tag, Var, review};
 
 // 5.100 of three: packet 65, an unknown packet, no packet.
 const THREE: &str =
     "a104ff80a032505023a0a0320096047fffffffffffffffffffffc0 a1157f80a0324b0010697fffffffffffffffffffffffffffffffc0 a1247f80a0327fffffffffffffffffffffffffffffffffffffffc0";
 
-// 5.101, whose packet 5 names 5.100.
-const LINKING: &str = "a1007f80a032c15022a07d00326301ffffffffffffffffffffffc0";
-
 // 5.101, whose packet 5 names 5.100, 5.100 and 5.102.
 const TWICE: &str = "a1007f80a032c15049a07d00325004096003250015e0066a07ffc0";
-
-// 5.100, without packets.
-const EMPTY: &str = "a1007f80a0327fffffffffffffffffffffffffffffffffffffffc0";
 
 fn line(number: u32, pig: u32, what: Reviewed) -> ReviewLine {
     let id = Id { country: 5, number };

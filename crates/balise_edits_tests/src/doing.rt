@@ -4,9 +4,7 @@ ghost use Rattle.std.specs.Prelude.{◌≡◌, ◌+◌, ◌<◌, ◌≤◌, ◌^
 ghost use Rattle.balise_rules.specs.Accepting.{Spelt, Unused};
 ghost use Rattle.balise_edits.specs.Edits.{edit_of};
 
-use crate::doing::{again, apply, take_back};
-use crate::edit::Edit;
-use crate::{Bits, Plan, Refusal};
+use balise_edits::{Bits, Edit, Entry, Plan, Refusal, again, apply, take_back};
 use std::alloc::Global;
 use std::process::Abort;
 
@@ -16,7 +14,9 @@ pub(crate) fn read(rt: &impl Abort, alloc: Global, texts: &[&str]) -> Plan
 {
     let mut groups = Vec::new(alloc);
     for text in texts.iter() {
-        assert!(rt; groups.push(telegrams(rt, alloc, *text)).is_ok());
+        groups
+            .push(telegrams(rt, alloc, *text))
+            .expect(rt, "memory");
     }
     plan_of(rt, alloc, groups)
 }
@@ -33,7 +33,7 @@ pub(crate) fn telegrams(rt: &impl Abort, alloc: Global, text: &str) -> Vec<Bits>
     for word in text.split_whitespace() {
         let len = if word.len() == 54 { 210 } else { 830 };
         let bits = Bits::from_hex(alloc, word, len).expect(rt, "digits");
-        assert!(rt; telegrams.push(bits).is_ok());
+        telegrams.push(bits).expect(rt, "memory");
     }
     telegrams
 }
@@ -70,6 +70,18 @@ pub(crate) fn follow(
     let done = there_and_back(rt, plan, serial, edit, &before);
     assert!(rt; done == answer);
     assert!(rt; shows(rt, alloc, plan, texts));
+}
+
+/// The entry of an edit that is done under a serial.
+pub(crate) fn made(rt: &impl Abort, plan: &mut Plan, serial: u32, edit: Edit) -> Entry
+    requires { (n : ℕ) → serial ≤ n → Unused n plan.old.groups }
+    ensures { (n : ℕ) → serial + 1 ≤ n → Unused n plan.new.groups }
+{
+    // A sound plan.
+    let _ = plan.count();
+    assert!(rt; plan.changes() < 1000);
+    assert!(rt; is_spelt(plan, &edit));
+    apply(plan, edit, serial).expect(rt, "an entry")
 }
 
 // Whether the edit inserts no packet, or one that the telegram's version spells.

@@ -1,6 +1,6 @@
 -- An edit that was done is the last one; taken back, it is the next one; and other serials are as new as they were.
 use Rattle.std.proofs.Common.{◌≡◌, ◌∙◌, ◌+◌, ◌≤◌, ℕ, None, Ok, refl, sym, ap, subst, arith}
-use Rattle.balise_rules.specs.Accepting.{Accepted, Spelt, Unused}
+use Rattle.balise_rules.specs.Accepting.{Spelt, Unused}
 use Rattle.balise_rules.specs.Back.{back}
 use Rattle.balise_rules.specs.Doing.{done, refusal}
 use Rattle.balise_rules.specs.Edits.{Item}
@@ -45,3 +45,9 @@ again_of e old f new g taken last sound unused spelt d t h m n more new_n =
   where
     undone : back e (noted e.1 old.groups) (done e old.groups) ≡ old.groups
     undone = last_back (e, noted e.1 old.groups) (done e old.groups) (record { before = old.groups; ready = ready e old.groups sound unused spelt d.0; noted_there = refl; made = refl })
+
+-- what is unused before an edit stays so, but for its own serial
+pub made_of : (e : Item) (old : Plan) (f : Entry) (new : Plan) → IsSound old.groups → Unused e.0 old.groups → Spelt e.1 old.groups → Applies e old (Ok f) new →
+    (n : ℕ) → e.0 + 1 ≤ n → Unused n old.groups → Unused n new.groups
+made_of e old f new sound unused spelt d n more new_n =
+    subst (λ (q : Plan). Unused n q.groups) (sym d.2) (unused_kept e old.groups (ready e old.groups sound unused spelt d.0) n (λ w. absurd (omega (arith, more, w))) new_n)

@@ -1,0 +1,56 @@
+-- A text that is written part by part: what is done, and what is left of it.
+use Rattle.std.proofs.Common.{◌≡◌, ◌∙◌, ℕ, List, [], ◌++◌, Option, refl, sym, ap, subst, append_assoc}
+use Rattle.std.proofs.lemmas.List.{append-nil}
+use Rattle.std.specs.Io.KnownBytes.{Appends}
+use Rattle.std.proofs.KnownBytes.{Appends-trans, Appends-nil}
+use Rattle.balise_lines.specs.declared.counted.Counted.{Counted}
+use Rattle.balise_lines.specs.Writing.{AppendsSome, WritesAll, WritesSome}
+use Rattle.balise_lines.proofs.WrittenTexts.{some_front, some_after}
+
+-- of the text, the rest is left, and no call failed
+pub record Wrote {W : Type 0} (contents : W → Option (List ℕ)) (text rest : List ℕ) (old now : Counted W) : Type 0 where
+  pub done : List ℕ
+  pub appended : Appends (contents old.inner) (contents now.inner) done
+  pub all : text ≡ done ++ rest
+  pub unfailed : now.failed ≡ old.failed
+
+pub wrote_none : {W : Type 0} (contents : W → Option (List ℕ)) (text : List ℕ) (old : Counted W) → Wrote contents text text old old
+wrote_none contents text old = record { done = []; appended = Appends-nil (contents old.inner); all = refl; unfailed = refl }
+
+split : (text done rest x more : List ℕ) → text ≡ done ++ rest → rest ≡ x ++ more → text ≡ (done ++ x) ++ more
+split text done rest x more a e = a ∙ ap (λ (t : List ℕ). done ++ t) e ∙ sym (append_assoc done x more)
+
+pub wrote_more : {W : Type 0} (contents : W → Option (List ℕ)) (text rest x more : List ℕ) (old now new : Counted W) → rest ≡ x ++ more → Wrote contents text rest old now → WritesAll contents now new x → Wrote contents text more old new
+wrote_more contents text rest x more old now new e w a =
+    record { done = w.done ++ x; appended = Appends-trans _ _ _ _ _ w.appended a.appended; all = split text w.done rest x more w.all e; unfailed = a.unfailed ∙ w.unfailed }
+
+-- the next part was begun
+pub wrote_some : {W : Type 0} (Cause : ℕ → ℕ → Type 0) (contents : W → Option (List ℕ)) (text rest x more : List ℕ) (old now new : Counted W) → rest ≡ x ++ more → Wrote contents text rest old now →
+    WritesSome Cause contents now new x → WritesSome Cause contents old new text
+wrote_some Cause contents text rest x more old now new e w s = record {
+  begun = subst (λ (t : List ℕ). AppendsSome (contents old.inner) (contents new.inner) t) (sym (w.all ∙ ap (λ (t : List ℕ). w.done ++ t) e))
+      (some_after (contents old.inner) (contents now.inner) (contents new.inner) w.done (x ++ more) w.appended (some_front (contents now.inner) (contents new.inner) x more s.begun));
+  cause = subst (λ (n : ℕ). Cause n new.failed) w.unfailed s.cause;
+}
+
+-- nothing is left
+pub wrote_all : {W : Type 0} (contents : W → Option (List ℕ)) (text rest : List ℕ) (old now : Counted W) → rest ≡ [] → Wrote contents text rest old now → WritesAll contents old now text
+wrote_all contents text rest old now e w = record {
+  appended = subst (λ (t : List ℕ). Appends (contents old.inner) (contents now.inner) t) (sym (w.all ∙ ap (λ (t : List ℕ). w.done ++ t) e ∙ append-nil w.done)) w.appended;
+  unfailed = w.unfailed;
+}
+
+-- The last part, and a part alone.
+
+pub wrote_last : {W : Type 0} (contents : W → Option (List ℕ)) (text rest x : List ℕ) (old now new : Counted W) → rest ≡ x → Wrote contents text rest old now → WritesAll contents now new x → WritesAll contents old new text
+wrote_last contents text rest x old now new e w a = wrote_all contents text [] old new refl (wrote_more contents text rest x [] old now new (e ∙ sym (append-nil x)) w a)
+
+pub some_last : {W : Type 0} (Cause : ℕ → ℕ → Type 0) (contents : W → Option (List ℕ)) (text rest x : List ℕ) (old now new : Counted W) → rest ≡ x → Wrote contents text rest old now →
+    WritesSome Cause contents now new x → WritesSome Cause contents old new text
+some_last Cause contents text rest x old now new e w s = wrote_some Cause contents text rest x [] old now new (e ∙ sym (append-nil x)) w s
+
+pub all_as : {W : Type 0} (contents : W → Option (List ℕ)) (text x : List ℕ) (old new : Counted W) → text ≡ x → WritesAll contents old new x → WritesAll contents old new text
+all_as contents text x old new e a = subst (λ (t : List ℕ). WritesAll contents old new t) (sym e) a
+
+pub some_as : {W : Type 0} (Cause : ℕ → ℕ → Type 0) (contents : W → Option (List ℕ)) (text x : List ℕ) (old new : Counted W) → text ≡ x → WritesSome Cause contents old new x → WritesSome Cause contents old new text
+some_as Cause contents text x old new e s = subst (λ (t : List ℕ). WritesSome Cause contents old new t) (sym e) s

@@ -3,6 +3,7 @@ pub mod Putting
 pub mod Flat
 pub mod Windows
 pub mod Packing
+pub mod Laid
 pub mod Digits
 pub mod Spare
 pub mod Ones

@@ -1,9 +1,9 @@
 -- Packed bytes: what they hold, and what stays true of them when bits are put, added or cut.
 use Rattle.std.proofs.Common.{◌≡◌, ℕ, zero, suc, ◌+◌, ◌-◌, ◌*◌, ◌/◌, ◌%◌, ◌<◌, ◌≤◌, Bool, false, List, [], ◌++◌, length, take, drop, replicate, refl, sym, ap, ◌∙◌, append_assoc, arith, length-append}
 use Rattle.std.proofs.lemmas.List.{append-nil, take_at, take_all, drop_at, drop_all, nil_from_length, take-append-drop, length-take, length-drop, length-replicate, drop-drop, replicate-append-replicate}
-use Rattle.std.specs.List.{refill}
 use borrow.Rule.Slice.PartMut.{put_mid}
-use Rattle.balise_rules.specs.Bits.{part, put_at, zeros}
+use Rattle.balise_rules.specs.Bits.{bits, part, put_at, zeros}
+use Rattle.balise_rules.proofs.Numbers.{length-bits}
 use Rattle.balise_rules.specs.Digits.{fill}
 use Rattle.balise_bits.specs.Bytes.{flat, IsPacked}
 use Rattle.balise_bits.proofs.Putting.{length-put_at, drop-put_at, put_at-take, put_at-append_left, put_at-append_right, part-take, part-part}
@@ -45,12 +45,18 @@ view-whole len bytes e = take_all len (flat bytes) (omega (arith, e, length-flat
 -- ---- a number among the bits
 
 -- a part of the bits lies in a few bytes
-pub part-in_window : (bytes : List ℕ) (len at w first n : ℕ) → at + w ≤ len → 8 * first ≤ at → first + n ≤ length bytes → at + w ≤ 8 * (first + n) → part (at - 8 * first) w (flat (take n (drop first bytes))) ≡ part at w (take len (flat bytes))
-part-in_window bytes len at w first n within low some high =
+pub part-in_window : (bytes : List ℕ) (at w first n : ℕ) → 8 * first ≤ at → first + n ≤ length bytes → at + w ≤ 8 * (first + n) → part (at - 8 * first) w (flat (take n (drop first bytes))) ≡ part at w (flat bytes)
+part-in_window bytes at w first n low some high =
     let o = at - 8 * first in
     let place : 8 * first + o ≡ at = omega arith in
     ap (part o w) (flat-part first n bytes some) ∙ part-part o w (8 * first) (8 * n) (flat bytes) (omega arith)
-    ∙ ap (λ (k : ℕ). part k w (flat bytes)) place ∙ sym (part-take len at w (flat bytes) within)
+    ∙ ap (λ (k : ℕ). part k w (flat bytes)) place
+
+-- the bits that count hold the same
+pub part-held : (bytes : List ℕ) (b : List Bool) (len at w : ℕ) → IsPacked len bytes → take len (flat bytes) ≡ b → at + w ≤ length b → part at w (flat bytes) ≡ part at w b
+part-held bytes b len at w p view h =
+    let size : length b ≡ len = ap length (sym view) ∙ length-view len bytes p in
+    sym (part-take len at w (flat bytes) (omega (arith, size))) ∙ ap (part at w) view
 
 -- ---- bits put
 
@@ -70,6 +76,16 @@ flat-middle bytes mid at first n x some low high e =
     let place : at ≡ length front + o = omega (arith, length-flat (take first bytes), length-take first bytes) in
     after ∙ ap (λ (l : List Bool). front ++ (l ++ back)) e
     ∙ sym (ap (put_at at x) before ∙ put_at-append_right at o x front (window ++ back) place ∙ ap (λ (l : List Bool). front ++ l) (put_at-append_left o x window back (omega (arith, size))))
+
+-- a number put in a window of n bytes from the place first on
+pub written : (bytes win : List ℕ) (at w v first n s : ℕ) → flat win ≡ put_at (8 * length (take n (drop first bytes)) - (s + w)) (bits w v) (flat (take n (drop first bytes))) → 8 * first ≤ at → first + n ≤ length bytes → at + w + s ≡ 8 * (first + n) → flat (put_mid first n bytes win) ≡ put_at at (bits w v) (flat bytes)
+written bytes win at w v first n s put low some end =
+    let x = bits w v in
+    let few : length (take n (drop first bytes)) ≡ n = omega (arith, length-take n (drop first bytes), length-drop first bytes) in
+    let place : 8 * length (take n (drop first bytes)) - (s + w) ≡ at - 8 * first = omega (arith, few) in
+    let over : flat win ≡ put_at (at - 8 * first) x (flat (take n (drop first bytes))) =
+    put ∙ ap (λ (k : ℕ). put_at k x (flat (take n (drop first bytes)))) place in
+    flat-middle bytes win at first n x (omega arith) (omega arith) (omega (arith, length-bits w v)) over
 
 -- whole bytes replaced
 flat-bytes_put : (bytes mid : List ℕ) (to first count : ℕ) (x : List Bool) → first ≡ to / 8 → (0 < count → to % 8 ≡ 0) → to + 8 * count ≤ length (flat bytes) → length x ≡ 8 * count → flat mid ≡ x → flat (take first bytes ++ (mid ++ drop count (drop first bytes))) ≡ put_at to x (flat bytes)
@@ -92,27 +108,20 @@ flat-bytes_put bytes mid to first (suc count) x place aligned room size e =
     flat-middle bytes mid to first n x held (omega (arith, start)) (omega (arith, start, size))
     (e ∙ sym (ap (λ (k : ℕ). put_at k x window) near ∙ over))
 
--- the same, as a value holds them once a part of its bytes was lent and is written
-pub flat-laid : (bytes held mid : List ℕ) (to count : ℕ) (x : List Bool) → held ≡ bytes → (0 < count → to % 8 ≡ 0) → to + 8 * count ≤ 8 * length bytes → length x ≡ 8 * count → flat mid ≡ x → flat (refill (length bytes) bytes (put_mid (to / 8) (to / 8 + count - to / 8) held mid)) ≡ put_at to x (flat bytes)
-flat-laid bytes held mid to count x same aligned room long e =
+-- the same, of a part that is lent
+pub flat-laid : (bytes mid : List ℕ) (to count : ℕ) (x : List Bool) → (0 < count → to % 8 ≡ 0) → to + 8 * count ≤ 8 * length bytes → length x ≡ 8 * count → flat mid ≡ x → flat (put_mid (to / 8) (to / 8 + count - to / 8) bytes mid) ≡ put_at to x (flat bytes)
+flat-laid bytes mid to count x aligned room long e =
     let first = to / 8 in
-    let new = put_mid first (first + count - first) held mid in
     let n : first + count - first ≡ count = omega arith in
-    let within : to + 8 * count ≤ length (flat bytes) = omega (arith, room, length-flat bytes) in
-    let laid : flat new ≡ put_at to x (flat bytes) =
-    ap (λ (l : List ℕ). flat (put_mid first (first + count - first) l mid)) same ∙ ap (λ (k : ℕ). flat (put_mid first k bytes mid)) n
-    ∙ flat-bytes_put bytes mid to first count x (let r : first ≡ to / 8 = omega arith in r) aligned within long e in
-    let size : length new ≡ length bytes =
-    omega (arith, sym (length-flat new) ∙ ap length laid ∙ length-put_at to x (flat bytes) (omega (arith, long, within)) ∙ length-flat bytes) in
-    ap flat (take_at new (drop (length new) bytes) (length bytes) size) ∙ laid
+    ap (λ (k : ℕ). flat (put_mid first k bytes mid)) n
+    ∙ flat-bytes_put bytes mid to first count x (let r : first ≡ to / 8 = omega arith in r) aligned (omega (arith, room, length-flat bytes)) long e
 
 -- bits from a place on lie in the bytes from there on
-pub part-in_bytes : (bytes : List ℕ) (len at n : ℕ) → len ≤ 8 * length bytes → at + n ≤ len → part (at % 8) n (flat (drop (at / 8) bytes)) ≡ part at n (take len (flat bytes))
-part-in_bytes bytes len at n held h =
+pub part-in_bytes : (bytes : List ℕ) (at n : ℕ) → at + n ≤ 8 * length bytes → part (at % 8) n (flat (drop (at / 8) bytes)) ≡ part at n (flat bytes)
+part-in_bytes bytes at n h =
     let place : 8 * (at / 8) + at % 8 ≡ at = omega arith in
     ap (part (at % 8) n) (sym (drop-flat (at / 8) bytes (omega arith)))
     ∙ ap (take n) (drop-drop (at % 8) (8 * (at / 8)) (flat bytes)) ∙ ap (λ (k : ℕ). part k n (flat bytes)) place
-    ∙ sym (part-take len at n (flat bytes) h)
 
 pub packed_put : (len at : ℕ) (x : List Bool) (bytes bytes' : List ℕ) → IsPacked len bytes → at + length x ≤ len → flat bytes' ≡ put_at at x (flat bytes) → IsPacked len bytes'
 packed_put len at x bytes bytes' p h e =

@@ -7,6 +7,7 @@ mod bits;
 mod cells;
 mod fault;
 mod nibbles;
+mod places;
 mod store;
 mod window;
 

@@ -198,7 +198,19 @@ impl Store {
         self.data.as_mut_slice()
     }
 
+    /// How many bits at the end don't count.
+    #[inline]
+    pub(crate) fn spare(&self) -> u8
+        ensures { result + self.now.len ≡ 8 * length self.now.items }
+    {
+        match &self.data {
+            Data::Inline(spare, _) => *spare,
+            Data::Heap(spare, _) => *spare,
+        }
+    }
+
     /// Lets all bits count but so many.
+    #[inline]
     pub(crate) fn set_spare(&mut self, spare: u8)
         requires { spare ≤ 8 * length self.old.items }
         ensures items { self.new.items ≡ self.old.items }
@@ -229,6 +241,27 @@ impl Store {
             }
             Data::Heap(_, heap) => heap.resize(heap.len() + more, 0),
         }
+    }
+
+    /// Adds those of another at the end, where all bits of these count. On want of memory all stays.
+    #[inline(always)]
+    pub(crate) fn append(&mut self, other: &Store) -> Result<(), AllocError>
+        requires whole { self.old.len ≡ 8 * length self.old.items }
+        requires fits { 8 * (length self.old.items + length other.now.items) < 2 ^ 64 }
+        ensures items { OnOk result (self.new.items ≡ self.old.items ++ other.now.items) }
+        ensures len { OnOk result (self.new.len ≡ self.old.len + other.now.len) }
+        ensures err { OnErr result (self.new ≡ self.old) }
+    {
+        if let Data::Heap(spare, heap) = &mut self.data {
+            heap.extend_from_slice(other.as_slice())?;
+            *spare = other.spare();
+            return Ok(());
+        }
+        let at = self.as_slice().len();
+        self.add_zeros(other.as_slice().len())?;
+        self.as_mut_slice()[at..].copy_from_slice(other.as_slice());
+        self.set_spare(other.spare());
+        Ok(())
     }
 
     /// The same bytes once more.

@@ -5,8 +5,8 @@ ghost use Rattle.balise_rules.specs.Bits.{bits, num, ones, part, put_at, zeros};
 
 use crate::bits::Bits;
 use crate::fault::BitsFault;
+use crate::places::{number_at, put_number_at};
 use crate::store::MOST;
-use crate::window::{WINDOW, number_before, put_over};
 
 impl Bits {
     /// The number in the `width` bits from the place `at` on.
@@ -16,17 +16,7 @@ impl Bits {
         requires within { at + width ≤ length self.now }
         ensures { result ≡ num (part at width self.now) }
     {
-        let bytes = self.bytes.as_slice();
-        let count = bytes.len();
-        let first = at / 8;
-        if first + WINDOW <= count {
-            let behind = 8 * WINDOW - at % 8 - width as usize;
-            return number_before(&bytes[first..first + WINDOW], behind, width);
-        }
-        let size = count.min(WINDOW);
-        let first = count - size;
-        let behind = 8 * size - (at - 8 * first) - width as usize;
-        number_before(&bytes[first..], behind, width)
+        number_at(self.bytes.as_slice(), at, width)
     }
 
     /// Puts a number over the `width` bits from the place `at` on. All other bits stay.
@@ -36,21 +26,7 @@ impl Bits {
         requires fits { value < 2 ^ width }
         ensures { self.new ≡ put_at at (bits width value) self.old }
     {
-        if width == 0 {
-            return;
-        }
-        let bytes = self.bytes.as_mut_slice();
-        let count = bytes.len();
-        let first = at / 8;
-        if first + WINDOW <= count {
-            let spare = 8 * WINDOW - at % 8 - width as usize;
-            put_over(&mut bytes[first..first + WINDOW], spare, width, value);
-            return;
-        }
-        let size = count.min(WINDOW);
-        let first = count - size;
-        let behind = 8 * size - (at - 8 * first) - width as usize;
-        put_over(&mut bytes[first..first + size], behind, width, value);
+        put_number_at(self.bytes.as_mut_slice(), at, width, value);
     }
 
     /// Adds the `width` bits of a number at the end. On want of memory the bits stay.

@@ -1,11 +1,12 @@
 //! Parts of bits: cut out, joined, laid over others.
 
-ghost use Rattle.std.specs.Prelude.{◌≡◌, ◌+◌, ◌*◌, ◌%◌, ◌<◌, ◌≤◌, ◌++◌, length, IfOk, IsOkUnless, OnErr, OnOk};
+ghost use Rattle.std.specs.Prelude.{◌≡◌, ◌+◌, ◌≤◌, ◌++◌, length, IfOk, IsOkUnless, OnErr, OnOk};
 ghost use Rattle.balise_rules.specs.Bits.{part, put_at};
 
 use crate::bits::Bits;
 use crate::fault::BitsFault;
-use crate::window::fill_shifted;
+use crate::places::put_part_at;
+use crate::store::MOST;
 
 impl Bits {
     /// The `len` bits from the place `at` on.
@@ -25,7 +26,14 @@ impl Bits {
         ensures err { OnErr result (self.new ≡ self.old) }
         ensures fault { IsOkUnless result BitsFault.OutOfMemory }
     {
-        self.append_part(other, 0, other.len())
+        if self.bytes.spare() != 0 {
+            return self.append_part(other, 0, other.len());
+        }
+        if self.bytes.as_slice().len() + other.bytes.as_slice().len() > MOST {
+            return Err(BitsFault::OutOfMemory);
+        }
+        self.bytes.append(&other.bytes)?;
+        Ok(())
     }
 
     /// Adds the `len` bits of another from the place `at` on at the end. On want of memory the bits stay.
@@ -49,31 +57,12 @@ impl Bits {
     {
         // Lengths are numbers of 64 bits, so the places below are too.
         let _lengths = (self.len(), other.len());
-        if len <= 32 {
-            self.put(to, len as u32, other.number(at, len as u32));
-            return;
-        }
-        let head = ((8 - to % 8) % 8).min(len);
-        self.put(to, head as u32, other.number(at, head as u32));
-        let whole = (len - head) / 8;
-        self.put_bytes(to + head, other, at + head, whole);
-        let done = head + 8 * whole;
-        let tail = (len - done) as u32;
-        self.put(to + done, tail, other.number(at + done, tail));
-    }
-
-    // Puts `count` times eight bits of another over whole bytes of these.
-    fn put_bytes(&mut self, to: usize, other: &Bits, at: usize, count: usize)
-        requires aligned { 0 < count → to % 8 ≡ 0 }
-        requires within { at + 8 * count ≤ length other.now }
-        requires room { to + 8 * count ≤ length self.old }
-        ensures { self.new ≡ put_at to (part at (8 * count) other.now) self.old }
-    {
-        let first = to / 8;
-        fill_shifted(
-            &mut self.bytes.as_mut_slice()[first..first + count],
-            &other.bytes.as_slice()[at / 8..],
-            at % 8,
+        put_part_at(
+            self.bytes.as_mut_slice(),
+            to,
+            other.bytes.as_slice(),
+            at,
+            len,
         );
     }
 }

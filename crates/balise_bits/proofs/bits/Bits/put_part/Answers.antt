@@ -1,38 +1,35 @@
-use Rattle.std.proofs.Common.{sym, ap, ◌∙◌, subst, arith, ◌≡◌, ◌+◌, ◌-◌, ◌*◌, ◌/◌, ◌<◌, ◌^◌, ℕ, List, Bool}
-use Rattle.balise_rules.specs.Bits.{bits, part, put_at}
-use Rattle.balise_bits.proofs.Pieces.{num-part_below, bits-num_part}
-use Rattle.balise_bits.proofs.Putting.{put_at-pieces}
+use Rattle.std.proofs.Common.{◌≡◌, ap, ◌∙◌, length, arith, List, ℕ, Bool}
+use Rattle.balise_rules.specs.Bits.{part, put_at}
+use Rattle.balise_bits.specs.Bytes.{flat}
+use Rattle.balise_bits.proofs.Putting.{length-part}
+use Rattle.balise_bits.proofs.Packing.{part-held}
+use Rattle.balise_bits.proofs.Laid.{len_held, packed_laid, view-laid}
 use Rattle.balise_bits.proofs.bits.Bits.put_part.Goals as goal
 
-pub put-requires-clause-fits : goal.put-requires-clause-fits
-put-requires-clause-fits c =
-    subst (λ (x : ℕ). x < 2 ^ c.args.len) (sym c.number.ensures) (num-part_below c.args.other.now c.args.at c.args.len (omega arith))
+pub put_part_at-requires-clause-within : goal.put_part_at-requires-clause-within
+put_part_at-requires-clause-within c =
+    omega (arith, len_held c.other.inside.bytes c.args.other.now c.other.invariant c.other.view_is, c.other.invariant.whole, ap length c.as_slice.ensures.value)
 
-pub returns-then-len-le32 : goal.returns-then-len-le32
-returns-then-len-le32 c =
-    c.put.ensures ∙ ap (λ (l : List Bool). put_at c.args.to l c.args.self.now) (ap (bits c.args.len) c.number.ensures ∙ bits-num_part c.args.other.now c.args.at c.args.len (omega arith))
+pub put_part_at-requires-clause-room : goal.put_part_at-requires-clause-room
+put_part_at-requires-clause-room c =
+    omega (arith, len_held c.self.inside.bytes c.args.self.now c.self.invariant c.self.view_is, c.self.invariant.whole, ap length c.as_mut_slice.ensures.value)
 
-pub put-requires-2-clause-fits : goal.put-requires-2-clause-fits
-put-requires-2-clause-fits c =
-    subst (λ (x : ℕ). x < 2 ^ c.min-head.result) (sym c.number-2.ensures) (num-part_below c.args.other.now c.args.at c.min-head.result (omega arith))
+-- what is laid is the part of the other's bits
+laid : (c : goal.After-self-1) → flat c.put_part_at.new.bytes ≡ put_at c.args.to (part c.args.at c.args.len c.args.other.now) (flat c.as_mut_slice.result.now)
+laid c =
+    c.put_part_at.ensures
+    ∙ ap (λ (l : List Bool). put_at c.args.to l (flat c.as_mut_slice.result.now))
+    (ap (λ (l : List ℕ). part c.args.at c.args.len (flat l)) c.as_slice.ensures.value
+    ∙ part-held c.other.inside.bytes.items c.args.other.now c.other.inside.bytes.len c.args.at c.args.len c.other.invariant c.other.view_is c.requires.within)
 
-pub put-requires-3-clause-fits : goal.put-requires-3-clause-fits
-put-requires-3-clause-fits c =
-    let done = c.min-head.result + 8 * ((c.args.len - c.min-head.result) / 8) in
-    subst (λ (x : ℕ). x < 2 ^ (c.args.len - done)) (sym c.number-3.ensures) (num-part_below c.args.other.now (c.args.at + done) (c.args.len - done) (omega arith))
+pub invariant_of-self : goal.invariant_of-self
+invariant_of-self c =
+    let x = part c.args.at c.args.len c.args.other.now in
+    packed_laid c.self.inside.bytes c.as_mut_slice.result.now c.put_part_at.new.bytes c.args.to x c.args.self.now c.self.invariant c.self.view_is c.as_mut_slice.ensures.value
+    (omega (arith, length-part c.args.at c.args.len c.args.other.now c.requires.within)) (laid c)
 
 pub returns : goal.returns
 returns c =
-    let to = c.args.to in
-    let at = c.args.at in
-    let x = c.args.other.now in
-    let n = c.min-head.result in
-    let m = 8 * ((c.args.len - n) / 8) in
-    let k = c.args.len - (n + m) in
-    let one : bits n c.number-2.result ≡ part at n x = ap (bits n) c.number-2.ensures ∙ bits-num_part x at n (omega arith) in
-    let two : bits k c.number-3.result ≡ part (at + (n + m)) k x = ap (bits k) c.number-3.ensures ∙ bits-num_part x (at + (n + m)) k (omega arith) in
-    let whole : n + m + k ≡ c.args.len = omega arith in
-    c.put-3.ensures ∙ ap (λ (l : List Bool). put_at (to + (n + m)) l c.put_bytes.new.self) two
-    ∙ ap (put_at (to + (n + m)) (part (at + (n + m)) k x)) (c.put_bytes.ensures ∙ ap (put_at (to + n) (part (at + n) m x)) (c.put-2.ensures ∙ ap (λ (l : List Bool). put_at to l c.args.self.now) one))
-    ∙ put_at-pieces to at n m k x c.args.self.now (omega arith) (omega arith)
-    ∙ ap (λ (i : ℕ). put_at to (part at i x) c.args.self.now) whole
+    let x = part c.args.at c.args.len c.args.other.now in
+    view-laid c.self.inside.bytes c.as_mut_slice.result.now c.put_part_at.new.bytes c.args.to x c.args.self.now c.self.invariant c.self.view_is c.as_mut_slice.ensures.value
+    (omega (arith, length-part c.args.at c.args.len c.args.other.now c.requires.within)) (laid c)

@@ -1,0 +1,31 @@
+use Rattle.std.proofs.Common.{ap, ◌∙◌, length, take, drop, arith, ◌≡◌, ◌+◌, ◌-◌, ◌*◌, ◌/◌, ◌%◌, ◌≤◌, ℕ, List}
+use Rattle.std.proofs.lemmas.List.{length-take, length-drop}
+use Rattle.balise_rules.specs.Bits.{num, part}
+use Rattle.balise_bits.specs.Bytes.{flat}
+use Rattle.balise_bits.proofs.Packing.{part-in_window}
+use Rattle.balise_bits.proofs.places.number_at.Goals as goal
+
+-- the number in a window is that among all bits
+in_window : (bytes : List ℕ) (at w first n behind : ℕ) → 8 * first ≤ at → first + n ≤ length bytes → at + w + behind ≡ 8 * (first + n) → num (part (8 * length (take n (drop first bytes)) - (behind + w)) w (flat (take n (drop first bytes)))) ≡ num (part at w (flat bytes))
+in_window bytes at w first n behind low some end =
+    let few : length (take n (drop first bytes)) ≡ n = omega (arith, length-take n (drop first bytes), length-drop first bytes) in
+    let place : 8 * length (take n (drop first bytes)) - (behind + w) ≡ at - 8 * first = omega (arith, few) in
+    ap (λ (k : ℕ). num (part k w (flat (take n (drop first bytes))))) place
+    ∙ ap num (part-in_window bytes at w first n low some (omega arith))
+
+pub returns-then-first-count : goal.returns-then-first-count
+returns-then-first-count c =
+    let at = c.args.at in
+    let w = c.args.width in
+    c.number_before.ensures
+    ∙ in_window c.args.bytes.now at w (at / 8) (at / 8 + 5 - at / 8) (40 - at % 8 - w) (omega arith) (omega arith) (omega arith)
+
+pub returns : goal.returns
+returns c =
+    let at = c.args.at in
+    let w = c.args.width in
+    let count = length c.args.bytes.now in
+    let size = c.min-size.result in
+    let first = count - size in
+    c.number_before-2.ensures
+    ∙ in_window c.args.bytes.now at w first (count - first) (8 * size - (at - 8 * first) - w) (omega arith) (omega arith) (omega arith)

@@ -1,0 +1,97 @@
+//! Numbers and parts at any place of packed bytes.
+
+ghost use Rattle.std.specs.Prelude.{◌≡◌, ◌+◌, ◌*◌, ◌%◌, ◌^◌, ◌<◌, ◌≤◌, length};
+ghost use Rattle.balise_rules.specs.Bits.{bits, num, part, put_at};
+ghost use Rattle.balise_bits.specs.Bytes.{flat};
+
+use crate::window::{WINDOW, fill_shifted, number_before, put_over};
+
+/// The number in the `width` bits from the place `at` on.
+#[inline(always)]
+pub(crate) fn number_at(bytes: &[u8], at: usize, width: u32) -> u32
+    requires width { width ≤ 32 }
+    requires within { at + width ≤ 8 * length bytes.now }
+    ensures { result ≡ num (part at width (flat bytes.now)) }
+{
+    let count = bytes.len();
+    let first = at / 8;
+    if first + WINDOW <= count {
+        let behind = 8 * WINDOW - at % 8 - width as usize;
+        return number_before(&bytes[first..first + WINDOW], behind, width);
+    }
+    let size = count.min(WINDOW);
+    let first = count - size;
+    let behind = 8 * size - (at - 8 * first) - width as usize;
+    number_before(&bytes[first..], behind, width)
+}
+
+/// Puts a number over the `width` bits from the place `at` on. All other bits stay.
+pub(crate) fn put_number_at(bytes: &mut [u8], at: usize, width: u32, value: u32)
+    requires width { width ≤ 32 }
+    requires within { at + width ≤ 8 * length bytes.old }
+    requires fits { value < 2 ^ width }
+    ensures { flat bytes.new ≡ put_at at (bits width value) (flat bytes.old) }
+{
+    if width == 0 {
+        return;
+    }
+    let count = bytes.len();
+    let first = at / 8;
+    if first + WINDOW <= count {
+        let behind = 8 * WINDOW - at % 8 - width as usize;
+        put_over(&mut bytes[first..first + WINDOW], behind, width, value);
+        return;
+    }
+    let size = count.min(WINDOW);
+    let first = count - size;
+    let behind = 8 * size - (at - 8 * first) - width as usize;
+    put_over(&mut bytes[first..], behind, width, value);
+}
+
+/// Puts the `len` bits of other bytes from the place `at` on over those from the place `to` on. All other bits stay.
+pub(crate) fn put_part_at(bytes: &mut [u8], to: usize, from: &[u8], at: usize, len: usize)
+    requires within { at + len ≤ 8 * length from.now }
+    requires room { to + len ≤ 8 * length bytes.old }
+    requires near { at + len < 2 ^ 64 }
+    requires far { to + len < 2 ^ 64 }
+    ensures { flat bytes.new ≡ put_at to (part at len (flat from.now)) (flat bytes.old) }
+{
+    if len <= 32 {
+        put_number_at(bytes, to, len as u32, number_at(from, at, len as u32));
+        return;
+    }
+    let head = ((8 - to % 8) % 8).min(len);
+    put_in_byte(bytes, to, head as u32, number_at(from, at, head as u32));
+    let whole = (len - head) / 8;
+    put_bytes_at(bytes, to + head, from, at + head, whole);
+    let done = head + 8 * whole;
+    let tail = (len - done) as u32;
+    put_in_byte(bytes, to + done, tail, number_at(from, at + done, tail));
+}
+
+// Puts a number over the `width` bits from the place `at` on, which lie in one byte. All other bits stay.
+#[inline(always)]
+fn put_in_byte(bytes: &mut [u8], at: usize, width: u32, value: u32)
+    requires byte { at % 8 + width ≤ 8 }
+    requires within { at + width ≤ 8 * length bytes.old }
+    requires fits { value < 2 ^ width }
+    ensures { flat bytes.new ≡ put_at at (bits width value) (flat bytes.old) }
+{
+    if width == 0 {
+        return;
+    }
+    let first = at / 8;
+    let behind = 8 - at % 8 - width as usize;
+    put_over(&mut bytes[first..first + 1], behind, width, value);
+}
+
+// Puts `count` times eight bits of other bytes over whole bytes of these.
+fn put_bytes_at(bytes: &mut [u8], to: usize, from: &[u8], at: usize, count: usize)
+    requires aligned { 0 < count → to % 8 ≡ 0 }
+    requires within { at + 8 * count ≤ 8 * length from.now }
+    requires room { to + 8 * count ≤ 8 * length bytes.old }
+    ensures { flat bytes.new ≡ put_at to (part at (8 * count) (flat from.now)) (flat bytes.old) }
+{
+    let first = to / 8;
+    fill_shifted(&mut bytes[first..first + count], &from[at / 8..], at % 8);
+}

@@ -2,6 +2,7 @@
 #![tactic(auto)]
 
 mod digits;
+mod groups;
 mod packets;
 mod plans;
 mod telegrams;
@@ -13,10 +14,11 @@ fn main(rt: HostRuntime) -> Result<()> {
     let mut words = env::args(&rt)?;
     let _program = words.next();
     let Some(mode) = words.next() else {
-        bail!("which layer? digits, packets, plans, telegrams");
+        bail!("which layer? digits, groups, packets, plans, telegrams");
     };
     match mode.as_str() {
         "digits" => digits::run(&rt),
+        "groups" => groups::run(&rt),
         "packets" => packets::run(&rt),
         "plans" => plans::run(&rt),
         "telegrams" => match words.next() {

@@ -79,7 +79,7 @@ const SAMPLES: [Sample; 8] = [
 ];
 
 /// The processor time so far, in microseconds.
-fn now(rt: &impl CpuClock) -> Result<u128> {
+pub(crate) fn now(rt: &impl CpuClock) -> Result<u128> {
     Ok(rt.process_cpu_time()?.as_micros())
 }
 

@@ -10,7 +10,7 @@ use std::io::{BufWriter, Read, Write};
 use std::{io, mem};
 
 /// The groups of all lines: a line 'group' begins one, and lines that have as many digits as a telegram belong to it.
-fn read<R: Read>(alloc: Global, reader: &mut Counted<R>) -> Result<Plan> {
+pub(crate) fn read<R: Read>(alloc: Global, reader: &mut Counted<R>) -> Result<Plan> {
     let mut lines = Lines::new();
     let mut plan = Plan::empty(alloc);
     let mut telegrams = Vec::new(alloc);

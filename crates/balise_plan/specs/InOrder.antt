@@ -37,5 +37,6 @@ pub record OrderedGroups : Type 0 where
   pub room : ℕ
   pub spare : ℕ
 
-abbrev pub HasRoom : ℕ → OrderedGroups → Type 0
-HasRoom n groups = (n ≤ groups.room) × (n ≤ groups.spare)
+-- one more fits
+abbrev pub HasRoom : OrderedGroups → Type 0
+HasRoom groups = (1 ≤ groups.room) × (1 ≤ groups.spare)

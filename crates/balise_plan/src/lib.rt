@@ -16,6 +16,7 @@ mod ordered_groups;
 mod plan;
 mod relink;
 mod spot;
+mod tag_list;
 mod walk;
 
 pub use balise_bits::Bits;

@@ -4,23 +4,14 @@ ghost use Rattle.std.specs.Prelude.{◌≡◌, position, slice_get, Some};
 ghost use Rattle.balise_rules.specs.Tags.{same_tag};
 ghost use Rattle.balise_plan.specs.InOrder.{is_at, Once};
 
+use crate::tag_list::TagList;
 use balise_rules::Tag;
 
-/// The tag at a place.
-pub(crate) fn tag_at(order: &Vec<Tag>, i: usize) -> Option<Tag>
-    ensures { result ≡ slice_get order.now.items i }
-{
-    match order.get(i) {
-        Some(tag) => Some(*tag),
-        None => None,
-    }
-}
-
 /// Whether a tag stands at a place.
-pub(crate) fn stands_at(order: &Vec<Tag>, g: Tag, i: usize) -> bool
+pub(crate) fn stands_at(order: &TagList, g: Tag, i: usize) -> bool
     ensures { result ≡ is_at g (slice_get order.now.items i) }
 {
-    match tag_at(order, i) {
+    match order.get(i) {
         Some(tag) => g == tag,
         None => false,
     }
@@ -28,7 +19,7 @@ pub(crate) fn stands_at(order: &Vec<Tag>, g: Tag, i: usize) -> bool
 
 /// The place of a tag in a list that has each tag once. Looks where it is expected first, and then further and further
 /// away.
-pub(crate) fn place_near(order: &Vec<Tag>, g: Tag, near: usize) -> Option<usize>
+pub(crate) fn place_near(order: &TagList, g: Tag, near: usize) -> Option<usize>
     requires { Once order.now.items }
     ensures { result ≡ position (same_tag g) order.now.items }
 {

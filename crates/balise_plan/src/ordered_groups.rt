@@ -10,17 +10,18 @@ ghost use Rattle.balise_plan.specs.InOrder.{HasRoom};
 ghost use Rattle.balise_plan.specs.Lent.{lends_group};
 
 use crate::group::Group;
-use crate::order::{place_near, stands_at, tag_at};
+use crate::order::{place_near, stands_at};
+use crate::tag_list::TagList;
 use balise_rules::Tag;
 use indexmap::IndexMap;
 use std::alloc::{AllocError, Global};
 use std::marker::Model;
 
 /// Groups under their tags: the tags in order, and what stands under each. A group that is put in or taken out so moves
-/// tags alone.
+/// tags alone, and few of them.
 #[derive(Drop)]
 pub(crate) struct OrderedGroups {
-    order: Vec<Tag>,
+    order: TagList,
     held: IndexMap<Tag, Group>,
     // Where a group was put in or taken out last.
     near: usize,
@@ -28,12 +29,11 @@ pub(crate) struct OrderedGroups {
 
 impl Model for OrderedGroups {
     ghost use Rattle.balise_plan.specs.InOrder as specs;
-    ghost use Rattle.std.specs.Prelude.{vec_len, vec_capacity, ◌-◌};
     ghost use Rattle.indexmap.specs.IndexMap.{spare};
 
     ghost Value = { specs.OrderedGroups };
 
-    ghost view = { λ g. record { entries = specs.in_order g.held.entries g.order.items; room = vec_capacity g.order - vec_len g.order; spare = spare g.held } };
+    ghost view = { λ g. record { entries = specs.in_order g.held.entries g.order.items; room = g.order.room; spare = spare g.held } };
 
     ghost invariant = { λ g. specs.IsOrder g.held.entries g.order.items };
 }
@@ -44,7 +44,7 @@ impl OrderedGroups {
         ensures { result.entries ≡ [] }
     {
         OrderedGroups {
-            order: Vec::new(alloc),
+            order: TagList::new(alloc),
             held: IndexMap::new(alloc),
             near: 0,
         }
@@ -81,7 +81,7 @@ impl OrderedGroups {
     pub(crate) fn at(&self, i: usize) -> Option<(Tag, &Group)>
         ensures { option_map (λ p. (p.0, p.1.now)) result ≡ slice_get self.now.entries i }
     {
-        let Some(tag) = tag_at(&self.order, i) else {
+        let Some(tag) = self.order.get(i) else {
             return None;
         };
         match self.held.get(&tag) {
@@ -97,12 +97,12 @@ impl OrderedGroups {
         place_near(&self.order, g, expected(&self.order, g, self.near))
     }
 
-    /// Takes memory for more groups.
+    /// Takes memory for more groups, such that one of them may be put in without any.
     pub(crate) fn reserve(&mut self, more: usize) -> Result<(), AllocError>
         ensures entries { self.new.entries ≡ self.old.entries }
-        ensures room { OnOk result (HasRoom more self.new) }
+        ensures room { OnOk result (1 ≤ more → HasRoom self.new) }
     {
-        self.order.reserve(more)?;
+        self.order.reserve()?;
         self.held.reserve(more)
     }
 
@@ -110,10 +110,10 @@ impl OrderedGroups {
     pub(crate) fn insert(&mut self, i: usize, g: Tag, group: Group)
         requires within { i ≤ length self.old.entries }
         requires new { find same_tag g self.old.entries ≡ None }
-        requires room { HasRoom 1 self.old }
+        requires room { HasRoom self.old }
         ensures { self.new.entries ≡ insert self.old.entries i (g, group) }
     {
-        let _ = self.order.insert(i, g);
+        self.order.insert(i, g);
         let _ = self.held.insert(g, group);
         self.near = i;
     }
@@ -130,7 +130,7 @@ impl OrderedGroups {
         let Some(group) = self.held.swap_remove(&g) else {
             return None;
         };
-        let _ = self.order.remove(i);
+        self.order.remove(i);
         self.near = i;
         Some((i, group))
     }
@@ -138,7 +138,7 @@ impl OrderedGroups {
 
 // Where to look for a tag first: where the last group was put in or taken out, or where the tag stood when the plan was
 // read.
-fn expected(order: &Vec<Tag>, g: Tag, near: usize) -> usize {
+fn expected(order: &TagList, g: Tag, near: usize) -> usize {
     if stands_at(order, g, near) {
         return near;
     }

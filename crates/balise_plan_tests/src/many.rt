@@ -4,7 +4,7 @@ use crate::digits::LINKING;
 use crate::plans::id;
 use crate::steps::{Answer, Step, make, put_back};
 use crate::walking::agrees;
-use balise_plan::{Bits, GroupTag, Plan};
+use balise_plan::{Bits, Group, GroupTag, Plan, Spot};
 use std::alloc::Global;
 use std::process::Abort;
 
@@ -45,6 +45,28 @@ fn takes_1000_groups_out_and_puts_them_back(rt: HostRuntime) {
         assert!(rt; plan.shown().expect(&rt, "memory") == groups);
         assert!(rt; agrees(&rt, alloc, &plan, [].as_slice()));
     }
+}
+
+#[test]
+fn puts_1000_groups_in_behind_the_first(rt: HostRuntime) {
+    let alloc = rt.alloc();
+    let mut plan = Plan::empty(alloc);
+    let mut spot = Spot::After(None);
+    for (n, telegrams) in thousand(&rt, alloc, true).into_iter().enumerate() {
+        let tag = GroupTag::Fresh(n as u32);
+        let group = Group::read(alloc, telegrams).expect(&rt, "a group");
+        assert!(rt; plan.changes() < 10000);
+        assert!(rt; plan.group(tag).is_none());
+        assert!(rt; plan.put_group(spot, tag, group).is_ok());
+        spot = Spot::After(Some(GroupTag::Fresh(0)));
+    }
+    for n in 1..1000 {
+        let place = plan.place_of(GroupTag::Fresh(n));
+        assert_eq!(rt; place, Some(1000 - n as usize));
+        assert!(rt; plan.at(1000 - n as usize).map(|g| g.0) == Some(GroupTag::Fresh(n)));
+    }
+    let copy = plan.copy().expect(&rt, "memory");
+    assert!(rt; copy.shown().expect(&rt, "memory") == plan.shown().expect(&rt, "memory"));
 }
 
 #[test]

@@ -5,7 +5,7 @@ use Rattle.balise_plan.proofs.order.place_near.Goals as goal
 
 pub loop-far-init : goal.loop-far-init
 loop-far-init c = record {
-  within = elim c.if-near-len.branch [ then-near-len w ↦ omega (arith, w.near-is, w.if-near-len.true, c.len-len.ensures, c.args.order.now.ok.0) | else-near-len w ↦ omega (arith, w.near-is, c.len-len.ensures, c.args.order.now.ok.0) ];
+  within = elim c.if-near-len.branch [ then-near-len w ↦ omega (arith, w.near-is, w.if-near-len.true, c.len-len.ensures.len) | else-near-len w ↦ omega (arith, w.near-is, c.len-len.ensures.len) ];
   unseen = none-near c.args.g c.args.order.now.items c.if-near-len.near;
 }
 
@@ -27,4 +27,4 @@ loop-far-preserved c = record {
 }
 
 pub returns : goal.returns
-returns c = sym (seen-all c.args.g c.args.order.now.items c.if-near-len.near c.loop-far.far c.loop-far.invariant.within (omega (arith, c.loop-far-test.false, c.len-len.ensures, c.args.order.now.ok.0)) c.loop-far.invariant.unseen)
+returns c = sym (seen-all c.args.g c.args.order.now.items c.if-near-len.near c.loop-far.far c.loop-far.invariant.within (omega (arith, c.loop-far-test.false, c.len-len.ensures.len)) c.loop-far.invariant.unseen)

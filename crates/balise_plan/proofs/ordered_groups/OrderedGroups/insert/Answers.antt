@@ -1,5 +1,5 @@
-use Rattle.std.proofs.Common.{◌≡◌, ◌∙◌, ◌<◌, ◌≤◌, insert, length, if◌then◌else◌, Ok, Err, None, sym, ap, subst, arith}
-use Rattle.std.specs.Result.{IsOk, is_ok, OnOk}
+use Rattle.std.proofs.Common.{◌≡◌, ◌∙◌, ◌<◌, ◌≤◌, insert, length, Ok, Err, None, sym, ap, subst, arith}
+use Rattle.std.specs.Result.{IsOk, OnOk}
 use Rattle.std.specs.declared.result.Result.{Result}
 use Rattle.std.specs.HashMap.{spare}
 use Rattle.std.proofs.lemmas.Bool.{true≢false}
@@ -13,11 +13,10 @@ pub insert-requires : goal.insert-requires
 insert-requires c =
     let all = length-order c.self.inside.held.entries c.self.inside.order.items (all_there c.self.invariant) in
     let is = ap (λ v. length v.entries) c.self.view_is in
-    omega (arith, c.requires.within, all, is, c.self.inside.order.ok.0)
-
-ok_then : {A E X : Type 0} (r : Result A E) (x y z : X) → IsOk r → z ≡ (if is_ok r then x else y) → z ≡ x
-ok_then (Ok a) x y z h e = e
-ok_then (Err b) x y z h e = absurd (true≢false (sym h))
+    record {
+      within = omega (arith, c.requires.within, all, is);
+      room = omega (arith, c.requires.room.0, ap (λ v. v.room) c.self.view_is);
+    }
 
 on_ok : {A E P : Type 0} (r : Result A E) → IsOk r → OnOk r P → P
 on_ok (Ok a) h p = p
@@ -29,9 +28,8 @@ invariant_of-self c =
     let gs = c.self.inside.order.items in
     let n : find same_tag c.args.g held ≡ None = sym (found-order held gs c.args.g c.self.invariant) ∙ ap (λ v. find same_tag c.args.g v.entries) c.self.view_is ∙ c.requires.new in
     let w : c.args.i ≤ length gs = omega (arith, c.requires.within, ap (λ v. length v.entries) c.self.view_is, length-order held gs (all_there c.self.invariant)) in
-    let room : c.self.inside.order.len < c.self.inside.order.cap = omega (arith, ap (λ v. v.room) c.self.view_is, c.requires.room.0) in
     let more : 0 < spare c.self.inside.held = omega (arith, ap (λ v. v.spare) c.self.view_is, c.requires.room.1) in
-    let items : c.insert.new.self.items ≡ insert gs c.args.i c.args.g = ok_then c.insert.result _ _ _ (c.insert.ensures.succeeds room) c.insert.ensures.items in
+    let items : c.insert.new.self.items ≡ insert gs c.args.i c.args.g = c.insert.ensures in
     let put = on_ok c.insert-2.result (c.insert-2.ensures.succeeds more) c.insert-2.ensures.updates in
     subst (IsOrder c.insert-2.new.self.entries) (sym items) (order-put held c.insert-2.new.self.entries gs c.args.g c.args.group c.args.i put.0 w (among-none held gs c.args.g c.self.invariant n) c.self.invariant)
 
@@ -41,9 +39,8 @@ returns c =
     let gs = c.self.inside.order.items in
     let n : find same_tag c.args.g held ≡ None = sym (found-order held gs c.args.g c.self.invariant) ∙ ap (λ v. find same_tag c.args.g v.entries) c.self.view_is ∙ c.requires.new in
     let w : c.args.i ≤ length gs = omega (arith, c.requires.within, ap (λ v. length v.entries) c.self.view_is, length-order held gs (all_there c.self.invariant)) in
-    let room : c.self.inside.order.len < c.self.inside.order.cap = omega (arith, ap (λ v. v.room) c.self.view_is, c.requires.room.0) in
     let more : 0 < spare c.self.inside.held = omega (arith, ap (λ v. v.spare) c.self.view_is, c.requires.room.1) in
-    let items : c.insert.new.self.items ≡ insert gs c.args.i c.args.g = ok_then c.insert.result _ _ _ (c.insert.ensures.succeeds room) c.insert.ensures.items in
+    let items : c.insert.new.self.items ≡ insert gs c.args.i c.args.g = c.insert.ensures in
     let put = on_ok c.insert-2.result (c.insert-2.ensures.succeeds more) c.insert-2.ensures.updates in
     ap (in_order c.insert-2.new.self.entries) items
     ∙ insert-order held c.insert-2.new.self.entries c.args.g c.args.group put.0 gs c.args.i (among-none held gs c.args.g c.self.invariant n) (all_there c.self.invariant) w

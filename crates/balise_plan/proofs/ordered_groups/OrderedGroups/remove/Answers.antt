@@ -32,14 +32,14 @@ remove-requires c =
     let gs = c.self.inside.order.items in
     let p : position (same_tag c.args.g) gs ≡ Some c.in-Some.i = ap (position (same_tag c.args.g)) (sym (keys-order held gs (all_there c.self.invariant))) ∙ ap (λ (v : OrderedGroups). position (same_tag c.args.g) (keys_of v.entries)) c.self.view_is ∙ sym c.in-Some.ensures in
     let w = place-within c.args.g gs c.in-Some.i (stands-at c.args.g gs c.in-Some.i p) in
-    omega (arith, w, c.self.inside.order.ok.0)
+    omega (arith, w)
 
 pub invariant_of-self-2 : goal.invariant_of-self-2
 invariant_of-self-2 c =
     let held = c.self.inside.held.entries in
     let gs = c.self.inside.order.items in
     let p : position (same_tag c.args.g) gs ≡ Some c.in-Some.i = ap (position (same_tag c.args.g)) (sym (keys-order held gs (all_there c.self.invariant))) ∙ ap (λ (v : OrderedGroups). position (same_tag c.args.g) (keys_of v.entries)) c.self.view_is ∙ sym c.in-Some.ensures in
-    subst (IsOrder c.swap_remove.new.self.entries) (sym c.remove.ensures.items)
+    subst (IsOrder c.swap_remove.new.self.entries) (sym c.remove.ensures)
     (order-out held c.swap_remove.new.self.entries gs c.args.g c.in-Some.i c.in-Some-swap_remove.ensures.updates.0 (stands-at c.args.g gs c.in-Some.i p) c.self.invariant)
 
 pub returns-clause-value : goal.returns-clause-value
@@ -51,6 +51,6 @@ returns-clause-entries c =
     let held = c.self.inside.held.entries in
     let gs = c.self.inside.order.items in
     let p : position (same_tag c.args.g) gs ≡ Some c.in-Some.i = ap (position (same_tag c.args.g)) (sym (keys-order held gs (all_there c.self.invariant))) ∙ ap (λ (v : OrderedGroups). position (same_tag c.args.g) (keys_of v.entries)) c.self.view_is ∙ sym c.in-Some.ensures in
-    ap (in_order c.swap_remove.new.self.entries) c.remove.ensures.items
+    ap (in_order c.swap_remove.new.self.entries) c.remove.ensures
     ∙ remove-order held c.swap_remove.new.self.entries c.args.g c.in-Some-swap_remove.ensures.updates.0 gs c.in-Some.i (stands-at c.args.g gs c.in-Some.i p) c.self.invariant.once (all_there c.self.invariant)
     ∙ ap (λ v. remove_entry (same_tag c.args.g) v.entries) c.self.view_is

@@ -24,7 +24,7 @@ insert-requires c =
     record {
       within = omega (arith, ap length e, long);
       new = ap (find same_tag c.in-Some.tag) e ∙ not-before tag_test plan c.loop-i.i c.in-Some.tag c.in-Some.group.now c.self.invariant.held.sound.tags (sym c.in-Some.ensures);
-      room = c.in_ok-reserve-2.ensures.room;
+      room = c.in_ok-reserve-2.ensures.room (omega arith);
     }
 
 pub loop-i-preserved : goal.loop-i-preserved

@@ -1,0 +1,123 @@
+//! Tags in order, in blocks, so that one put in or taken out moves few others.
+
+mod blocks;
+
+ghost use Rattle.std.specs.Prelude.{◌≡◌, ◌≤◌, ◌<◌, ◌+◌, ◌^◌, length, insert, remove, slice_get, [], OnOk};
+
+use balise_rules::Tag;
+use blocks::{block_of, put_in, split, take_out};
+use std::alloc::{AllocError, Global};
+use std::marker::Model;
+use std::mem;
+
+/// How many tags a block has at most.
+const MOST: usize = 512;
+
+/// How many tags there are at most.
+const ALL: usize = 4611686018427387904;
+
+/// Tags one after another, and how many stand before them.
+#[derive(Drop)]
+struct Block {
+    start: usize,
+    tags: Vec<Tag>,
+}
+
+/// Tags in order.
+#[derive(Drop)]
+pub(crate) struct TagList {
+    blocks: Vec<Block>,
+    // Room for the tags of one more block.
+    spare: Vec<Tag>,
+    len: usize,
+}
+
+impl Model for TagList {
+    ghost use Rattle.std.specs.Prelude.{◌≡◌, ◌≤◌, [], length, vec_len, vec_capacity, ◌-◌, ◌/◌, min};
+    ghost use Rattle.balise_plan.specs.Blocks as specs;
+
+    ghost Value = { specs.TagList };
+
+    ghost view = { λ t. record { items = specs.flat t.blocks.items; room = min (min (vec_capacity t.blocks - vec_len t.blocks) (vec_capacity t.spare / 512)) (4611686018427387904 - t.len) } };
+
+    ghost invariant = { λ t. specs.Laid 0 t.blocks.items × (t.len ≡ length (specs.flat t.blocks.items)) × (t.spare.items ≡ []) × (t.len ≤ 4611686018427387904) };
+}
+
+impl TagList {
+    /// No tag. Takes no memory.
+    pub(crate) fn new(alloc: Global) -> TagList
+        ensures { result.items ≡ [] }
+    {
+        TagList {
+            blocks: Vec::new(alloc),
+            spare: Vec::new(alloc),
+            len: 0,
+        }
+    }
+
+    /// How many there are.
+    pub(crate) fn len(&self) -> usize
+        ensures len { result ≡ length self.now.items }
+        ensures few { result ≤ 2 ^ 62 }
+    {
+        self.len
+    }
+
+    /// The tag at a place.
+    pub(crate) fn get(&self, i: usize) -> Option<Tag>
+        ensures { result ≡ slice_get self.now.items i }
+    {
+        if i >= self.len {
+            return None;
+        }
+        let block = &self.blocks[block_of(&self.blocks, i)];
+        Some(block.tags[i - block.start])
+    }
+
+    /// Takes memory for one more.
+    pub(crate) fn reserve(&mut self) -> Result<(), AllocError>
+        ensures items { self.new.items ≡ self.old.items }
+        ensures room { OnOk result (1 ≤ self.new.room) }
+    {
+        if self.len >= ALL {
+            return Err(AllocError);
+        }
+        self.blocks.reserve(1)?;
+        if self.spare.capacity() < MOST {
+            self.spare = Vec::with_capacity(*self.blocks.allocator(), MOST)?;
+        }
+        Ok(())
+    }
+
+    /// Puts a tag in at a place. Takes no memory.
+    pub(crate) fn insert(&mut self, i: usize, g: Tag)
+        requires within { i ≤ length self.old.items }
+        requires room { 1 ≤ self.old.room }
+        ensures { self.new.items ≡ insert self.old.items i g }
+    {
+        if self.blocks.len() == 0 {
+            let mut tags = mem::replace(&mut self.spare, Vec::new(*self.blocks.allocator()));
+            let _ = tags.push(g);
+            let _ = self.blocks.push(Block { start: 0, tags });
+            self.len = 1;
+            return;
+        }
+        let mut b = block_of(&self.blocks, i);
+        if self.blocks[b].tags.len() >= MOST {
+            let tags = mem::replace(&mut self.spare, Vec::new(*self.blocks.allocator()));
+            b = split(&mut self.blocks, tags, b, i);
+        }
+        put_in(&mut self.blocks, b, i, g);
+        self.len += 1;
+    }
+
+    /// Takes out the tag at a place. Takes no memory.
+    pub(crate) fn remove(&mut self, i: usize)
+        requires { i < length self.old.items }
+        ensures { self.new.items ≡ remove self.old.items i }
+    {
+        let b = block_of(&self.blocks, i);
+        take_out(&mut self.blocks, b, i);
+        self.len -= 1;
+    }
+}

@@ -26,6 +26,7 @@ pub(crate) fn number_at(bytes: &[u8], at: usize, width: u32) -> u32
 }
 
 /// Puts a number over the `width` bits from the place `at` on. All other bits stay.
+#[inline(always)]
 pub(crate) fn put_number_at(bytes: &mut [u8], at: usize, width: u32, value: u32)
     requires width { width ≤ 32 }
     requires within { at + width ≤ 8 * length bytes.old }

@@ -20,6 +20,7 @@ impl Bits {
     }
 
     /// Puts a number over the `width` bits from the place `at` on. All other bits stay.
+    #[inline(always)]
     pub fn put(&mut self, at: usize, width: u32, value: u32)
         requires width { width ≤ 32 }
         requires within { at + width ≤ length self.old }

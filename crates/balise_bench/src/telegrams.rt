@@ -3,7 +3,7 @@
 use crate::digits::bits_in;
 use anyhow::{Result, bail};
 use balise_lines::{Counted, Lines, Next, put};
-use balise_telegram::{Bits, PackedTelegram, Telegram};
+use balise_telegram::{Balise, Bits, Telegram};
 use std::alloc::Global;
 use std::io;
 use std::io::{BufWriter, Read, Write};
@@ -16,13 +16,13 @@ trait Held: Sized + Drop {
     fn digits_into(&self, text: &mut Vec<u8>) -> Result<()>;
 }
 
-impl Held for PackedTelegram {
-    fn read(_alloc: Global, bits: Bits) -> Result<PackedTelegram> {
-        Ok(PackedTelegram::read(bits)?)
+impl Held for Balise {
+    fn read(_alloc: Global, bits: Bits) -> Result<Balise> {
+        Ok(Balise::read(bits)?)
     }
 
     fn digits_into(&self, text: &mut Vec<u8>) -> Result<()> {
-        Ok(self.shown().hex_into(text)?)
+        Ok(self.hex_into(text)?)
     }
 }
 
@@ -78,7 +78,7 @@ fn copy<T: Held>(rt: &(impl Input + Print + AllocGlobal)) -> Result<()> {
 /// Prints a plan's lines again: first those that are no telegrams, then the telegrams, all of which were held.
 pub fn run(rt: &(impl Input + Print + AllocGlobal), form: &str) -> Result<()> {
     match form {
-        "packed" => copy::<PackedTelegram>(rt),
+        "packed" => copy::<Balise>(rt),
         "open" => copy::<Telegram>(rt),
         other => bail!("no form is called {other}"),
     }

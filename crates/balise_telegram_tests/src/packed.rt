@@ -2,30 +2,30 @@
 
 use crate::changes::{FLIPPED, HEADER_PUT, LINKING, NAMED, RENAMED, TURNED};
 use crate::telegrams::{TWO_PACKETS, bits};
-use balise_telegram::{Bits, PackedTelegram, PacketTag, TelegramFault, Var};
+use balise_telegram::{Balise, Bits, PacketTag, Telegram, TelegramFault, Var};
 use std::alloc::Global;
 use std::process::Abort;
 
 /// What reading these bits answers, where the telegram shows the same bits, held as them and opened.
 pub(crate) fn read(rt: &impl Abort, bits: &Bits) -> Option<TelegramFault> {
-    match PackedTelegram::read(bits.copy().expect(rt, "memory")) {
-        Ok(telegram) => {
-            assert!(rt; telegram.shown() == bits);
-            let open = telegram.open().expect(rt, "memory");
-            assert!(rt; open.shown().expect(rt, "memory") == *bits);
-            None
-        }
-        Err(fault) => Some(fault),
-    }
+    let balise = match Balise::read(bits.copy().expect(rt, "memory")) {
+        Ok(balise) => balise,
+        Err(fault) => return Some(fault),
+    };
+    assert!(rt; balise.shown().expect(rt, "memory") == *bits);
+    let copy = bits.copy().expect(rt, "memory");
+    let open = Telegram::read(bits.allocator(), copy).expect(rt, "a telegram");
+    assert!(rt; open.shown().expect(rt, "memory") == *bits);
+    None
 }
 
-fn packed(rt: &impl Abort, alloc: Global, text: &str) -> PackedTelegram {
-    PackedTelegram::read(bits(rt, alloc, text)).expect(rt, "a telegram")
+fn packed(rt: &impl Abort, alloc: Global, text: &str) -> Balise {
+    Balise::read(bits(rt, alloc, text)).expect(rt, "a telegram")
 }
 
 /// That the telegram shows these digits.
-fn check_shown(rt: &impl Abort, alloc: Global, packed: &PackedTelegram, text: &str) {
-    assert!(rt; *packed.shown() == bits(rt, alloc, text), "{text}");
+fn check_shown(rt: &impl Abort, alloc: Global, packed: &Balise, text: &str) {
+    assert!(rt; packed.shown().expect(rt, "memory") == bits(rt, alloc, text), "{text}");
 }
 
 #[test]

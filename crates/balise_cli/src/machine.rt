@@ -164,30 +164,30 @@ impl Machine {
 
     /// Writes what the input's end gives.
     pub(crate) fn finish<W: Write>(
-        self,
+        &mut self,
         alloc: Global,
         flags: Flags,
         number: u64,
         writer: &mut Counted<W>,
     ) -> Result<Status, RunFault>
-        ensures ok { IfOk result (DidEnd flags (phase_of self) number (W.contents writer.old.inner) (W.contents writer.new.inner)) }
+        ensures ok { IfOk result (DidEnd flags (phase_of self.old) number (W.contents writer.old.inner) (W.contents writer.new.inner)) }
         ensures unfailed { OnOk result (writer.new.failed ≡ writer.old.failed) }
         ensures cause { IfErr result (IsCause writer.old.failed writer.new.failed) }
-        ensures written { OnErr result (AppendsSome (W.contents writer.old.inner) (W.contents writer.new.inner) (last_text (at_end flags (phase_of self) number))) }
+        ensures written { OnErr result (AppendsSome (W.contents writer.old.inner) (W.contents writer.new.inner) (last_text (at_end flags (phase_of self.old) number))) }
     {
         match self {
             Machine::Commands(session, refused) => {
-                if let Err(fault) = put_end(alloc, writer, flags, &session) {
+                if let Err(fault) = put_end(alloc, writer, flags, session) {
                     return Err(fault);
                 }
-                Ok(Status::of_commands(refused))
+                Ok(Status::of_commands(*refused))
             }
             Machine::InGroup(plan, group_number, group) => {
-                let mut plan = plan;
+                let group = mem::replace(group, GroupReader::new(alloc));
                 let (at, refusal) = match plan.push(group) {
                     Ok(()) => (number, Refusal::BadLine),
                     Err(Refusal::OutOfMemory) => return Err(RunFault::OutOfMemory),
-                    Err(refusal) => (group_number, refusal),
+                    Err(refusal) => (*group_number, refusal),
                 };
                 finish_bad(writer, at, refusal)
             }

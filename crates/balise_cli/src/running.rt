@@ -1,9 +1,11 @@
 //! The run: reads lines, and does each as it comes.
 
-ghost use Rattle.std.specs.Prelude.{◌≡◌, IfErr, IfOk, IsErrOf, OnErr, OnOk};
+ghost use Rattle.std.specs.Prelude.{◌≡◌, IfErr, IfOk, IsErrOf, OnErr, OnOk, [], false};
 ghost use Rattle.balise_cli.specs.Ends.{ComesToEnd, DidLines, NoneComplete, WritesOutput, WritesSome};
 ghost use Rattle.balise_cli.specs.Faults.{IsFault};
-ghost use Rattle.balise_cli.specs.Output.{Ended, TooLong};
+ghost use Rattle.balise_cli.specs.Machine.{phase_of};
+ghost use Rattle.balise_cli.specs.Output.{Ended, Header, TooLong};
+ghost use Rattle.balise_lines.specs.Reading.{ahead, is_over, number_of, place_of};
 
 use crate::fault::RunFault;
 use crate::machine::Machine;
@@ -35,6 +37,32 @@ pub fn run<R: Read, W: Write>(
 {
     let mut lines = Lines::new();
     let mut machine = Machine::new();
+    read_all(alloc, flags, &mut lines, &mut machine, reader, writer)
+}
+
+// The same, from the first line on. What holds the lines and the machine is lent, so that the ways out have nothing to drop.
+fn read_all<R: Read, W: Write>(
+    alloc: Global,
+    flags: Flags,
+    lines: &mut Lines,
+    machine: &mut Machine,
+    reader: &mut Counted<R>,
+    writer: &mut Counted<W>,
+) -> Result<Status, RunFault>
+    requires ahead { ahead lines.old ≡ [] }
+    requires place { place_of lines.old ≡ 0 }
+    requires number { number_of lines.old ≡ 1 }
+    requires over { is_over lines.old ≡ false }
+    requires phase { phase_of machine.old ≡ Header }
+    ensures ok { IfOk result (λ status. WritesOutput flags (R.remaining reader.old.inner) (W.contents writer.old.inner) (W.contents writer.new.inner) (Ended status)) }
+    ensures read { IfOk result (λ status. DidLines flags (R.remaining reader.old.inner) (R.remaining reader.new.inner) (W.contents writer.old.inner) (W.contents writer.new.inner) (ComesToEnd flags (R.remaining reader.new.inner) status)) }
+    ensures unread { OnOk result (reader.new.failed ≡ reader.old.failed) }
+    ensures unwritten { OnOk result (writer.new.failed ≡ writer.old.failed) }
+    ensures long { IsErrOf result RunFault.InputTooLong → WritesOutput flags (R.remaining reader.old.inner) (W.contents writer.old.inner) (W.contents writer.new.inner) TooLong }
+    ensures fault { IfErr result (IsFault reader.old.failed reader.new.failed writer.old.failed writer.new.failed) }
+    ensures complete { IsErrOf result RunFault.ReadFault → DidLines flags (R.remaining reader.old.inner) (R.remaining reader.new.inner) (W.contents writer.old.inner) (W.contents writer.new.inner) NoneComplete }
+    ensures some { OnErr result (WritesSome flags (R.remaining reader.old.inner) (R.remaining reader.new.inner) (W.contents writer.old.inner) (W.contents writer.new.inner)) }
+{
     'lines: loop {
         let number = lines.number();
         match lines.next(reader) {

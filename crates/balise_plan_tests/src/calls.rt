@@ -146,28 +146,43 @@ fn answers_questions(rt: HostRuntime) {
     assert!(rt; at(&plan, 1) == Some((SECOND, second)));
     assert!(rt; at(&plan, 2).is_none());
     assert!(rt; plan.tag_of(second) == Some(SECOND));
+}
+
+#[test]
+fn tells_places(rt: HostRuntime) {
+    let plan = read(&rt, rt.alloc(), &[EMPTY, LINKING]).expect(&rt, "a plan");
     assert_eq!(rt; plan.place_of(FIRST), Some(0));
     assert_eq!(rt; plan.place_of(SECOND), Some(1));
     assert!(rt; plan.place_of(NEW).is_none());
     assert!(rt; plan.group(NEW).is_none());
+}
+
+#[test]
+fn tells_a_group(rt: HostRuntime) {
+    let alloc = rt.alloc();
+    let plan = read(&rt, alloc, &[EMPTY, LINKING]).expect(&rt, "a plan");
     let group = plan.group(SECOND).expect(&rt, "a group");
     assert_eq!(rt; group.count(), 1);
     assert_eq!(rt; group.country(0), Some(5));
     assert!(rt; group.country(1).is_none());
     assert!(rt; group.at(1).is_none());
-    assert!(rt; group.copy().expect(&rt, "memory").identity() == second);
+    assert!(rt; group.copy().expect(&rt, "memory").identity() == id(5, 101));
     let links = group.links(0, PacketTag::Base(0)).expect(&rt, "memory");
-    assert!(rt; links.as_slice() == [first].as_slice());
-    assert!(rt; plan.links_to(second).is_none());
-    let named = plan.links_to(first).expect(&rt, "a link");
-    assert!(rt;
-        named.contains(&LinkPlace {
-            group: SECOND,
-            telegram: 0,
-            packet: PacketTag::Base(0),
-            element: 0
-        })
-    );
+    assert!(rt; links.as_slice() == [id(5, 100)].as_slice());
+}
+
+#[test]
+fn tells_links(rt: HostRuntime) {
+    let plan = read(&rt, rt.alloc(), &[EMPTY, LINKING]).expect(&rt, "a plan");
+    assert!(rt; plan.links_to(id(5, 101)).is_none());
+    let named = plan.links_to(id(5, 100)).expect(&rt, "a link");
+    let place = LinkPlace {
+        group: SECOND,
+        telegram: 0,
+        packet: PacketTag::Base(0),
+        element: 0,
+    };
+    assert!(rt; named.contains(&place));
 }
 
 #[test]

@@ -53,7 +53,7 @@ fn puts_1000_groups_in_behind_the_first(rt: HostRuntime) {
     let mut plan = Plan::empty(alloc);
     let mut spot = Spot::After(None);
     for (n, telegrams) in thousand(&rt, alloc, true).into_iter().enumerate() {
-        let tag = GroupTag::Fresh(n as u32);
+        let tag = GroupTag::Fresh(u32::try_from(n).unwrap_or(0));
         let group = Group::read(alloc, telegrams).expect(&rt, "a group");
         assert!(rt; plan.changes() < 10000);
         assert!(rt; plan.group(tag).is_none());

@@ -2,7 +2,7 @@ use Rattle.std.proofs.Common.{◌≡◌, ◌-◌}
 use Rattle.balise_lines.specs.Reading.{OverAtEnd, is_over, left, number_of, place_of}
 use Rattle.balise_cli.specs.Machine.{phase_of}
 use Rattle.balise_cli.proofs.LineByLine.{GoesOn}
-use Rattle.balise_cli.proofs.running.run.Given as goal
+use Rattle.balise_cli.proofs.running.read_all.Given as goal
 
 abbrev pub invariant-lines : goal.invariant-lines
 invariant-lines g l = (l.reader.failed ≡ l.fn.reader.failed) × (l.writer.failed ≡ l.fn.writer.failed) × OverAtEnd l.lines (g.R.Read.remaining l.reader.inner)

@@ -9,13 +9,12 @@ use Rattle.balise_cli.specs.Machine.{DidEnd, DidSome, DidStep, last_text, phase_
 use Rattle.balise_cli.specs.Output.{at_end, Ended}
 use Rattle.balise_cli.proofs.LineByLine.{begins, ended, fault_before, fault_ending, at_line, fault_in, on_err, on_ok, over_at, stepped, too_long, took_it}
 use Rattle.balise_cli.proofs.LinesRead.{input_ended, line_ended, reader_failed}
-use Rattle.balise_cli.proofs.running.run.Goals as goal
+use Rattle.balise_cli.proofs.running.read_all.Goals as goal
 
 pub lines-init : goal.lines-init
 lines-init g c =
-    let new = c.new-lines.ensures in
     let remaining = g.R.Read.remaining c.args.reader.now.inner in
-    (refl, refl, λ o. absurd cc, begins c.args.flags _ _ _ _ _ _ _ (left_at_first c.new-lines.result remaining new.ahead) c.new-machine.ensures new.number new.place)
+    (refl, refl, λ o. absurd cc, begins c.args.flags _ _ _ _ _ _ _ (left_at_first c.args.lines.now remaining c.requires.ahead) c.requires.phase c.requires.number c.requires.place)
 
 pub returns-in-Err-TooLong-clause-long : goal.returns-in-Err-TooLong-clause-long
 returns-in-Err-TooLong-clause-long g c = λ _. too_long c.args.flags _ _ _ _ _ _ _ _ (c.in-Err-TooLong.ensures.long (ap Err c.in-Err-TooLong.field-0-is)) c.in-Err-TooLong.ensures.first c.lines.invariant.3

@@ -16,3 +16,4 @@ pub mod PackedPlaces
 pub mod HeaderPlaces
 pub mod PackedChanges
 pub mod PackedFields
+pub mod LinkingPackets

@@ -3,16 +3,16 @@
 mod changes;
 mod packets;
 
-ghost use Rattle.std.specs.Prelude.{◌≡◌, ◌≢◌, ◌≤◌, IfErr, IfOk, IsOkUnless, length, OnOk, Ok, Err, option_map, slice_get};
+ghost use Rattle.std.specs.Prelude.{◌≡◌, ◌≢◌, ◌≤◌, IfErr, IfOk, IsOkUnless, length, map, OnOk, Ok, Err, option_map, slice_get};
 ghost use Rattle.balise_rules.specs.declared.variable.Var.TheVariants.{NidPacket};
 ghost use Rattle.balise_rules.specs.Digits.{hex_of};
 ghost use Rattle.balise_rules.specs.Packet.{field_of, value};
-ghost use Rattle.balise_rules.specs.Plan.{identity_in};
+ghost use Rattle.balise_rules.specs.Plan.{country_of, identity_in};
 ghost use Rattle.balise_rules.specs.Tagged.{Distinct};
 ghost use Rattle.balise_rules.specs.Tags.{same_tag};
 ghost use Rattle.balise_rules.specs.Telegram.{read_telegram, room, shown, used, version_of, IsLength};
 ghost use Rattle.balise_telegram.specs.Faults.{refusal_of};
-ghost use Rattle.balise_telegram.specs.Packed.{links_at};
+ghost use Rattle.balise_telegram.specs.Packed.{linking, links_at};
 ghost use Rattle.balise_telegram.specs.Setting.{field_at};
 
 use crate::PacketTag;
@@ -199,6 +199,18 @@ impl Balise {
         match &self.held {
             Held::Packed(telegram) => telegram.links(tag),
             Held::Open(telegram) => telegram.links(tag),
+        }
+    }
+
+    /// The packets that have elements, in order, each as its tag and their identities, one each in order, with number
+    /// 16383 kept. Goes over the packets once, and takes no memory where none has any.
+    pub fn linking(&self) -> Result<Vec<(PacketTag, Vec<Id>)>, TelegramFault>
+        ensures ok { IfOk result (λ each. map (λ p. (p.0, p.1.items)) each.items ≡ linking (country_of self.now) self.now.packets) }
+        ensures fault { IsOkUnless result TelegramFault.OutOfMemory }
+    {
+        match &self.held {
+            Held::Packed(telegram) => telegram.linking(),
+            Held::Open(telegram) => telegram.linking(),
         }
     }
 

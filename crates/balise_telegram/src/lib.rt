@@ -4,6 +4,7 @@
 mod balise;
 mod fault;
 mod header;
+mod linking;
 mod packed;
 mod telegram;
 

@@ -3,21 +3,22 @@
 mod changes;
 mod packets;
 
-ghost use Rattle.std.specs.Prelude.{◌≡◌, ◌≢◌, ◌≤◌, ◌<◌, ◌+◌, ◌*◌, ◌^◌, drop, IfErr, IfOk, IfSome, IsOkUnless, length, Ok, Err, option_map, slice_get};
+ghost use Rattle.std.specs.Prelude.{◌≡◌, ◌≢◌, ◌≤◌, ◌<◌, ◌+◌, ◌*◌, ◌^◌, drop, IfErr, IfOk, IfSome, IsOkUnless, length, map, Ok, Err, option_map, slice_get};
 ghost use Rattle.std.specs.List.{position};
 ghost use Rattle.balise_rules.specs.declared.variable.Var.TheVariants.{NidPacket};
 ghost use Rattle.balise_rules.specs.Packet.{field_of, value};
 ghost use Rattle.balise_rules.specs.Tagged.{find, Distinct};
 ghost use Rattle.balise_rules.specs.Tags.{same_tag};
-ghost use Rattle.balise_rules.specs.Plan.{identity_in};
+ghost use Rattle.balise_rules.specs.Plan.{country_of, identity_in};
 ghost use Rattle.balise_rules.specs.Telegram.{IsLength, read_packets, read_telegram, room, shown, used, version_of};
 ghost use Rattle.balise_telegram.specs.Faults.{refusal_of};
-ghost use Rattle.balise_telegram.specs.Packed.{links_at};
+ghost use Rattle.balise_telegram.specs.Packed.{linking, links_at};
 ghost use Rattle.balise_telegram.specs.Setting.{field_at, SetsField, SetsHead};
 
 use crate::PacketTag;
 use crate::fault::TelegramFault;
 use crate::header::Header;
+use crate::linking::add_linking;
 use balise_bits::Bits;
 use balise_layout::Packet;
 use balise_rules::{Id, Var};
@@ -166,6 +167,21 @@ impl Telegram {
         };
         let country = self.head(Var::NidC).unwrap_or(0);
         Ok(packet.links(country)?)
+    }
+
+    /// The packets that have elements, in order, each as its tag and their identities, one each in order, with number
+    /// 16383 kept. Takes no memory where none has any.
+    pub fn linking(&self) -> Result<Vec<(PacketTag, Vec<Id>)>, TelegramFault>
+        ensures ok { IfOk result (λ each. map (λ p. (p.0, p.1.items)) each.items ≡ linking (country_of self.now) self.now.packets) }
+        ensures fault { IsOkUnless result TelegramFault.OutOfMemory }
+    {
+        let country = self.identity().country;
+        let mut found = Vec::new(*self.packets.allocator());
+        for (tag, packet) in &self.packets {
+            let links = packet.links(country)?;
+            add_linking(&mut found, *tag, links)?;
+        }
+        Ok(found)
     }
 
     /// Its header.

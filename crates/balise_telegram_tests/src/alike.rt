@@ -1,8 +1,9 @@
 //! The same bits held as they are and opened: both forms answer each question and each change alike.
 
+use crate::changes::NAMED;
 use crate::full::{FULL, LONG, SHORT};
 use crate::telegrams::{TWO_PACKETS, bits, telegram};
-use balise_telegram::{Balise, PacketTag, Telegram, Var};
+use balise_telegram::{Balise, Id, PacketTag, Telegram, Var};
 use std::alloc::Global;
 use std::process::Abort;
 
@@ -86,6 +87,17 @@ fn check_packet(rt: &impl Abort, balise: &Balise, telegram: &Telegram, tag: Pack
     }
 }
 
+/// That both tell the same packets that have elements.
+fn check_linking(rt: &impl Abort, balise: &Balise, telegram: &Telegram) {
+    let told = balise.linking().expect(rt, "memory");
+    let others = telegram.linking().expect(rt, "memory");
+    assert!(rt; told.len() == others.len());
+    for (one, other) in told.iter().zip(others.iter()) {
+        assert!(rt; one.0 == other.0);
+        assert!(rt; one.1.as_slice() == other.1.as_slice());
+    }
+}
+
 /// That both answer each question alike.
 pub(crate) fn check_alike(rt: &impl Abort, balise: &Balise, telegram: &Telegram) {
     assert!(rt; balise.width() == telegram.width());
@@ -103,6 +115,7 @@ pub(crate) fn check_alike(rt: &impl Abort, balise: &Balise, telegram: &Telegram)
         check_packet(rt, balise, telegram, PacketTag::Fresh(place));
     }
     assert!(rt; balise.packet_at(4294967296).is_none());
+    check_linking(rt, balise, telegram);
     check_shown(rt, balise, telegram);
 }
 
@@ -178,6 +191,35 @@ fn packed_and_open_tell_and_change_alike(rt: HostRuntime) {
         let (mut balise, mut telegram) = (balise(&rt, alloc, text), telegram(&rt, alloc, text));
         check_alike(&rt, &balise, &telegram);
         check_changes(&rt, &mut balise, &mut telegram);
+    }
+}
+
+#[test]
+fn tells_the_packets_that_have_elements(rt: HostRuntime) {
+    let alloc = rt.alloc();
+    let (balise, telegram) = (
+        balise(&rt, alloc, EACH_KIND),
+        telegram(&rt, alloc, EACH_KIND),
+    );
+    let other = Id {
+        country: 6,
+        number: 100,
+    };
+    for told in [balise.linking(), telegram.linking()] {
+        let told = told.expect(&rt, "memory");
+        assert_eq!(rt; told.len(), 4);
+        let (first, second) = (told.get(0), told.get(1));
+        assert!(rt; tells(first, 0, &[other, other]) && tells(second, 1, &[NAMED]));
+        let (third, fourth) = (told.get(2), told.get(3));
+        assert!(rt; tells(third, 7, &[NAMED]) && tells(fourth, 8, &[other]));
+    }
+}
+
+/// Whether the packet that was read at a place is told, with these elements.
+fn tells(told: Option<&(PacketTag, Vec<Id>)>, place: u32, links: &[Id]) -> bool {
+    match told {
+        Some((tag, all)) => *tag == PacketTag::Base(place) && all.as_slice() == links,
+        None => false,
     }
 }
 

@@ -1,17 +1,19 @@
 //! What a telegram that is held as its bits tells of its packets. Each call goes over them from the first on.
 
-ghost use Rattle.std.specs.Prelude.{◌≡◌, ◌≤◌, ◌+◌, IfOk, IsOkUnless, Some, length, option_map, slice_get};
+ghost use Rattle.std.specs.Prelude.{◌≡◌, ◌≤◌, ◌+◌, IfOk, IsOkUnless, Some, length, map, option_map, slice_get};
 ghost use Rattle.balise_rules.specs.declared.variable.Var.TheVariants.{NidPacket};
 ghost use Rattle.balise_rules.specs.declared.tag.Tag.{Tag};
 ghost use Rattle.balise_rules.specs.Packet.{value};
+ghost use Rattle.balise_rules.specs.Plan.{country_of};
 ghost use Rattle.balise_rules.specs.Tagged.{Distinct};
 ghost use Rattle.balise_rules.specs.Tags.{same_tag};
 ghost use Rattle.balise_rules.specs.Telegram.{room, used};
-ghost use Rattle.balise_telegram.specs.Packed.{links_at, packet_place, place_from};
+ghost use Rattle.balise_telegram.specs.Packed.{linking, links_at, packet_place, place_from};
 ghost use Rattle.balise_telegram.specs.Setting.{field_at};
 
 use crate::PacketTag;
 use crate::fault::TelegramFault;
+use crate::linking::add_linking;
 use crate::packed::PackedTelegram;
 use balise_layout::Packet;
 use balise_rules::{Id, Var};
@@ -80,6 +82,31 @@ impl PackedTelegram {
         let country = self.identity().country;
         let links = Packet::links_in(&self.packed, at, self.version(), country)?;
         Ok(links)
+    }
+
+    /// The packets that have elements, in order, each as its tag and their identities, one each in order, with number
+    /// 16383 kept. Goes over the packets once, and takes no memory where none has any.
+    pub fn linking(&self) -> Result<Vec<(PacketTag, Vec<Id>)>, TelegramFault>
+        ensures ok { IfOk result (λ each. map (λ p. (p.0, p.1.items)) each.items ≡ linking (country_of self.now) self.now.packets) }
+        ensures fault { IsOkUnless result TelegramFault.OutOfMemory }
+    {
+        let version = self.version();
+        let own = self.identity();
+        let mut found = Vec::new(self.packed.allocator());
+        let mut at = 50;
+        let mut count = 0;
+        'packets: loop {
+            let number = self.packed.number(at, 8);
+            if number == 255 {
+                return Ok(found);
+            }
+            let links = Packet::links_in(&self.packed, at, version, own.country)?;
+            add_linking(&mut found, PacketTag::Base(count), links)?;
+            // L_PACKET
+            let width = self.packed.number(at + 10, 13);
+            at += width as usize;
+            count += 1;
+        }
     }
 
     // Where the packet with this tag stands among the bits.

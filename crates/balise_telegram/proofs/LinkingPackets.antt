@@ -5,6 +5,7 @@ use Rattle.std.specs.Prelude.{filter, flat_map}
 use Rattle.std.proofs.Math.Dec.{eqb-suc-zero}
 use Rattle.std.proofs.lemmas.List.{append-nil}
 use Rattle.std.proofs.lemmas.List.Elements.{filter-append}
+use Rattle.std.proofs.lemmas.List.Folds.{flat_map-map}
 use Rattle.balise_rules.specs.declared.identity.Id.{Id}
 use Rattle.balise_rules.specs.declared.tag.Tag.{Tag}
 use Rattle.balise_rules.specs.declared.tag.Tag.TheVariants.{Base}
@@ -63,11 +64,11 @@ tells_on b y at n number size version country told more links t e still is v k l
 
 -- ---- for the layers above
 
--- what comes of the packets that have elements comes of all, where nothing comes of one without
-pub told_alone : {X : Type 0} (f : Tag → List Id → List X) → ((p : Tag) → f p [] ≡ []) → (c : ℕ) (ps : Packets) →
+-- where nothing comes of a packet without elements, those that have some are enough
+alone : {X : Type 0} (f : Tag → List Id → List X) → ((p : Tag) → f p [] ≡ []) → (c : ℕ) (ps : Packets) →
     flat_map (λ (l : Tag × List Id). f l.0 l.1) (linking c ps) ≡ flat_map (λ (z : Tag × Packet). f z.0 (links_of c z.1)) ps
-told_alone f none c [] = refl
-told_alone {X = X} f none c (z ∷ zs) = by (links_of c z.1) (told_alone f none c zs)
+alone f none c [] = refl
+alone {X = X} f none c (z ∷ zs) = by (links_of c z.1) (alone f none c zs)
   where
     all : List X
     all = flat_map (λ (q : Tag × Packet). f q.0 (links_of c q.1)) zs
@@ -77,3 +78,11 @@ told_alone {X = X} f none c (z ∷ zs) = by (links_of c z.1) (told_alone f none 
     by (i ∷ is) h =
         ap (λ (b : Bool). flat_map (λ (l : Tag × List Id). f l.0 l.1) (cond (not b) ((z.0, i ∷ is) ∷ linking c zs) (linking c zs))) (eqb-suc-zero (length is))
         ∙ ap (λ (w : List X). f z.0 (i ∷ is) ++ w) h
+
+-- the same of them as they are told, each with its elements in a list of some kind
+pub told_alone : {V X : Type 0} (f : Tag → List Id → List X) → ((p : Tag) → f p [] ≡ []) → (items : V → List Id) (told : List (Tag × V)) (c : ℕ) (ps : Packets) →
+    map (λ (p : Tag × V). (p.0, items p.1)) told ≡ linking c ps → flat_map (λ (p : Tag × V). f p.0 (items p.1)) told ≡ flat_map (λ (z : Tag × Packet). f z.0 (links_of c z.1)) ps
+told_alone {V = V} f none items told c ps is =
+    sym (flat_map-map (λ (l : Tag × List Id). f l.0 l.1) (λ (p : Tag × V). (p.0, items p.1)) told)
+    ∙ ap (flat_map (λ (l : Tag × List Id). f l.0 l.1)) is
+    ∙ alone f none c ps

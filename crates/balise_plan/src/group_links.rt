@@ -49,12 +49,9 @@ fn add_telegram(
     ensures ok { OnOk result (found.new.items ≡ found.old.items ++ links_in_packets g t (country_of balise.now) balise.now.packets) }
     ensures fault { IsOkUnless result Refusal.OutOfMemory }
 {
-    for i in 0..balise.count() {
-        let Some((p, _)) = balise.packet_at(i) else {
-            return Ok(());
-        };
-        let links = balise.links(p)?;
-        add_packet(found, g, t, p, &links)?;
+    let linking = balise.linking()?;
+    for (p, links) in &linking {
+        add_packet(found, g, t, *p, links)?;
     }
     Ok(())
 }

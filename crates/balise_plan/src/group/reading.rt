@@ -64,13 +64,13 @@ fn agree(telegrams: &Vec<(u32, Balise)>, id: Id) -> bool
     requires { length telegrams.now.items < 2 ^ 32 }
     ensures { result ≡ agree_from id (length telegrams.now.items - 1) 0 telegrams.now.items }
 {
-    let last = telegrams.len() as u32;
+    let last = telegrams.len().saturating_sub(1);
     for i in 0..telegrams.len() {
-        let header = telegrams[i].1.header();
-        let place = header.get(Var::NPig).unwrap_or(0);
-        let total = header.get(Var::NTotal).unwrap_or(0);
-        let own = telegrams[i].1.identity();
-        if (place as usize != i) | (total + 1 != last) | (own != id) {
+        let telegram = &telegrams[i].1;
+        let place = telegram.head(Var::NPig).unwrap_or(0);
+        let total = telegram.head(Var::NTotal).unwrap_or(0);
+        let own = telegram.identity();
+        if (place as usize != i) | (total as usize != last) | (own != id) {
             return false;
         }
     }

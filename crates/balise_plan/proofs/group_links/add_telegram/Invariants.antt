@@ -1,7 +1,7 @@
-use Rattle.std.proofs.Common.{◌≡◌, ◌++◌, drop}
-use Rattle.balise_rules.specs.Plan.{country_of}
-use Rattle.balise_plan.specs.GroupLinks.{links_in_packets}
+use Rattle.std.proofs.Common.{◌≡◌, ◌++◌, take}
+use Rattle.std.specs.Prelude.{flat_map}
+use Rattle.balise_plan.specs.GroupLinks.{links_from}
 use Rattle.balise_plan.proofs.group_links.add_telegram.Given as goal
 
-abbrev pub invariant-loop-i : goal.invariant-loop-i
-invariant-loop-i l = l.found.items ++ links_in_packets l.g l.t (country_of l.balise) (drop l.i l.balise.packets) ≡ l.initial.found.items ++ links_in_packets l.g l.t (country_of l.balise) l.balise.packets
+abbrev pub invariant-loop-p : goal.invariant-loop-p
+invariant-loop-p l = l.found.items ≡ l.initial.found.items ++ flat_map (λ p. links_from l.g l.t p.0 0 p.1.items) (take l.p-index l.p-items)

@@ -1,5 +1,5 @@
 -- One more item is shown, the first of those that are left.
-use Rattle.std.proofs.Common.{◌≡◌, ◌∙◌, true, List, [], ◌∷◌, ◌++◌, slice_get, map, Some, sym, ap, append_assoc}
+use Rattle.std.proofs.Common.{◌≡◌, ◌∙◌, true, List, [], ◌∷◌, ◌++◌, slice_get, map, option_map, Some, None, refl, sym, ap, append_assoc}
 use Rattle.std.proofs.lemmas.List.{map_push}
 use Rattle.balise_rules.specs.declared.tag.Tag.{Tag}
 use Rattle.balise_rules.specs.Packet.{Packet}
@@ -25,3 +25,8 @@ taken_first (y ∷ ys) p x z u e f =
     let w : without same_tag p ys ≡ ys = without-absent same_tag p ys (ap (λ q. find same_tag q ys) key ∙ u.0) in
     let a : (y.0, y.1) ≡ (p, z) = ap (λ (t : Tag). (t, y.1)) (sym key) ∙ ap (λ (b : Packet). (p, b)) (unsome g) in
     simp d (ap (λ (q : Tag × Packet). q ∷ ys) a ∙ ap (λ l. (p, z) ∷ l) (sym w))
+
+-- there is none
+pub none_first : {A B : Type 0} (f : A → B) (xs : List A) → option_map f (slice_get xs 0) ≡ None → xs ≡ []
+none_first f [] e = refl
+none_first f (x ∷ xs) e = absurd cc

@@ -1,52 +1,67 @@
-//! A telegram as a value of JSON.
+//! A telegram as JSON.
 
-ghost use Rattle.std.specs.Prelude.{◌≡◌, IfOk, map};
-ghost use Rattle.serde_json.specs.View.{view};
+ghost use Rattle.std.specs.Prelude.{◌≡◌, map, OnOk};
+ghost use Rattle.serde_json.specs.Data.{array};
+ghost use Rattle.serde_json.specs.Events.{SendsValue};
+ghost use Rattle.serde_json.specs.View.{items_of};
 ghost use Rattle.balise_rules.specs.Packet.{value};
 ghost use Rattle.balise_rules.specs.Telegram.{version_of};
 ghost use Rattle.balise_view.specs.Given.{packet_data, telegram_data};
 
-use crate::packet::packet_value;
+use crate::packet::DescribedPacket;
 use balise_rules::Var;
 use balise_telegram::Balise;
-use serde_json::{Value, json};
-use std::alloc::{AllocError, Global};
+use serde::{Described, Serialize, Serializer};
 
-/// The telegram of a balise.
-pub(crate) fn telegram_value(alloc: Global, balise: &Balise) -> Result<Value, AllocError>
-    ensures { IfOk result (λ v. view v ≡ telegram_data balise.now) }
-{
-    let packets = Value::Array(packet_values(alloc, balise)?);
-    json!(in alloc; {
-        "bits": balise.width(),
-        "m_dup": head_value(balise, Var::MDup),
-        "m_mcount": head_value(balise, Var::MMcount),
-        "m_version": balise.version(),
-        "packets": packets,
-        "q_link": head_value(balise, Var::QLink),
-        "used": balise.used()
-    })
+/// The telegram of a balise, to be written.
+#[derive(Clone, Copy)]
+pub(crate) struct DescribedTelegram<'a>(pub(crate) &'a Balise);
+
+impl Described for DescribedTelegram<'_> {
+    ghost writes = { λ t. SendsValue (telegram_data t.0.now) };
+}
+
+impl Serialize for DescribedTelegram<'_> {
+    fn serialize<S: Serializer>(&self, out: &mut S) -> Result<(), S::Error> {
+        out.begin_map(Some(7))?;
+        out.key("bits")?;
+        self.0.width().serialize(out)?;
+        out.key("m_dup")?;
+        head_value(self.0, Var::MDup).serialize(out)?;
+        out.key("m_mcount")?;
+        head_value(self.0, Var::MMcount).serialize(out)?;
+        out.key("m_version")?;
+        self.0.version().serialize(out)?;
+        out.key("packets")?;
+        send_packets(self.0, out)?;
+        out.key("q_link")?;
+        head_value(self.0, Var::QLink).serialize(out)?;
+        out.key("used")?;
+        self.0.used().serialize(out)?;
+        out.end_map()
+    }
 }
 
 // Its packets in order. They are taken out of a copy one after another.
-fn packet_values(alloc: Global, balise: &Balise) -> Result<Vec<Value>, AllocError>
-    ensures { IfOk result (λ vs. map view vs.items ≡ map (λ p. packet_data (version_of balise.now) p.1) balise.now.packets) }
+fn send_packets<S: Serializer>(balise: &Balise, out: &mut S) -> Result<(), S::Error>
+    ensures { OnOk result (SendsValue (array (items_of (map (λ p. packet_data (version_of balise.now) p.1) balise.now.packets))) (S.written out.old) (S.written out.new)) }
 {
     let version = balise.version();
     let Ok(mut rest) = balise.copy() else {
-        return Err(AllocError);
+        return Err(out.custom("no memory"));
     };
-    let mut values = Vec::new(alloc);
-    for _place in 0..balise.count() {
-        let Some((tag, _)) = rest.packet_at(0) else {
-            return Ok(values);
-        };
+    out.begin_seq(Some(balise.count()))?;
+    'packets: while let Some((tag, _)) = rest.packet_at(0) {
         let Ok((packet, _)) = rest.take(tag) else {
-            return Err(AllocError);
+            return Err(out.custom("no memory"));
         };
-        values.push(packet_value(alloc, version, &packet)?)?;
+        let described = DescribedPacket {
+            version,
+            packet: &packet,
+        };
+        described.serialize(out)?;
     }
-    Ok(values)
+    out.end_seq()
 }
 
 // The value of a variable of the header.

@@ -1,0 +1,29 @@
+-- What is sent: numbers, and the items of a list one after another.
+use Rattle.std.proofs.Common.{◌≡◌, ◌∙◌, ℕ, suc, List, [], ◌∷◌, length, map, Some, refl, sym, ap, subst}
+use Rattle.serde.specs.Event.{Log, Logs, seq_begins, seq_ends, unsigned}
+use Rattle.serde_json.specs.Data.{Data, array}
+use Rattle.serde_json.specs.Events.{items_len, SendsValue, SendsItems}
+use Rattle.serde_json.specs.View.{items_of}
+
+-- whatever ends the list well from here, with these left, ends all of it well from the start
+abbrev pub SentUpTo : {A : Type 0} → (A → Data) → List A → List A → Log → Log → Type 0
+SentUpTo d all left old now = (end : Log) → SendsItems (items_of (map d left)) now end → SendsItems (items_of (map d all)) old end
+
+pub one_sent : {A : Type 0} (d : A → Data) (all here left : List A) (x : A) (old now new : Log) → here ≡ x ∷ left → SentUpTo d all here old now → SendsValue (d x) now new → SentUpTo d all left old new
+one_sent d all here left x old now new step so_far sent end rest = so_far end (subst (λ xs. SendsItems (items_of (map d xs)) now end) (sym step) (new, sent, rest))
+
+many_items : {A : Type 0} (d : A → Data) (xs : List A) → items_len (items_of (map d xs)) ≡ length xs
+many_items d [] = refl
+many_items d (x ∷ xs) = ap suc (many_items d xs)
+
+pub all_sent : {A : Type 0} (d : A → Data) (all left : List A) (n : ℕ) (old first last new : Log) → left ≡ [] → n ≡ length all → Logs old first (seq_begins (Some n)) → SentUpTo d all left first last → Logs last new seq_ends
+    → SendsValue (array (items_of (map d all))) old new
+all_sent d all left n old first last new none many begun so_far ended = (
+  first,
+  subst (λ k. Logs old first (seq_begins (Some k))) (many ∙ sym (many_items d all)) begun,
+  so_far new (subst (λ xs. SendsItems (items_of (map d xs)) last new) (sym none) ended),
+)
+
+-- a number, under another name of it
+pub as_number : (old new : Log) (n m : ℕ) → n ≡ m → Logs old new (unsigned n) → Logs old new (unsigned m)
+as_number old new n m same sent = subst (λ k. Logs old new (unsigned k)) same sent

@@ -37,12 +37,9 @@ fn add_telegram(names: &mut Vec<Id>, balise: &Balise) -> Result<(), Refusal>
     ensures ok { OnOk result (names.new.items ≡ names.old.items ++ names_in_packets (country_of balise.now) balise.now.packets) }
     ensures fault { IsOkUnless result Refusal.OutOfMemory }
 {
-    for i in 0..balise.count() {
-        let Some((p, _)) = balise.packet_at(i) else {
-            return Ok(());
-        };
-        let links = balise.links(p)?;
-        add_real(names, &links)?;
+    let linking = balise.linking()?;
+    for (_, links) in &linking {
+        add_real(names, links)?;
     }
     Ok(())
 }

@@ -11,6 +11,7 @@ ghost use Rattle.balise_rules.specs.Plan.{country_of, identity_in};
 ghost use Rattle.balise_rules.specs.Tagged.{Distinct};
 ghost use Rattle.balise_rules.specs.Tags.{same_tag};
 ghost use Rattle.balise_rules.specs.Telegram.{read_telegram, room, shown, used, version_of, IsLength};
+ghost use Rattle.balise_layout.specs.Collected.{all_keyed};
 ghost use Rattle.balise_telegram.specs.Faults.{refusal_of};
 ghost use Rattle.balise_telegram.specs.Packed.{linking, links_at};
 ghost use Rattle.balise_telegram.specs.Setting.{field_at};
@@ -177,6 +178,17 @@ impl Balise {
         match &self.held {
             Held::Packed(telegram) => telegram.packet_at(i),
             Held::Open(telegram) => telegram.packet_at(i),
+        }
+    }
+
+    /// The fields of the packet at a place, from 0, in bit order: variable, occurrence from 0, and value.
+    pub fn fields_at(&self, i: usize) -> Result<Option<Vec<(Var, u32, u32)>>, TelegramFault>
+        ensures ok { IfOk result (λ fields. option_map (λ fs. all_keyed fs.items) fields ≡ option_map (λ q. q.1.fields) (slice_get self.now.packets i)) }
+        ensures fault { IsOkUnless result TelegramFault.OutOfMemory }
+    {
+        match &self.held {
+            Held::Packed(telegram) => telegram.fields_at(i),
+            Held::Open(telegram) => telegram.fields_at(i),
         }
     }
 

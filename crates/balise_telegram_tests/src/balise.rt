@@ -80,8 +80,14 @@ fn answers_in_either_form(rt: HostRuntime) {
             assert!(rt; balise.packet_at(i as usize) == Some((tag, 66)));
             assert!(rt; balise.field(tag, Var::NidTsr, 0) == Some(restriction));
             assert!(rt; balise.links(tag).expect(&rt, "memory").is_empty());
+            let fields = balise.fields_at(i as usize).expect(&rt, "memory");
+            let fields = fields.expect(&rt, "a packet");
+            assert_eq!(rt; fields.len(), 4);
+            assert!(rt; fields[0] == (Var::NidPacket, 0, 66));
+            assert!(rt; fields[3] == (Var::NidTsr, 0, restriction));
         }
         assert!(rt; balise.packet_at(2).is_none());
+        assert!(rt; balise.fields_at(2).expect(&rt, "memory").is_none());
     }
 }
 

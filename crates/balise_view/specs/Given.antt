@@ -1,10 +1,11 @@
 -- The view as values of JSON, for private clauses: their text is the view's.
-use Rattle.std.specs.Prelude.{ℕ, codes, length, map}
+use Rattle.std.specs.Prelude.{ℕ, Bool, codes, length, map}
 use Rattle.serde_json.specs.Data.{Data, boolean, number, unsigned, string, array, object, item, no_items, member, no_members}
 use Rattle.serde_json.specs.View.{items_of}
 use Rattle.balise_rules.specs.declared.variable.Var.TheVariants.{NidPacket, MDup, MMcount, QLink}
 use Rattle.balise_rules.specs.Variables.{name_of}
 use Rattle.balise_rules.specs.Tags.{Key}
+use Rattle.balise_rules.specs.Forms.{Fields}
 use Rattle.balise_rules.specs.Packet.{Packet, value}
 use Rattle.balise_rules.specs.Packets.{is_known}
 use Rattle.balise_rules.specs.Telegram.{Telegram, version_of, used}
@@ -17,10 +18,12 @@ natural n = number (unsigned n)
 abbrev pub field_data : Key × ℕ → Data
 field_data f = array (item (string (name_of f.0.0)) (item (natural f.1) no_items))
 
+-- a packet with these fields, and whether it is known
+abbrev pub fields_data : Bool → Fields → Data
+fields_data known fs = object (member (codes "fields") (array (items_of (map field_data fs))) (member (codes "known") (boolean known) no_members))
+
 abbrev pub packet_data : ℕ → Packet → Data
-packet_data version p = object (
-    member (codes "fields") (array (items_of (map field_data p.fields)))
-    (member (codes "known") (boolean (is_known version (value NidPacket 0 p.fields))) no_members))
+packet_data version p = fields_data (is_known version (value NidPacket 0 p.fields)) p.fields
 
 abbrev pub telegram_data : Telegram → Data
 telegram_data y = object (

@@ -9,6 +9,7 @@ ghost use Rattle.balise_rules.specs.Telegram.{version_of};
 ghost use Rattle.balise_view.specs.Given.{packet_data, telegram_data};
 
 use crate::packet::DescribedPacket;
+use balise_layout::is_known;
 use balise_rules::Var;
 use balise_telegram::Balise;
 use serde::{Described, Serialize, Serializer};
@@ -42,24 +43,25 @@ impl Serialize for DescribedTelegram<'_> {
     }
 }
 
-// Its packets in order. They are taken out of a copy one after another.
+// Its packets in order.
 fn send_packets<S: Serializer>(balise: &Balise, out: &mut S) -> Result<(), S::Error>
     ensures { OnOk result (SendsValue (array (items_of (map (λ p. packet_data (version_of balise.now) p.1) balise.now.packets))) (S.written out.old) (S.written out.new)) }
 {
     let version = balise.version();
-    let Ok(mut rest) = balise.copy() else {
-        return Err(out.custom("no memory"));
-    };
-    out.begin_seq(Some(balise.count()))?;
-    'packets: while let Some((tag, _)) = rest.packet_at(0) {
-        let Ok((packet, _)) = rest.take(tag) else {
+    let count = balise.count();
+    out.begin_seq(Some(count))?;
+    for place in 0..count {
+        let Some((_, number)) = balise.packet_at(place) else {
+            unreachable!()
+        };
+        let Ok(Some(fields)) = balise.fields_at(place) else {
             return Err(out.custom("no memory"));
         };
-        let described = DescribedPacket {
-            version,
-            packet: &packet,
+        let packet = DescribedPacket {
+            fields: fields.as_slice(),
+            known: is_known(version, number),
         };
-        described.serialize(out)?;
+        packet.serialize(out)?;
     }
     out.end_seq()
 }

@@ -8,6 +8,7 @@ ghost use Rattle.balise_rules.specs.Plan.{country_of};
 ghost use Rattle.balise_rules.specs.Tagged.{Distinct};
 ghost use Rattle.balise_rules.specs.Tags.{same_tag};
 ghost use Rattle.balise_rules.specs.Telegram.{room, used};
+ghost use Rattle.balise_layout.specs.Collected.{all_keyed};
 ghost use Rattle.balise_telegram.specs.Packed.{linking, links_at, packet_place, place_from};
 ghost use Rattle.balise_telegram.specs.Setting.{field_at};
 
@@ -55,6 +56,22 @@ impl PackedTelegram {
             Some(at) => Some((tag, bits.number(at, 8))),
             None => None,
         }
+    }
+
+    /// The fields of the packet at a place, from 0, in bit order: variable, occurrence from 0, and value.
+    pub(crate) fn fields_at(&self, i: usize) -> Result<Option<Vec<(Var, u32, u32)>>, TelegramFault>
+        ensures ok { IfOk result (λ fields. option_map (λ fs. all_keyed fs.items) fields ≡ option_map (λ q. q.1.fields) (slice_get self.now.packets i)) }
+        ensures fault { IsOkUnless result TelegramFault.OutOfMemory }
+    {
+        let bits = &self.packed;
+        let Ok(place) = u32::try_from(i) else {
+            return Ok(None);
+        };
+        let Some(at) = self.place_of(PacketTag::Base(place)) else {
+            return Ok(None);
+        };
+        let (packet, _) = Packet::read(bits, at, self.version())?;
+        Ok(Some(packet.fields()?))
     }
 
     /// The value of occurrence `k`, from 0, of a variable of the packet with this tag, where both are there.

@@ -1,4 +1,4 @@
-use Rattle.std.proofs.Common.{◌≡◌, ◌∙◌, ◌+◌, ℕ, [], drop, sym, arith}
+use Rattle.std.proofs.Common.{◌≡◌, ◌+◌, ℕ, [], drop, sym, arith}
 use Rattle.std.proofs.lemmas.List.{drop_all}
 use Rattle.std.proofs.lemmas.Result.{on_ok_weaker}
 use Rattle.balise_rules.specs.Telegram.{Telegram}

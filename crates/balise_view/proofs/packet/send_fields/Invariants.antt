@@ -5,4 +5,4 @@ use Rattle.balise_view.proofs.Sent.{SentUpTo}
 use Rattle.balise_view.proofs.packet.send_fields.Given as goal
 
 abbrev pub invariant-loop-var : goal.invariant-loop-var
-invariant-loop-var g l = SentUpTo field_data (all_keyed l.var-items) (all_keyed (drop l.var-index l.var-items)) (g.S.Serializer.written l.initial.out) (g.S.Serializer.written l.out)
+invariant-loop-var g l = SentUpTo field_data (all_keyed l.fields) (all_keyed (drop l.var-index l.fields)) (g.S.Serializer.written l.initial.out) (g.S.Serializer.written l.out)

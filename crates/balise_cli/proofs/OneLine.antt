@@ -72,29 +72,33 @@ read_step flags (InGroup plan g ys) n line h = (refl, refl)
 read_step flags (InJournal part s) n line h = (refl, refl)
 read_step flags (Commands s refused) n line h = absurd h
 
-taken_so : (flags : Flags) (p q : Phase) (n : ℕ) (line : Text) (old new : Option Text) (rd : Read) (t : Taken) (r : Option Status) → DidRead rd t → DidTake t old new q r → IsStep flags true p n line [] (after_read rd) → DidStep flags p n line old new q r
-taken_so flags p q n line old new (Good k) (taken.Good m) None read d is = ([], (subst (λ x. IsStep flags true p n line [] (On x)) (sym read ∙ sym d.0) is, d.1))
-taken_so flags p q n line old new (Good k) (taken.Good m) (Some status) read d is = absurd d
-taken_so flags p q n line old new (Good k) (taken.Bad l f) r read d is = absurd read
-taken_so flags p q n line old new (Bad k f) (taken.Good m) r read d is = absurd read
-taken_so flags p q n line old new (Bad k f) (taken.Bad l e) None read d is = absurd d
-taken_so flags p q n line old new (Bad k f) (taken.Bad l e) (Some status) read d is =
+taken_so : (flags : Flags) (p now q : Phase) (n : ℕ) (line : Text) (old new : Option Text) (rd : Read) (t : Taken) (r : Option Status) → DidRead rd now t → DidTake t now old new q r → IsStep flags true p n line [] (after_read rd) → DidStep flags p n line old new q r
+taken_so flags p now q n line old new (Good k) taken.Here None read d is = ([], (subst (λ x. IsStep flags true p n line [] (On x)) (sym read ∙ sym d.0) is, d.1))
+taken_so flags p now q n line old new (Good k) taken.Here (Some status) read d is = absurd d
+taken_so flags p now q n line old new (Good k) (taken.Good m) None read d is = ([], (subst (λ x. IsStep flags true p n line [] (On x)) (sym read ∙ sym d.0) is, d.1))
+taken_so flags p now q n line old new (Good k) (taken.Good m) (Some status) read d is = absurd d
+taken_so flags p now q n line old new (Good k) (taken.Bad l f) r read d is = absurd read
+taken_so flags p now q n line old new (Bad k f) taken.Here r read d is = absurd read
+taken_so flags p now q n line old new (Bad k f) (taken.Good m) r read d is = absurd read
+taken_so flags p now q n line old new (Bad k f) (taken.Bad l e) None read d is = absurd d
+taken_so flags p now q n line old new (Bad k f) (taken.Bad l e) (Some status) read d is =
     ([], (bad_line k f, (subst (λ x. IsStep flags true p n line [] (Over (bad_line k f) x)) (sym d.0) is, subst (λ (x : Text). Appends old new x) (ap (λ (x : ℕ). bad_line x e) read.0 ∙ ap (bad_line k) read.1) d.1)))
 
 -- it was taken, or its refusal written
-pub did_read : (flags : Flags) (p q : Phase) (n : ℕ) (line : Text) (old new : Option Text) (t : Taken) (r : Result (Option Status) RunFault) → IsReading p → DidRead (read_line p n line) t → IfOk r (DidTake t old new q) → IfOk r (DidStep flags p n line old new q)
-did_read flags p q n line old new t (Err e) h read d = tt
-did_read flags p q n line old new t (Ok r) h read d = taken_so flags p q n line old new (read_line p n line) t r read d (read_step flags p n line h)
+pub did_read : (flags : Flags) (p now q : Phase) (n : ℕ) (line : Text) (old new : Option Text) (t : Taken) (r : Result (Option Status) RunFault) → IsReading p → DidRead (read_line p n line) now t → IfOk r (DidTake t now old new q) → IfOk r (DidStep flags p n line old new q)
+did_read flags p now q n line old new t (Err e) h read d = tt
+did_read flags p now q n line old new t (Ok r) h read d = taken_so flags p now q n line old new (read_line p n line) t r read d (read_step flags p n line h)
 
-taken_some : (flags : Flags) (p : Phase) (n : ℕ) (line : Text) (old new : Option Text) (rd : Read) (t : Taken) → DidRead rd t → DidTakeSome t old new → IsStep flags true p n line [] (after_read rd) → DidSome flags p n line old new
-taken_some flags p n line old new rd (taken.Good m) read d is = absurd d
-taken_some flags p n line old new (Good q) (taken.Bad l e) read d is = absurd read
-taken_some flags p n line old new (Bad k f) (taken.Bad l e) read d is = ([], (after_read (Bad k f), (is, subst (λ (x : Text). AppendsSome old new x) (ap (λ (x : ℕ). bad_line x e) read.0 ∙ ap (bad_line k) read.1) d)))
+taken_some : (flags : Flags) (p now : Phase) (n : ℕ) (line : Text) (old new : Option Text) (rd : Read) (t : Taken) → DidRead rd now t → DidTakeSome t old new → IsStep flags true p n line [] (after_read rd) → DidSome flags p n line old new
+taken_some flags p now n line old new rd taken.Here read d is = absurd d
+taken_some flags p now n line old new rd (taken.Good m) read d is = absurd d
+taken_some flags p now n line old new (Good q) (taken.Bad l e) read d is = absurd read
+taken_some flags p now n line old new (Bad k f) (taken.Bad l e) read d is = ([], (after_read (Bad k f), (is, subst (λ (x : Text). AppendsSome old new x) (ap (λ (x : ℕ). bad_line x e) read.0 ∙ ap (bad_line k) read.1) d)))
 
 -- a beginning of its refusal was written
-pub some_read : {A : Type 0} (flags : Flags) (p : Phase) (n : ℕ) (line : Text) (old new : Option Text) (t : Taken) (r : Result A RunFault) → IsReading p → DidRead (read_line p n line) t → OnErr r (DidTakeSome t old new) → OnErr r (DidSome flags p n line old new)
-some_read flags p n line old new t (Ok r) h read d = tt
-some_read flags p n line old new t (Err e) h read d = taken_some flags p n line old new (read_line p n line) t read d (read_step flags p n line h)
+pub some_read : {A : Type 0} (flags : Flags) (p now : Phase) (n : ℕ) (line : Text) (old new : Option Text) (t : Taken) (r : Result A RunFault) → IsReading p → DidRead (read_line p n line) now t → OnErr r (DidTakeSome t old new) → OnErr r (DidSome flags p n line old new)
+some_read flags p now n line old new t (Ok r) h read d = tt
+some_read flags p now n line old new t (Err e) h read d = taken_some flags p now n line old new (read_line p n line) t read d (read_step flags p n line h)
 
 -- no memory was had for it: nothing was written
 pub none_read : (flags : Flags) (p : Phase) (n : ℕ) (line : Text) (old : Option Text) → IsReading p → DidSome flags p n line old old

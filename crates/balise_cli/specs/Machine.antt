@@ -20,11 +20,12 @@ phase_of (machine.InGroup plan g ys) = InGroup plan g ys
 phase_of (machine.InJournal part opening) = InJournal part opening.state
 phase_of (machine.Commands session refused) = Commands session.state refused
 
--- the line was taken, or refused, as it is defined
-abbrev pub DidRead : Read → Taken → Type 0
-DidRead (Good p) (taken.Good m) = phase_of m ≡ p
-DidRead (Bad n r) (taken.Bad k q) = (k ≡ n) × (q ≡ r)
-DidRead _ _ = ⊥
+-- the line was taken, or refused, as it is defined, by a machine that stands in a phase behind it
+abbrev pub DidRead : Read → Phase → Taken → Type 0
+DidRead (Good p) now taken.Here = now ≡ p
+DidRead (Good p) now (taken.Good m) = phase_of m ≡ p
+DidRead (Bad n r) now (taken.Bad k q) = (k ≡ n) × (q ≡ r)
+DidRead _ _ _ = ⊥
 
 abbrev pub last_text : Next → Text
 last_text (On p) = []
@@ -40,12 +41,14 @@ abbrev pub DidSome : Flags → Phase → ℕ → Text → Option Text → Option
 DidSome flags p n line old new = (out : Text) × ((next : Next) × (IsStep flags true p n line out next × AppendsSome old new (out ++ last_text next)))
 
 -- a line of the plan or the journal was taken, or its refusal written
-abbrev pub DidTake : Taken → Option Text → Option Text → Phase → Option Status → Type 0
-DidTake (taken.Good m) old new q None = (q ≡ phase_of m) × Appends old new []
-DidTake (taken.Bad n r) old new q (Some status) = (status ≡ BadInput) × Appends old new (bad_line n r)
-DidTake _ old new q status = ⊥
+abbrev pub DidTake : Taken → Phase → Option Text → Option Text → Phase → Option Status → Type 0
+DidTake taken.Here now old new q None = (q ≡ now) × Appends old new []
+DidTake (taken.Good m) now old new q None = (q ≡ phase_of m) × Appends old new []
+DidTake (taken.Bad n r) now old new q (Some status) = (status ≡ BadInput) × Appends old new (bad_line n r)
+DidTake _ _ old new q status = ⊥
 
 abbrev pub DidTakeSome : Taken → Option Text → Option Text → Type 0
+DidTakeSome taken.Here old new = ⊥
 DidTakeSome (taken.Good m) old new = ⊥
 DidTakeSome (taken.Bad n r) old new = AppendsSome old new (bad_line n r)
 

@@ -9,6 +9,7 @@ use balise_history::{Opening, Plan, Refusal, Session};
 use balise_plan::GroupReader;
 use std::alloc::Global;
 use std::marker::Model;
+use std::mem;
 
 /// The plan first read, while its groups are read. Nothing else was done to it.
 #[derive(Drop)]
@@ -36,6 +37,13 @@ impl BasePlan {
         BasePlan {
             plan: Plan::empty(alloc),
         }
+    }
+
+    /// Takes the plan out, and leaves one without groups. Takes no memory.
+    pub(crate) fn take(&mut self, alloc: Global) -> BasePlan
+        ensures { result ≡ self.old }
+    {
+        mem::replace(self, BasePlan::new(alloc))
     }
 
     /// Adds a group at the end. A refusal leaves all as it was.

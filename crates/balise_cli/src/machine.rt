@@ -35,9 +35,11 @@ pub(crate) enum Machine {
     Commands(Session, bool),
 }
 
-/// A line of the plan or the journal was taken, or is refused, with the number of the line that it is said of.
+/// A line of the plan or the journal was taken, and the run goes on where it stands or elsewhere; or it is refused, with
+/// the number of the line that it is said of.
 #[derive(Drop)]
 pub(crate) enum Taken {
+    Here,
     Good(Machine),
     Bad(u64, Refusal),
 }
@@ -95,8 +97,8 @@ impl Machine {
     }
 
     // Reads a line of the plan or the journal.
-    fn read_line(self, alloc: Global, number: u64, line: &[u8]) -> Result<Taken, RunFault>
-        ensures ok { IfOk result (DidRead (read_line (phase_of self) number line.now)) }
+    fn read_line(&mut self, alloc: Global, number: u64, line: &[u8]) -> Result<Taken, RunFault>
+        ensures ok { IfOk result (DidRead (read_line (phase_of self.old) number line.now) (phase_of self.new)) }
         ensures fault { IfErr result (λ e. e ≡ RunFault.OutOfMemory) }
     {
         match self {
@@ -107,12 +109,13 @@ impl Machine {
             Machine::InGroup(plan, group_number, group) => {
                 read_in_group(alloc, plan, group_number, group, number, line)
             }
-            Machine::InJournal(part, opening) => {
-                read_in_journal(alloc, part, opening, number, line)
-            }
-            Machine::Commands(session, refused) => {
-                Ok(Taken::Good(Machine::Commands(session, refused)))
-            }
+            Machine::InJournal(_, _) => match mem::replace(self, Machine::Header) {
+                Machine::InJournal(part, opening) => {
+                    read_in_journal(alloc, part, opening, number, line)
+                }
+                _ => unreachable!(),
+            },
+            Machine::Commands(_, _) => Ok(Taken::Here),
         }
     }
 
@@ -122,12 +125,13 @@ impl Machine {
         taken: Taken,
         writer: &mut Counted<W>,
     ) -> Result<Option<Status>, RunFault>
-        ensures ok { IfOk result (DidTake taken (W.contents writer.old.inner) (W.contents writer.new.inner) (phase_of self.new)) }
+        ensures ok { IfOk result (DidTake taken (phase_of self.old) (W.contents writer.old.inner) (W.contents writer.new.inner) (phase_of self.new)) }
         ensures unfailed { OnOk result (writer.new.failed ≡ writer.old.failed) }
         ensures cause { IfErr result (IsCause writer.old.failed writer.new.failed) }
         ensures written { OnErr result (DidTakeSome taken (W.contents writer.old.inner) (W.contents writer.new.inner)) }
     {
         match taken {
+            Taken::Here => Ok(None),
             Taken::Good(next) => {
                 *self = next;
                 Ok(None)
@@ -156,7 +160,7 @@ impl Machine {
         if let Machine::Commands(session, refused) = self {
             return command(alloc, flags, session, refused, line, writer);
         }
-        match mem::replace(self, Machine::Header).read_line(alloc, number, line) {
+        match self.read_line(alloc, number, line) {
             Err(fault) => Err(fault),
             Ok(taken) => self.go_on(taken, writer),
         }

@@ -1,9 +1,10 @@
 //! The lines of the plan.
 
-ghost use Rattle.std.specs.Prelude.{◌≡◌, ◌≢◌, IfErr, IfOk, Ok, Err, OnErr, OnOk};
+ghost use Rattle.std.specs.Prelude.{ℕ, ◌≡◌, ◌≢◌, IfErr, IfOk, Ok, Err, OnErr, OnOk};
 ghost use Rattle.balise_cli.specs.Machine.{DidRead};
-ghost use Rattle.balise_cli.specs.Output.{between, closed, first_line, in_group, telegram};
+ghost use Rattle.balise_cli.specs.Output.{between, closed, first_line, in_group, telegram, InGroup, Phase};
 ghost use Rattle.balise_cli.specs.PlanRead.{with_line};
+ghost use Rattle.balise_rules.specs.Plan.{Plan};
 ghost use Rattle.balise_text.specs.PlanLines.{plan_line_of};
 
 use crate::base_plan::BasePlan;
@@ -14,10 +15,11 @@ use balise_history::{Bits, Refusal};
 use balise_plan::GroupReader;
 use balise_text::{PlanLine, read_plan_line};
 use std::alloc::Global;
+use std::mem;
 
 /// The plan's first line.
 pub(crate) fn read_first_line(alloc: Global, number: u64, line: &[u8]) -> Taken
-    ensures { DidRead (first_line number (plan_line_of line.now)) result }
+    ensures { (q : Phase) → DidRead (first_line number (plan_line_of line.now)) q result }
 {
     match read_plan_line(line) {
         PlanLine::FirstLine => Taken::Good(Machine::Between(BasePlan::new(alloc))),
@@ -25,22 +27,26 @@ pub(crate) fn read_first_line(alloc: Global, number: u64, line: &[u8]) -> Taken
     }
 }
 
-/// A line between groups.
+/// A line between groups. Takes the plan out where the run goes on elsewhere.
 pub(crate) fn read_between(
     alloc: Global,
-    plan: BasePlan,
+    plan: &mut BasePlan,
     number: u64,
     kind: PlanLine,
     line: &[u8],
 ) -> Taken
-    ensures { DidRead (between plan number kind line.now) result }
+    ensures { (q : Phase) → DidRead (between plan.old number kind line.now) q result }
 {
     match kind {
-        PlanLine::GroupLine => {
-            Taken::Good(Machine::InGroup(plan, number, GroupReader::new(alloc)))
+        PlanLine::GroupLine => Taken::Good(Machine::InGroup(
+            plan.take(alloc),
+            number,
+            GroupReader::new(alloc),
+        )),
+        PlanLine::EditsLine => {
+            Taken::Good(Machine::Commands(plan.take(alloc).session(alloc), false))
         }
-        PlanLine::EditsLine => Taken::Good(Machine::Commands(plan.session(alloc), false)),
-        PlanLine::JournalLine => begin_journal(alloc, plan, number, line),
+        PlanLine::JournalLine => begin_journal(alloc, plan.take(alloc), number, line),
         _ => Taken::Bad(number, Refusal::BadLine),
     }
 }
@@ -48,21 +54,26 @@ pub(crate) fn read_between(
 // The group ends, and another line follows.
 fn close(
     alloc: Global,
-    plan: BasePlan,
-    group_number: u64,
-    group: GroupReader,
+    plan: &mut BasePlan,
+    group_number: &mut u64,
+    group: &mut GroupReader,
     number: u64,
     kind: PlanLine,
     line: &[u8],
 ) -> Result<Taken, RunFault>
-    ensures ok { IfOk result (DidRead (closed plan group_number group (λ p. between p number kind line.now))) }
+    ensures ok { IfOk result (DidRead (closed plan.old group_number.old group.old (λ p. between p number kind line.now)) (InGroup plan.new group_number.new group.new)) }
     ensures fault { IfErr result (λ e. e ≡ RunFault.OutOfMemory) }
 {
-    let mut plan = plan;
-    match plan.push(group) {
-        Ok(()) => Ok(read_between(alloc, plan, number, kind, line)),
+    match plan.push(mem::replace(group, GroupReader::new(alloc))) {
+        Ok(()) => Ok(match kind {
+            PlanLine::GroupLine => {
+                *group_number = number;
+                Taken::Here
+            }
+            _ => read_between(alloc, plan, number, kind, line),
+        }),
         Err(Refusal::OutOfMemory) => Err(RunFault::OutOfMemory),
-        Err(refusal) => Ok(Taken::Bad(group_number, refusal)),
+        Err(refusal) => Ok(Taken::Bad(*group_number, refusal)),
     }
 }
 
@@ -85,18 +96,15 @@ fn add_telegram(alloc: Global, group: &mut GroupReader, line: &[u8]) -> Result<(
 // A telegram's line.
 fn read_telegram(
     alloc: Global,
-    plan: BasePlan,
-    group_number: u64,
-    group: GroupReader,
+    group: &mut GroupReader,
     number: u64,
     line: &[u8],
 ) -> Result<Taken, RunFault>
-    ensures ok { IfOk result (DidRead (telegram plan group_number group number line.now)) }
+    ensures ok { IfOk result (λ taken. (plan : Plan) (g : ℕ) → DidRead (telegram plan g group.old number line.now) (InGroup plan g group.new) taken) }
     ensures fault { IfErr result (λ e. e ≡ RunFault.OutOfMemory) }
 {
-    let mut group = group;
-    match add_telegram(alloc, &mut group, line) {
-        Ok(()) => Ok(Taken::Good(Machine::InGroup(plan, group_number, group))),
+    match add_telegram(alloc, group, line) {
+        Ok(()) => Ok(Taken::Here),
         Err(Refusal::OutOfMemory) => Err(RunFault::OutOfMemory),
         Err(refusal) => Ok(Taken::Bad(number, refusal)),
     }
@@ -105,19 +113,19 @@ fn read_telegram(
 /// A line in a group.
 pub(crate) fn read_in_group(
     alloc: Global,
-    plan: BasePlan,
-    group_number: u64,
-    group: GroupReader,
+    plan: &mut BasePlan,
+    group_number: &mut u64,
+    group: &mut GroupReader,
     number: u64,
     line: &[u8],
 ) -> Result<Taken, RunFault>
-    ensures ok { IfOk result (DidRead (in_group plan group_number group number (plan_line_of line.now) line.now)) }
+    ensures ok { IfOk result (DidRead (in_group plan.old group_number.old group.old number (plan_line_of line.now) line.now) (InGroup plan.new group_number.new group.new)) }
     ensures fault { IfErr result (λ e. e ≡ RunFault.OutOfMemory) }
 {
     let kind = read_plan_line(line);
     match kind {
-        PlanLine::FirstLine => read_telegram(alloc, plan, group_number, group, number, line),
-        PlanLine::TelegramLine => read_telegram(alloc, plan, group_number, group, number, line),
+        PlanLine::FirstLine => read_telegram(alloc, group, number, line),
+        PlanLine::TelegramLine => read_telegram(alloc, group, number, line),
         PlanLine::GroupLine => close(alloc, plan, group_number, group, number, kind, line),
         PlanLine::EditsLine => close(alloc, plan, group_number, group, number, kind, line),
         PlanLine::JournalLine => close(alloc, plan, group_number, group, number, kind, line),

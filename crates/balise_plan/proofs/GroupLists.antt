@@ -1,13 +1,11 @@
 -- Links of a group as a list: added to the index and forgotten one after another, and which they are.
-use Rattle.std.proofs.Common.{◌≡◌, ◌∙◌, ℕ, zero, suc, ◌+◌, ◌<◌, ◌≤◌, Bool, true, false, cond, ◌&&◌, ◌||◌, List, [], ◌∷◌, ◌++◌, length, take, drop, get_or, slice_get, Some, None, refl, sym, ap, subst, arith}
+use Rattle.std.proofs.Common.{◌≡◌, ◌∙◌, ℕ, zero, suc, ◌+◌, ◌<◌, Bool, true, false, cond, ◌&&◌, ◌||◌, List, [], ◌∷◌, ◌++◌, length, take, drop, get_or, slice_get, Some, None, refl, sym, ap, subst, arith}
 use Rattle.std.specs.BTreeMap as map
 use Rattle.std.specs.BTreeSet as set
 use Rattle.std.proofs.lemmas.List.{take_more}
 use Rattle.balise_rules.specs.declared.identity.Id.{Id}
-use Rattle.balise_rules.specs.declared.tag.Tag.{Tag}
 use Rattle.balise_rules.specs.Tagged.{find, Distinct}
-use Rattle.balise_rules.specs.Packet.{Packet, width}
-use Rattle.balise_rules.specs.Telegram.{Telegram, used}
+use Rattle.balise_rules.specs.Telegram.{Telegram}
 use Rattle.balise_rules.specs.Plan.{Group, SoundFrom, IsSoundTelegram}
 use Rattle.balise_rules.proofs.Cases.{unsome}
 use Rattle.balise_rules.proofs.Tests.{IsTest, split_on, equal_yes}
@@ -94,11 +92,6 @@ found_at {same = same} t (y ∷ ys) (suc i) k x u e =
     split_on (same k y.0)
     (λ d. absurd (let gone : find same k ys ≡ None = ap (λ q. find same q ys) (t.one k y.0 d) ∙ u.0 in let no : None ≡ Some x = sym gone ∙ later in cc))
     (λ d. simp d later)
-
-pub used_at : (ps : List (Tag × Packet)) (i : ℕ) (z : Tag × Packet) → slice_get ps i ≡ Some z → width z.1 ≤ used ps
-used_at [] i z e = absurd cc
-used_at (p ∷ ps) zero z e = omega (arith, ap (λ (q : Tag × Packet). width q.1) (unsome e))
-used_at (p ∷ ps) (suc i) z e = let h = used_at ps i z e in omega (arith, h)
 
 pub sound_at : (j : Id) (last n : ℕ) (ys : Group) (i t : ℕ) (y : Telegram) → SoundFrom j last n ys → slice_get ys i ≡ Some (t, y) → IsSoundTelegram j last (n + i) y
 sound_at j last n [] i t y s e = absurd cc

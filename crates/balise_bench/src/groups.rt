@@ -1,10 +1,13 @@
 //! Groups of a plan taken out and put back, and the processor time that one takes.
 
+ghost use Rattle.std.specs.Prelude.{◌≡◌};
+
 use crate::packets::now;
 use crate::plans::read;
 use anyhow::{Result, bail};
 use balise_lines::Counted;
 use balise_plan::{GroupTag, Plan, Spot};
+use std::io::Read;
 use std::time::CpuClock;
 
 /// How many groups are taken out and put back.
@@ -24,10 +27,14 @@ fn put_back(plan: &mut Plan, g: GroupTag) -> Result<()> {
     }
 }
 
-/// Reads a plan, and takes groups out and puts them back all over it. Prints the nanoseconds that one takes.
-pub fn run(rt: &(impl Input + Print + AllocGlobal + CpuClock)) -> Result<()> {
-    let mut reader = Counted::new(rt.reader());
-    let mut plan = read(rt.alloc(), &mut reader)?;
+fn put_all_back<R: Read>(
+    rt: &(impl Print + CpuClock),
+    plan: &mut Plan,
+    reader: &mut Counted<R>,
+) -> Result<()>
+    requires { plan.old.changes ≡ 0 }
+{
+    read(plan, reader)?;
     let Ok(count) = u32::try_from(plan.count()) else {
         bail!("too many groups");
     };
@@ -38,9 +45,16 @@ pub fn run(rt: &(impl Input + Print + AllocGlobal + CpuClock)) -> Result<()> {
     let mut seed: u32 = 1;
     for _ in 0..COUNT {
         seed = seed.wrapping_mul(1_103_515_245).wrapping_add(12_345);
-        put_back(&mut plan, GroupTag::Base((seed >> 8) % count))?;
+        put_back(plan, GroupTag::Base((seed >> 8) % count))?;
     }
-    let took = now(rt)?.saturating_sub(begin) * 1000 / u128::from(COUNT);
+    let took = now(rt)?.saturating_sub(begin).saturating_mul(1000) / u128::from(COUNT);
     println!(rt; "{took} ns to take one of {count} groups out and put it back")?;
     Ok(())
+}
+
+/// Reads a plan, and takes groups out and puts them back all over it. Prints the nanoseconds that one takes.
+pub fn run(rt: &(impl Input + Print + AllocGlobal + CpuClock)) -> Result<()> {
+    let mut reader = Counted::new(rt.reader());
+    let mut plan = Plan::empty(rt.alloc());
+    put_all_back(rt, &mut plan, &mut reader)
 }

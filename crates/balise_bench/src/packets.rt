@@ -111,17 +111,27 @@ fn write_all(rt: &(impl CpuClock + AllocGlobal), packet: &Packet) -> Result<u128
     Ok(now(rt)?.saturating_sub(begin))
 }
 
+fn show_times(
+    rt: &(impl Print + AllocGlobal + CpuClock),
+    bits: &Bits,
+    packet: &mut Packet,
+    sample: &Sample,
+) -> Result<()> {
+    let read = read_all(rt, bits)? / 1000;
+    let set = set_all(rt, packet, sample)? / 1000;
+    let write = write_all(rt, packet)? / 1000;
+    let name = sample.name;
+    println!(rt; "{read} {set} {write} packet {name}")?;
+    Ok(())
+}
+
 /// Prints the nanoseconds that one call takes, for each kind of packet.
 pub fn run(rt: &(impl Print + AllocGlobal + CpuClock)) -> Result<()> {
     rt.println("nanoseconds for one packet: read, set, write")?;
     for sample in &SAMPLES {
         let bits = Bits::digits(rt.alloc(), sample.digits)?;
         let (mut packet, _) = Packet::read(&bits, 0, 33)?;
-        let read = read_all(rt, &bits)? / 1000;
-        let set = set_all(rt, &mut packet, sample)? / 1000;
-        let write = write_all(rt, &packet)? / 1000;
-        let name = sample.name;
-        println!(rt; "{read} {set} {write} packet {name}")?;
+        show_times(rt, &bits, &mut packet, sample)?;
     }
     Ok(())
 }

@@ -1,18 +1,22 @@
 //! A whole plan held in groups with its indexes, and then printed again.
 
+ghost use Rattle.std.specs.Prelude.{◌≡◌};
+
 use crate::digits::bits_in;
 use anyhow::Result;
 use balise_lines::{Counted, Lines, Next, put};
 use balise_plan::Plan;
 use balise_telegram::Bits;
-use std::alloc::Global;
 use std::io::{BufWriter, Read, Write};
 use std::{io, mem};
 
-/// The groups of all lines: a line 'group' begins one, and lines that have as many digits as a telegram belong to it.
-pub(crate) fn read<R: Read>(alloc: Global, reader: &mut Counted<R>) -> Result<Plan> {
+/// Reads the groups of all lines into a plan: a line 'group' begins one, and lines that have as many digits as a telegram
+/// belong to it.
+pub(crate) fn read<R: Read>(plan: &mut Plan, reader: &mut Counted<R>) -> Result<()>
+    requires { plan.old.changes ≡ 0 }
+{
+    let alloc = plan.allocator();
     let mut lines = Lines::new();
-    let mut plan = Plan::empty(alloc);
     let mut telegrams = Vec::new(alloc);
     'lines: for _ in 0..u64::MAX {
         if lines.next(reader)? == Next::End {
@@ -30,11 +34,11 @@ pub(crate) fn read<R: Read>(alloc: Global, reader: &mut Counted<R>) -> Result<Pl
     if !telegrams.is_empty() {
         plan.push(telegrams)?;
     }
-    Ok(plan)
+    Ok(())
 }
 
-fn print<W: Write>(alloc: Global, plan: &Plan, writer: &mut Counted<W>) -> Result<()> {
-    let mut text = Vec::new(alloc);
+fn print<W: Write>(plan: &Plan, writer: &mut Counted<W>) -> Result<()> {
+    let mut text = Vec::new(plan.allocator());
     put(writer, b"plan 1\n")?;
     for i in 0..plan.count() {
         let Some((_, group)) = plan.at(i) else {
@@ -54,11 +58,22 @@ fn print<W: Write>(alloc: Global, plan: &Plan, writer: &mut Counted<W>) -> Resul
     Ok(())
 }
 
+fn copy<R: Read, W: Write>(
+    plan: &mut Plan,
+    reader: &mut Counted<R>,
+    writer: &mut Counted<W>,
+) -> Result<()>
+    requires { plan.old.changes ≡ 0 }
+{
+    read(plan, reader)?;
+    print(plan, writer)
+}
+
 /// Reads a plan and prints it again.
 pub fn run(rt: &(impl Input + Print + AllocGlobal)) -> Result<()> {
     let alloc = rt.alloc();
     let mut reader = Counted::new(rt.reader());
     let mut writer = Counted::new(BufWriter::new(alloc, io::writer(rt))?);
-    let plan = read(alloc, &mut reader)?;
-    print(alloc, &plan, &mut writer)
+    let mut plan = Plan::empty(alloc);
+    copy(&mut plan, &mut reader, &mut writer)
 }

@@ -25,7 +25,10 @@ fn packed(rt: &impl Abort, alloc: Global, text: &str) -> Balise {
 
 /// That the telegram shows these digits.
 fn check_shown(rt: &impl Abort, alloc: Global, packed: &Balise, text: &str) {
-    assert!(rt; packed.shown().expect(rt, "memory") == bits(rt, alloc, text), "{text}");
+    assert!(rt;
+        packed.shown().expect(rt, "memory") == bits(rt, alloc, text),
+        "{text}"
+    );
 }
 
 #[test]

@@ -1,6 +1,6 @@
 #!/usr/bin/env bash
 # Times the program on one load after another: bench/loads.sh [OTHER]. Another program that reads the same text may be
-# named: it is timed in turn, and the outputs are compared. Processor time, the least of five runs, and memory.
+# named: it is timed in turn, and the outputs are compared. Processor time, the least of eight runs, and memory.
 set -eu
 cd "$(dirname "$0")/.."
 
@@ -24,7 +24,7 @@ runs = {"program": program}
 if other:
     runs["other"] = other
 times, most = {name: [] for name in runs}, dict.fromkeys(runs, 0)
-for _ in range(5):
+for _ in range(8):
     for name, path in runs.items():
         with open(f"{folder}/input", "rb") as text, open(f"{folder}/{name}", "wb") as out:
             run = subprocess.Popen([path, *flags], stdin=text, stdout=out)

@@ -22,18 +22,29 @@ set_five (v ∷ w ∷ x ∷ y ∷ []) a b c d e h = absurd (omega (arith, h))
 set_five (v ∷ w ∷ x ∷ y ∷ z ∷ []) a b c d e h = refl
 set_five (v ∷ w ∷ x ∷ y ∷ z ∷ q ∷ r) a b c d e h = absurd (omega (arith, h))
 
+-- four writes to four bytes
+pub set_four : (w : List ℕ) (a b c d : ℕ) → length w ≡ 4 → set (set (set (set w 0 a) 1 b) 2 c) 3 d ≡ a ∷ b ∷ c ∷ d ∷ []
+set_four [] a b c d h = absurd (omega (arith, h))
+set_four (v ∷ []) a b c d h = absurd (omega (arith, h))
+set_four (v ∷ w ∷ []) a b c d h = absurd (omega (arith, h))
+set_four (v ∷ w ∷ x ∷ []) a b c d h = absurd (omega (arith, h))
+set_four (v ∷ w ∷ x ∷ y ∷ []) a b c d h = refl
+set_four (v ∷ w ∷ x ∷ y ∷ z ∷ r) a b c d h = absurd (omega (arith, h))
+
 byte_more : (m n : ℕ) (bs : List ℕ) → flat bs ≡ bits m n → flat (n / 2 ^ m % 256 ∷ bs) ≡ bits (8 + m) n
 byte_more m n bs e =
     flat-cons (n / 2 ^ m % 256) bs ∙ ap (λ (x : List Bool). x ++ flat bs) (bits-mod 8 (n / 2 ^ m))
     ∙ ap (λ (x : List Bool). bits 8 (n / 2 ^ m) ++ x) e ∙ sym (bits-split 8 m n)
 
-pub flat-five : (n : ℕ) → flat (n / 2 ^ 32 % 256 ∷ n / 2 ^ 24 % 256 ∷ n / 2 ^ 16 % 256 ∷ n / 2 ^ 8 % 256 ∷ n % 256 ∷ []) ≡ bits 40 n
-flat-five n =
+pub flat-four : (n : ℕ) → flat (n / 2 ^ 24 % 256 ∷ n / 2 ^ 16 % 256 ∷ n / 2 ^ 8 % 256 ∷ n % 256 ∷ []) ≡ bits 32 n
+flat-four n =
     let e1 : flat (n % 256 ∷ []) ≡ bits 8 n = flat_one (n % 256) ∙ bits-mod 8 n in
     let e2 : flat (n / 2 ^ 8 % 256 ∷ n % 256 ∷ []) ≡ bits 16 n = byte_more 8 n (n % 256 ∷ []) e1 in
     let e3 : flat (n / 2 ^ 16 % 256 ∷ n / 2 ^ 8 % 256 ∷ n % 256 ∷ []) ≡ bits 24 n = byte_more 16 n (n / 2 ^ 8 % 256 ∷ n % 256 ∷ []) e2 in
-    let e4 : flat (n / 2 ^ 24 % 256 ∷ n / 2 ^ 16 % 256 ∷ n / 2 ^ 8 % 256 ∷ n % 256 ∷ []) ≡ bits 32 n = byte_more 24 n (n / 2 ^ 16 % 256 ∷ n / 2 ^ 8 % 256 ∷ n % 256 ∷ []) e3 in
-    byte_more 32 n (n / 2 ^ 24 % 256 ∷ n / 2 ^ 16 % 256 ∷ n / 2 ^ 8 % 256 ∷ n % 256 ∷ []) e4
+    byte_more 24 n (n / 2 ^ 16 % 256 ∷ n / 2 ^ 8 % 256 ∷ n % 256 ∷ []) e3
+
+pub flat-five : (n : ℕ) → flat (n / 2 ^ 32 % 256 ∷ n / 2 ^ 24 % 256 ∷ n / 2 ^ 16 % 256 ∷ n / 2 ^ 8 % 256 ∷ n % 256 ∷ []) ≡ bits 40 n
+flat-five n = byte_more 32 n (n / 2 ^ 24 % 256 ∷ n / 2 ^ 16 % 256 ∷ n / 2 ^ 8 % 256 ∷ n % 256 ∷ []) (flat-four n)
 
 -- no byte yet
 pub flat_none : (n : ℕ) → flat [] ≡ bits 0 n

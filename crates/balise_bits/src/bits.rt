@@ -8,6 +8,7 @@ mod equal;
 mod numbers;
 mod parts;
 
+use crate::bit_slice::BitSlice;
 use crate::fault::BitsFault;
 use crate::store::{MOST, Store};
 use std::alloc::Global;
@@ -74,6 +75,14 @@ impl Bits {
         ensures { result ≡ (length self.now == 0) }
     {
         self.len() == 0
+    }
+
+    /// All of them, lent. Takes no memory.
+    #[inline]
+    pub fn as_slice(&self) -> BitSlice<'_>
+        ensures { result ≡ self.now }
+    {
+        BitSlice::new(self.bytes.as_slice(), self.len())
     }
 
     /// Where its memory comes from.

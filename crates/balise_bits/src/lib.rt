@@ -3,6 +3,7 @@
 //! and written.
 #![tactic(auto)]
 
+mod bit_slice;
 mod bits;
 mod cells;
 mod fault;
@@ -12,5 +13,6 @@ mod store;
 mod window;
 
 pub use balise_rules::Refusal;
+pub use bit_slice::BitSlice;
 pub use bits::Bits;
 pub use fault::BitsFault;

@@ -49,6 +49,14 @@ pub(crate) fn put_in(window: &mut [u8], number: u64)
         window[4] = (number % 256) as u8;
         return;
     }
+    // Packets of 32 bits are among the shortest, and the loop below is dear for them.
+    if count == 4 {
+        window[0] = ((number >> 24) % 256) as u8;
+        window[1] = ((number >> 16) % 256) as u8;
+        window[2] = ((number >> 8) % 256) as u8;
+        window[3] = (number % 256) as u8;
+        return;
+    }
     for i in 0..count {
         window[i] = ((number >> (8 * (count - 1 - i))) % 256) as u8;
     }

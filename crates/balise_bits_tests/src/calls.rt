@@ -113,6 +113,11 @@ fn check_number(rt: &impl Abort, bits: &Bits, at: usize, width: u32, number: u32
     assert!(rt; at <= len);
     assert!(rt; width as usize <= len - at);
     assert_eq!(rt; bits.number(at, width), number, "{width} bits from {at}");
+    assert_eq!(rt;
+        bits.as_slice().number(at, width),
+        number,
+        "{width} bits lent, from {at}"
+    );
 }
 
 #[test]

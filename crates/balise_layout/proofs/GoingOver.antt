@@ -1,9 +1,9 @@
 -- Within its bounds, what is gone over to the end by the packet's kind is what the definition reads.
-use Rattle.std.proofs.Common.{arith, ◌≡◌, ◌≢◌, ◌+◌, ◌-◌, ◌≤◌, ℕ, List, [], Bool, Option, Result, Ok, Err, take, drop, length, refl, sym, ap, ◌∙◌}
+use Rattle.std.proofs.Common.{arith, ◌≡◌, ◌≢◌, ◌+◌, ◌-◌, ℕ, List, [], Bool, Option, Result, Ok, Err, take, drop, length, refl, sym, ap, ◌∙◌}
 use Rattle.std.proofs.lemmas.List.{length-take, length-drop, drop-drop}
 use Rattle.balise_rules.specs.declared.refusal.Refusal.{Refusal}
 use Rattle.balise_rules.specs.declared.variable.Var.{Var}
-use Rattle.balise_rules.specs.Forms.{Form, Fields, read_form}
+use Rattle.balise_rules.specs.Forms.{read_form}
 use Rattle.balise_rules.specs.Packets.{packet}
 use Rattle.balise_rules.specs.Packet.{Packet, read_packet}
 use Rattle.balise_layout.specs.declared.fault.LayoutFault.{LayoutFault}
@@ -13,7 +13,7 @@ use Rattle.balise_layout.specs.Faults.{refusal_of}
 use Rattle.balise_layout.specs.Walks.{walk}
 use Rattle.balise_layout.specs.Held.{headed, held, IsHeld}
 use Rattle.balise_layout.specs.Layouts.{next_of}
-use Rattle.balise_layout.specs.Kinds.{number_of, Begins, Finds, GoesOver}
+use Rattle.balise_layout.specs.Kinds.{number_of, Begins, GoesOver}
 use Rattle.balise_layout.specs.Reading.{Sure}
 use Rattle.balise_layout.proofs.Refused.{bounded_reads, bounded_number, bounded_size}
 use Rattle.balise_layout.proofs.Held.{walked_held, held_read, walked_none, seen_within}

@@ -1,9 +1,9 @@
 -- Only packets 5 and 136 have elements: what is of another form names nothing.
-use Rattle.std.proofs.Common.{◌≡◌, ℕ, zero, suc, ◌-◌, Bool, true, false, cond, eqb, List, [], ◌∷◌, take, drop, Option, Some, None, refl, sym, ap, ◌∙◌}
+use Rattle.std.proofs.Common.{◌≡◌, ℕ, zero, suc, Bool, true, false, cond, eqb, List, [], ◌∷◌, take, drop, Option, Some, None, refl, ap, ◌∙◌}
 use Rattle.balise_rules.specs.declared.variable.Var.TheVariants.{NidBg}
 use Rattle.balise_rules.specs.Tags.{same_var, is_of}
-use Rattle.balise_rules.specs.Forms.{Form, done, shut, never, valued, plain, repeat, Fields, Matches, read_form}
-use Rattle.balise_rules.specs.Packets.{packet, counted, gradient, gradients, difference, section, speeds, level, levels, restriction, revocation, known_body}
+use Rattle.balise_rules.specs.Forms.{Form, done, shut, never, valued, repeat, Fields, Matches, read_form}
+use Rattle.balise_rules.specs.Packets.{counted, gradient, gradients, difference, section, speeds, level, levels, restriction, revocation, known_body}
 use Rattle.balise_rules.specs.Packet.{Packet, read_packet, read_first}
 use Rattle.balise_rules.specs.Names.{links_among, links_of}
 use Rattle.balise_layout.specs.First.{links_read, Bounded}

@@ -6,14 +6,14 @@ ghost use Rattle.balise_layout.specs.Reading.{Ends, Takes};
 
 use crate::fault::LayoutFault;
 use crate::visit::Visit;
-use balise_bits::Bits;
+use balise_bits::{BitSlice, Bits};
 use balise_rules::Var;
 use std::marker::Model;
 
 /// A visitor on its way over some bits, seen as what it keeps and the bits that are left.
 #[derive(Drop)]
 pub struct Walker<'a, V: Drop> {
-    bits: &'a Bits,
+    bits: BitSlice<'a>,
     at: usize,
     end: usize,
     visitor: V,
@@ -24,9 +24,9 @@ impl<'a, V: Drop> Model for Walker<'a, V> {
 
     ghost Value = { V × List Bool };
 
-    ghost view = { λ w. (w.visitor, take (w.end - w.at) (drop w.at w.bits.now)) };
+    ghost view = { λ w. (w.visitor, take (w.end - w.at) (drop w.at w.bits)) };
 
-    ghost invariant = { λ w. (w.at ≤ w.end) × (w.end ≤ length w.bits.now) };
+    ghost invariant = { λ w. (w.at ≤ w.end) × (w.end ≤ length w.bits) };
 }
 
 impl<'a, V: Visit + Drop> Walker<'a, V> {
@@ -37,7 +37,7 @@ impl<'a, V: Visit + Drop> Walker<'a, V> {
         ensures { result ≡ (visitor, take (end - at) (drop at bits.now)) }
     {
         Walker {
-            bits,
+            bits: bits.as_slice(),
             at,
             end,
             visitor,

@@ -1,10 +1,10 @@
 -- A walk over the packet's fields.
-use Rattle.std.proofs.Common.{◌-◌, sym, ap, subst, ◌∙◌, take, drop, Err}
+use Rattle.std.proofs.Common.{sym, ap, ◌∙◌}
 use Rattle.std.proofs.lemmas.Result.{err_from_is_err_and}
 use Rattle.balise_layout.specs.Walks.{walk}
 use Rattle.balise_layout.specs.Held.{headed}
 use Rattle.balise_layout.specs.Layouts.{next_of}
-use Rattle.balise_layout.specs.Kinds.{number_of, GoesOver}
+use Rattle.balise_layout.specs.Kinds.{number_of}
 use Rattle.balise_layout.proofs.GoingOver.{over_ends, over_fails}
 use Rattle.balise_layout.proofs.packet.Packet.go_over.Goals as goal
 

@@ -9,11 +9,11 @@ use Rattle.balise_layout.proofs.walker.Walker.end.Goals as goal
 pub returns-then-self : goal.returns-then-self
 returns-then-self g c = λ _.
     let r = c.self.inside in
-    let rest = take (r.end - r.at) (drop r.at r.bits.now) in
-    ap (walk g.V.Visit.step shut) (sym c.self.view_is) ∙ walk_open g.V.Visit.step r.visitor rest (omega (arith, length-take (r.end - r.at) (drop r.at r.bits.now), length-drop r.at r.bits.now))
+    let rest = take (r.end - r.at) (drop r.at r.bits) in
+    ap (walk g.V.Visit.step shut) (sym c.self.view_is) ∙ walk_open g.V.Visit.step r.visitor rest (omega (arith, length-take (r.end - r.at) (drop r.at r.bits), length-drop r.at r.bits))
 
 pub returns : goal.returns
 returns g c =
     let r = c.self.inside in
-    let rest = take (r.end - r.at) (drop r.at r.bits.now) in
-    ap (walk g.V.Visit.step shut) (sym c.self.view_is) ∙ walk_shut g.V.Visit.step r.visitor rest (omega (arith, length-take (r.end - r.at) (drop r.at r.bits.now))) ∙ ap Ok c.self.view_is
+    let rest = take (r.end - r.at) (drop r.at r.bits) in
+    ap (walk g.V.Visit.step shut) (sym c.self.view_is) ∙ walk_shut g.V.Visit.step r.visitor rest (omega (arith, length-take (r.end - r.at) (drop r.at r.bits))) ∙ ap Ok c.self.view_is

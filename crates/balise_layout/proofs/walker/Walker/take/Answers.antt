@@ -11,11 +11,11 @@ returns g c = λ next.
     let r = c.self.inside in
     let w = c.width-width.result in
     ap (walk g.V.Visit.step (valued c.args.var next)) (sym c.self.view_is)
-    ∙ walk_step g.V.Visit.step c.args.var next r.visitor c.see.new.self r.bits.now r.at r.end w c.number-value.result c.width-width.ensures.width c.self.invariant.1 (omega arith) c.number-value.ensures c.in_ok-see.ensures
+    ∙ walk_step g.V.Visit.step c.args.var next r.visitor c.see.new.self r.bits r.at r.end w c.number-value.result c.width-width.ensures.width c.self.invariant.1 (omega arith) c.number-value.ensures c.in_ok-see.ensures
 
 pub returns-then-left-width : goal.returns-then-left-width
 returns-then-left-width g c = λ next _.
     let r = c.self.inside in
-    let rest = take (r.end - r.at) (drop r.at r.bits.now) in
+    let rest = take (r.end - r.at) (drop r.at r.bits) in
     ap (walk g.V.Visit.step (valued c.args.var next)) (sym c.self.view_is)
-    ∙ walk_short g.V.Visit.step c.args.var next (r.visitor, rest) (omega (arith, length-take (r.end - r.at) (drop r.at r.bits.now), length-drop r.at r.bits.now, c.width-width.ensures.width, c.if-left-width.true))
+    ∙ walk_short g.V.Visit.step c.args.var next (r.visitor, rest) (omega (arith, length-take (r.end - r.at) (drop r.at r.bits), length-drop r.at r.bits, c.width-width.ensures.width, c.if-left-width.true))

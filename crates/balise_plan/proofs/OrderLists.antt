@@ -2,8 +2,9 @@
 use Rattle.std.proofs.Common.{◌≡◌, ◌∙◌, ℕ, zero, suc, ◌+◌, ◌-◌, ◌<◌, ◌≤◌, ◌⊎◌, inl, inr, Bool, true, false, cond, ◌||◌, List, [], ◌∷◌, Option, Some, None, length, position, insert, remove, option_map, slice_get, get_or, refl, sym, ap, arith}
 use Rattle.std.specs.Prelude.{option_and_then, is_some}
 use Rattle.std.specs.Option.{option_map_or}
-use Rattle.std.specs.Map.{keys_of, remove_entry, set_value}
-use Rattle.std.specs.List.{position_from}
+use Rattle.std.specs.Map.{keys_of, values_of, remove_entry, set_value}
+use Rattle.indexmap.specs.IndexMap.{set_value_at}
+use Rattle.std.specs.List.{position_from, AllByRecursion, IsDistinct}
 use Rattle.std.proofs.lemmas.Iterator.Adapters.{position_from-zero}
 use Rattle.std.proofs.lemmas.List.Quantifiers.{position-Some}
 use Rattle.indexmap.proofs.MapLemmas.{some_index}
@@ -325,3 +326,27 @@ pub place-within : (g : Tag) (gs : List Tag) (i : ℕ) → StandsAt (same_tag g)
 place-within g [] i a = absurd a
 place-within g (k ∷ ks) zero a = omega arith
 place-within g (k ∷ ks) (suc i) a = let h = place-within g ks i a.1 in omega (arith, h)
+
+-- ---- what is held under a tag is at the place where the tag is
+
+not_here : (g k : Tag) (ks : List Tag) (i : ℕ) → AllByRecursion (λ y. same_tag k y ≡ false) ks → slice_get ks i ≡ Some g → same_tag g k ≡ false
+not_here g k [] i h e = absurd (true≢false (ap is_some (sym e)))
+not_here g k (q ∷ qs) zero h e = ap (λ r. option_map_or (λ z. same_tag z k) r false) (sym e) ∙ test-sym tag_test q k ∙ h.0
+not_here g k (q ∷ qs) (suc i) h e = not_here g k qs i h.1 e
+
+here : (g k : Tag) → Some k ≡ Some g → same_tag g k ≡ true
+here g k e = ap (λ r. option_map_or (λ z. same_tag z k) r false) (sym e) ∙ tag_test.itself k
+
+pub set-own : {A : Type 0} (held : List (Tag × A)) (i : ℕ) (g : Tag) (w : A) → IsDistinct same_tag (keys_of held) → slice_get (keys_of held) i ≡ Some g → set_value_at held i w ≡ set_value (same_tag g) held w
+unfolding IsDistinct
+set-own [] i g w u e = refl
+set-own (x ∷ xs) zero g w u e = sym (ap (λ b. cond b ((x.0, w) ∷ xs) (x ∷ set_value (same_tag g) xs w)) (here g x.0 e))
+set-own (x ∷ xs) (suc i) g w u e =
+    ap (λ l. x ∷ l) (set-own xs i g w u.1 e) ∙ sym (ap (λ b. cond b ((x.0, w) ∷ xs) (x ∷ set_value (same_tag g) xs w)) (not_here g x.0 (keys_of xs) i u.0 e))
+
+pub found-own : {A : Type 0} (held : List (Tag × A)) (i : ℕ) (g : Tag) → IsDistinct same_tag (keys_of held) → slice_get (keys_of held) i ≡ Some g → slice_get (values_of held) i ≡ find same_tag g held
+unfolding IsDistinct
+found-own [] i g u e = refl
+found-own (x ∷ xs) zero g u e = sym (ap (λ b. cond b (Some x.1) (find same_tag g xs)) (here g x.0 e))
+found-own (x ∷ xs) (suc i) g u e =
+    found-own xs i g u.1 e ∙ sym (ap (λ b. cond b (Some x.1) (find same_tag g xs)) (not_here g x.0 (keys_of xs) i u.0 e))

@@ -1,6 +1,6 @@
 //! Groups under their tags, in order.
 
-ghost use Rattle.std.specs.Prelude.{◌≡◌, ◌≤◌, insert, length, option_map, position, slice_get, List, [], None, OnOk};
+ghost use Rattle.std.specs.Prelude.{◌≡◌, ◌≤◌, insert, length, option_map, position, slice_get, IfSome, List, [], None, OnOk};
 ghost use Rattle.std.specs.Borrow.{sem};
 ghost use Rattle.std.specs.Map.{keys_of, remove_entry};
 ghost use Rattle.std.specs.Option.{option_copied, option_copied_mut};
@@ -66,7 +66,7 @@ impl OrderedGroups {
     pub(crate) fn get(&self, g: Tag) -> Option<&Group>
         ensures value { option_copied result ≡ find same_tag g self.now.entries }
     {
-        self.held.get(&g)
+        found(&self.held, g)
     }
 
     /// The group with this tag, to change.
@@ -74,6 +74,9 @@ impl OrderedGroups {
         ensures* writes_back { sem 𝓛 (lends_group self.entry g result) }
         ensures value { option_copied_mut result ≡ find same_tag g self.old.entries }
     {
+        if let Some(i) = own_place(&self.held, g) {
+            return self.held.get_index_mut(i);
+        }
         self.held.get_mut(&g)
     }
 
@@ -84,7 +87,7 @@ impl OrderedGroups {
         let Some(tag) = self.order.get(i) else {
             return None;
         };
-        match self.held.get(&tag) {
+        match found(&self.held, tag) {
             Some(group) => Some((tag, group)),
             None => None,
         }
@@ -134,6 +137,34 @@ impl OrderedGroups {
         self.near = i;
         Some((i, group))
     }
+}
+
+// The place at which a group of the plan first read is held: its number, until a group was taken out. It is a guess that
+// is looked at, and spares a look-up.
+fn own_place(held: &IndexMap<Tag, Group>, g: Tag) -> Option<usize>
+    ensures { IfSome result (λ i. slice_get (keys_of held.now.entries) i ≡ Some g) }
+{
+    let Tag::Base(n) = g else {
+        return None;
+    };
+    match held.get_index(n as usize) {
+        Some((tag, _)) if *tag == g => Some(n as usize),
+        _ => None,
+    }
+}
+
+// What is held under a tag.
+fn found(held: &IndexMap<Tag, Group>, g: Tag) -> Option<&Group>
+    ensures { option_copied result ≡ find same_tag g held.now.entries }
+{
+    if let Tag::Base(n) = g {
+        if let Some((tag, group)) = held.get_index(n as usize) {
+            if *tag == g {
+                return Some(group);
+            }
+        }
+    }
+    held.get(&g)
 }
 
 // Where to look for a tag first: where the last group was put in or taken out, or where the tag stood when the plan was

@@ -11,11 +11,11 @@ returns-in_default c =
     ap (option_and_then (λ g. option_map (λ x. (g, x)) (find same_tag g held))) c.in_default.ensures
     ∙ sym (at-order held c.self.inside.order.items c.args.i (all_there c.self.invariant)) ∙ ap (λ v. slice_get v.entries c.args.i) c.self.view_is
 
-pub returns-in-Some-get : goal.returns-in-Some-get
-returns-in-Some-get c =
+pub returns-in-Some-found : goal.returns-in-Some-found
+returns-in-Some-found c =
     let held = c.self.inside.held.entries in
     let tag = c.in-Some.tag in
-    ap (option_map (λ x. (tag, x))) c.in-Some-get.ensures.value
+    ap (option_map (λ x. (tag, x))) c.in-Some-found.ensures
     ∙ ap (option_and_then (λ g. option_map (λ x. (g, x)) (find same_tag g held))) c.in-Some.ensures
     ∙ sym (at-order held c.self.inside.order.items c.args.i (all_there c.self.invariant)) ∙ ap (λ v. slice_get v.entries c.args.i) c.self.view_is
 
@@ -23,6 +23,6 @@ pub returns-in-None : goal.returns-in-None
 returns-in-None c =
     let held = c.self.inside.held.entries in
     let tag = c.in-Some.tag in
-    ap (option_map (λ x. (tag, x))) c.in-None.ensures.value
+    ap (option_map (λ x. (tag, x))) c.in-None.ensures
     ∙ ap (option_and_then (λ g. option_map (λ x. (g, x)) (find same_tag g held))) c.in-Some.ensures
     ∙ sym (at-order held c.self.inside.order.items c.args.i (all_there c.self.invariant)) ∙ ap (λ v. slice_get v.entries c.args.i) c.self.view_is

@@ -5,4 +5,4 @@ use Rattle.balise_plan.proofs.OrderLists.{found-order}
 use Rattle.balise_plan.proofs.ordered_groups.OrderedGroups.get.Goals as goal
 
 pub returns : goal.returns
-returns c = record { value = c.get.ensures.value ∙ sym (found-order c.self.inside.held.entries c.self.inside.order.items c.args.g c.self.invariant) ∙ ap (λ v. find same_tag c.args.g v.entries) c.self.view_is }
+returns c = record { value = c.found.ensures ∙ sym (found-order c.self.inside.held.entries c.self.inside.order.items c.args.g c.self.invariant) ∙ ap (λ v. find same_tag c.args.g v.entries) c.self.view_is }

@@ -85,6 +85,16 @@ place-found s es i r l at =
     by k d true e m n = let q : i < k = grind (arith, nat_tests) in let a = entries-rise es r i k d q n in let b = at d in omega arith
     by k d false e m n = let q : i ≡ k = grind (arith, nat_tests) in let b = at d in let w : (get_or es k d).0.0 ≡ s = ap (λ (j : ℕ). (get_or es j d).0.0) (sym q) ∙ b in omega arith
 
+pub place-last : (s : ℕ) (es : List Entry) (i : ℕ) → Rising (items_of es) → length es ≡ suc i → ((d : Entry) → (get_or es i d).0.0 < s) → length es ≡ place_of s es
+place-last s es i r l at =
+    place-parts s es (length es) (omega arith)
+    (λ k d m. by k d (nat_lt k i) refl m)
+    (λ k d m n. absurd (omega arith))
+  where
+    by : (k : ℕ) (d : Entry) (c : Bool) → nat_lt k i ≡ c → k < length es → (get_or es k d).0.0 < s
+    by k d true e m = let q : k < i = grind (arith, nat_tests) in let a = entries-rise es r k i d q (omega (arith, l)) in let b = at d in omega arith
+    by k d false e m = let q : i ≡ k = grind (arith, nat_tests, l) in let b = at d in let w : (get_or es i d).0.0 ≡ (get_or es k d).0.0 = ap (λ (j : ℕ). (get_or es j d).0.0) q in omega (arith, w, b)
+
 pub among-at : (n : ℕ) (ns : List ℕ) (i : ℕ) → i < length ns → get_or ns i 0 ≡ n → is_among n ns ≡ true
 among-at n [] i l e = absurd (omega arith)
 among-at n (m ∷ ms) zero l e = let t : eqb m n ≡ true = grind (arith, nat_tests) in simp t

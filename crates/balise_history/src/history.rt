@@ -49,6 +49,11 @@ pub(crate) fn place_of(entries: &[Entry], serial: u32) -> usize
     ensures place { result ≡ place_of serial entries.now }
     ensures within { result ≤ length entries.now }
 {
+    // Mostly it is the highest.
+    let count = entries.len();
+    if count > 0 && entries[count - 1].serial() < serial {
+        return count;
+    }
     match entries.binary_search_by_key(&serial, |entry| entry.serial()) {
         Ok(place) => place,
         Err(place) => place,

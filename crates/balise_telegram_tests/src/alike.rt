@@ -77,13 +77,26 @@ fn check_packet(rt: &impl Abort, balise: &Balise, telegram: &Telegram, tag: Pack
             assert!(rt; balise.field(tag, var, k) == telegram.field(tag, var, k));
         }
     }
-    let Some(packet) = telegram.packet(tag) else {
-        assert!(rt; balise.field(tag, Var::NidPacket, 0).is_none());
-        return;
-    };
-    for (var, k, value) in packet.fields().expect(rt, "memory") {
-        assert!(rt; balise.field(tag, var, k) == Some(value));
-        assert!(rt; telegram.field(tag, var, k) == Some(value));
+    match telegram.packet(tag) {
+        Some(packet) => {
+            let fields = packet.fields().expect(rt, "memory");
+            check_fields(rt, balise, telegram, tag, fields.as_slice());
+        }
+        None => assert!(rt; balise.field(tag, Var::NidPacket, 0).is_none()),
+    }
+}
+
+/// That both tell these fields of a packet.
+fn check_fields(
+    rt: &impl Abort,
+    balise: &Balise,
+    telegram: &Telegram,
+    tag: PacketTag,
+    fields: &[(Var, u32, u32)],
+) {
+    for (var, k, value) in fields.iter() {
+        assert!(rt; balise.field(tag, *var, *k) == Some(*value));
+        assert!(rt; telegram.field(tag, *var, *k) == Some(*value));
     }
 }
 
@@ -91,6 +104,11 @@ fn check_packet(rt: &impl Abort, balise: &Balise, telegram: &Telegram, tag: Pack
 fn check_linking(rt: &impl Abort, balise: &Balise, telegram: &Telegram) {
     let told = balise.linking().expect(rt, "memory");
     let others = telegram.linking().expect(rt, "memory");
+    check_told(rt, told.as_slice(), others.as_slice());
+}
+
+/// That these are the same packets with the same elements.
+fn check_told(rt: &impl Abort, told: &[(PacketTag, Vec<Id>)], others: &[(PacketTag, Vec<Id>)]) {
     assert!(rt; told.len() == others.len());
     for (one, other) in told.iter().zip(others.iter()) {
         assert!(rt; one.0 == other.0);
@@ -223,23 +241,46 @@ fn tells(told: Option<&(PacketTag, Vec<Id>)>, place: u32, links: &[Id]) -> bool 
     }
 }
 
+/// That both move the first packet alike, and back, and then change alike.
+fn check_moves(rt: &impl Abort, balise: &mut Balise, telegram: &mut Telegram) {
+    let (first, second) = (PacketTag::Base(0), PacketTag::Base(1));
+    let moved = balise.shift_after(first, Some(second));
+    assert!(rt; moved == telegram.shift_after(first, Some(second)));
+    check_alike(rt, balise, telegram);
+    let back = balise.shift_before(first, Some(second));
+    assert!(rt; back == telegram.shift_before(first, Some(second)));
+    check_alike(rt, balise, telegram);
+    check_changes(rt, balise, telegram);
+}
+
+/// What stood behind the packet that is taken out of each.
+fn taken(
+    rt: &impl Abort,
+    balise: &mut Balise,
+    telegram: &mut Telegram,
+    tag: PacketTag,
+) -> (Option<PacketTag>, Option<PacketTag>) {
+    let next = balise.take(tag).expect(rt, "a packet").1;
+    (next, telegram.take(tag).expect(rt, "a packet").1)
+}
+
 #[test]
 fn tells_and_changes_the_same_once_open(rt: HostRuntime) {
     let alloc = rt.alloc();
     for text in [EACH_KIND, EARLIER_VERSION, FULL, TWO_PACKETS] {
         let (mut balise, mut telegram) = (balise(&rt, alloc, text), telegram(&rt, alloc, text));
-        let (first, second) = (PacketTag::Base(0), PacketTag::Base(1));
-        let moved = balise.shift_after(first, Some(second));
-        assert!(rt; moved == telegram.shift_after(first, Some(second)));
-        check_alike(&rt, &balise, &telegram);
-        let back = balise.shift_before(first, Some(second));
-        assert!(rt; back == telegram.shift_before(first, Some(second)));
-        check_alike(&rt, &balise, &telegram);
-        check_changes(&rt, &mut balise, &mut telegram);
-        let (_, next) = balise.take(second).expect(&rt, "a packet");
-        assert!(rt; next == telegram.take(second).expect(&rt, "a packet").1);
+        check_moves(&rt, &mut balise, &mut telegram);
+        let (next, other) = taken(&rt, &mut balise, &mut telegram, PacketTag::Base(1));
+        assert!(rt; next == other);
         check_alike(&rt, &balise, &telegram);
     }
+}
+
+/// What a telegram holds.
+fn check_held(rt: &impl Abort, alloc: Global, text: &str, count: usize, bits: (usize, usize)) {
+    let balise = balise(rt, alloc, text);
+    assert_eq!(rt; balise.count(), count, "{text}");
+    assert_eq!(rt; (balise.used(), balise.room()), bits, "{text}");
 }
 
 #[test]
@@ -252,9 +293,6 @@ fn both_forms_of_the_fullest_have_no_room(rt: HostRuntime) {
         (LONG, 0, 58, 772),
         (SHORT, 0, 58, 152),
     ] {
-        let balise = balise(&rt, alloc, text);
-        assert_eq!(rt; balise.count(), count, "{text}");
-        assert_eq!(rt; balise.used(), used, "{text}");
-        assert_eq!(rt; balise.room(), room, "{text}");
+        check_held(&rt, alloc, text, count, (used, room));
     }
 }

@@ -1,7 +1,9 @@
 //! What turning and renumbering change, and copies, with digits made by hand.
 
 use crate::telegrams::{TWO_PACKETS, shows, telegram};
-use balise_telegram::{Id, PacketTag, Var};
+use balise_telegram::{Id, PacketTag, Telegram, Var};
+use std::alloc::Global;
+use std::process::Abort;
 
 /// One packet 5 with one element.
 pub(crate) const LINKING: &str = "a1007f80a032c15022a07d00326301ffffffffffffffffffffffc0";
@@ -66,13 +68,18 @@ fn puts_variables_of_the_header(rt: HostRuntime) {
     assert!(rt; shows(&rt, alloc, &telegram, HEADER_PUT));
 }
 
+/// That a copy still has two packets.
+fn check_copy(rt: &impl Abort, alloc: Global, copy: &Telegram) {
+    assert_eq!(rt; copy.count(), 2);
+    assert!(rt; copy.packet(PacketTag::Base(1)).is_some());
+    assert!(rt; shows(rt, alloc, copy, TWO_PACKETS));
+}
+
 #[test]
 fn copies_a_telegram(rt: HostRuntime) {
     let alloc = rt.alloc();
     let mut telegram = telegram(&rt, alloc, TWO_PACKETS);
     let copy = telegram.copy().expect(&rt, "memory");
     assert!(rt; telegram.take(PacketTag::Base(0)).is_ok());
-    assert_eq!(rt; copy.count(), 2);
-    assert!(rt; copy.packet(PacketTag::Base(1)).is_some());
-    assert!(rt; shows(&rt, alloc, &copy, TWO_PACKETS));
+    check_copy(&rt, alloc, &copy);
 }

@@ -42,6 +42,12 @@ fn taken(rt: &impl Abort, telegram: &mut Telegram, tag: PacketTag) -> Packet {
     telegram.take(tag).expect(rt, "a packet").0
 }
 
+/// That a copy of the telegram shows these digits.
+fn check_copy(rt: &impl Abort, alloc: Global, telegram: &Telegram, text: &str) {
+    let copy = telegram.copy().expect(rt, "memory");
+    assert!(rt; shows(rt, alloc, &copy, text));
+}
+
 #[test]
 fn shows_and_copies_33_packets(rt: HostRuntime) {
     let alloc = rt.alloc();
@@ -51,8 +57,7 @@ fn shows_and_copies_33_packets(rt: HostRuntime) {
     assert_eq!(rt; telegram.used(), 817);
     assert_eq!(rt; telegram.room(), 13);
     assert!(rt; shows(&rt, alloc, &telegram, FULL));
-    let copy = telegram.copy().expect(&rt, "memory");
-    assert!(rt; shows(&rt, alloc, &copy, FULL));
+    check_copy(&rt, alloc, &telegram, FULL);
 }
 
 #[test]
@@ -107,6 +112,38 @@ fn moves_among_33_packets(rt: HostRuntime) {
     assert!(rt; shows(&rt, alloc, &telegram, FULL));
 }
 
+/// That a packet that is longer than the room is handed back.
+fn check_longer(rt: &impl Abort, telegram: &mut Telegram, longer: &Bits) {
+    let tag = PacketTag::Fresh(1);
+    let outcome = put_after(rt, telegram, None, tag, packet(rt, longer));
+    assert!(rt; handed_back(rt, outcome, longer) == Some(TelegramFault::NoRoom));
+    let outcome = put_before(rt, telegram, None, tag, packet(rt, longer));
+    assert!(rt; handed_back(rt, outcome, longer) == Some(TelegramFault::NoRoom));
+}
+
+/// That a packet that is as long as the room is put in, taken out and put in.
+fn check_fitting(
+    rt: &impl Abort,
+    alloc: Global,
+    telegram: &mut Telegram,
+    fitting: Packet,
+    after: &str,
+) {
+    let tag = PacketTag::Fresh(1);
+    assert!(rt;
+        put_after(rt, telegram, None, tag, fitting).is_ok(),
+        "{after}"
+    );
+    assert!(rt; shows(rt, alloc, telegram, after));
+    assert_eq!(rt; telegram.room(), 0);
+    let fitting = taken(rt, telegram, tag);
+    assert!(rt;
+        put_before(rt, telegram, None, tag, fitting).is_ok(),
+        "{after}"
+    );
+    assert!(rt; shows(rt, alloc, telegram, after));
+}
+
 #[test]
 fn fills_the_room_exactly(rt: HostRuntime) {
     let alloc = rt.alloc();
@@ -123,25 +160,9 @@ fn fills_the_room_exactly(rt: HostRuntime) {
         ),
     ] {
         let mut telegram = telegram(&rt, alloc, before);
-        let tag = PacketTag::Fresh(1);
-        let longer = opaque(&rt, alloc, room + 1);
-        let outcome = put_after(&rt, &mut telegram, None, tag, packet(&rt, &longer));
-        assert!(rt; handed_back(&rt, outcome, &longer) == Some(TelegramFault::NoRoom));
-        let outcome = put_before(&rt, &mut telegram, None, tag, packet(&rt, &longer));
-        assert!(rt; handed_back(&rt, outcome, &longer) == Some(TelegramFault::NoRoom));
+        check_longer(&rt, &mut telegram, &opaque(&rt, alloc, room + 1));
         assert!(rt; shows(&rt, alloc, &telegram, before));
         let fitting = packet(&rt, &opaque(&rt, alloc, room));
-        assert!(rt;
-            put_after(&rt, &mut telegram, None, tag, fitting).is_ok(),
-            "{room}"
-        );
-        assert!(rt; shows(&rt, alloc, &telegram, after));
-        assert_eq!(rt; telegram.room(), 0);
-        let fitting = taken(&rt, &mut telegram, tag);
-        assert!(rt;
-            put_before(&rt, &mut telegram, None, tag, fitting).is_ok(),
-            "{room}"
-        );
-        assert!(rt; shows(&rt, alloc, &telegram, after));
+        check_fitting(&rt, alloc, &mut telegram, fitting, after);
     }
 }

@@ -78,21 +78,43 @@ fn has(telegram: &Telegram, restrictions: &[u32]) -> bool {
     same
 }
 
+/// That a packet is put into a telegram that shows these digits, and then those, and taken out again.
+fn check_put(rt: &impl Abort, alloc: Global, telegram: &mut Telegram, before: &str, after: &str) {
+    let tag = PacketTag::Fresh(1);
+    let five = packet(rt, alloc, FIVE);
+    assert!(rt; put_after(rt, telegram, None, tag, five).is_ok());
+    assert!(rt; shows(rt, alloc, telegram, after));
+    let (packet, next) = telegram.take(tag).expect(rt, "a packet");
+    assert!(rt; packet.field(Var::NidTsr, 0) == Some(5));
+    assert!(rt; next.is_none());
+    assert!(rt; shows(rt, alloc, telegram, before));
+    assert!(rt; telegram.take(tag).is_err());
+}
+
 #[test]
 fn puts_a_packet_in_and_takes_it_out(rt: HostRuntime) {
     let alloc = rt.alloc();
     for (before, after) in [(SHORT, ONE_PACKET), (COLOURED, COLOURED_ONE)] {
         let mut telegram = telegram(&rt, alloc, before);
-        let tag = PacketTag::Fresh(1);
-        let five = packet(&rt, alloc, FIVE);
-        assert!(rt; put_after(&rt, &mut telegram, None, tag, five).is_ok());
-        assert!(rt; shows(&rt, alloc, &telegram, after));
-        let (packet, next) = telegram.take(tag).expect(&rt, "a packet");
-        assert!(rt; packet.field(Var::NidTsr, 0) == Some(5));
-        assert!(rt; next.is_none());
-        assert!(rt; shows(&rt, alloc, &telegram, before));
-        assert!(rt; telegram.take(tag).is_err());
+        check_put(&rt, alloc, &mut telegram, before, after);
     }
+}
+
+/// That a packet is put in after the anchor, changed and taken out.
+fn check_after(
+    rt: &impl Abort,
+    alloc: Global,
+    telegram: &mut Telegram,
+    anchor: Option<PacketTag>,
+    tag: PacketTag,
+    restrictions: &[u32],
+) {
+    let nine = packet(rt, alloc, NINE);
+    assert!(rt; put_after(rt, telegram, anchor, tag, nine).is_ok());
+    assert!(rt; has(telegram, restrictions));
+    assert!(rt; telegram.set_field(tag, Var::NidTsr, 0, 8) == Ok(9));
+    assert!(rt; telegram.take(tag).is_ok());
+    assert!(rt; shows(rt, alloc, telegram, TWO_PACKETS));
 }
 
 #[test]
@@ -104,13 +126,25 @@ fn puts_a_packet_in_after_another(rt: HostRuntime) {
         (Some(PacketTag::Base(1)), PacketTag::Fresh(2), [5, 7, 9]),
         (None, PacketTag::Fresh(3), [9, 5, 7]),
     ] {
-        let nine = packet(&rt, alloc, NINE);
-        assert!(rt; put_after(&rt, &mut telegram, anchor, tag, nine).is_ok());
-        assert!(rt; has(&telegram, &restrictions));
-        assert!(rt; telegram.set_field(tag, Var::NidTsr, 0, 8) == Ok(9));
-        assert!(rt; telegram.take(tag).is_ok());
-        assert!(rt; shows(&rt, alloc, &telegram, TWO_PACKETS));
+        check_after(&rt, alloc, &mut telegram, anchor, tag, &restrictions);
     }
+}
+
+/// That a packet is put in before the neighbour, and taken out.
+fn check_before(
+    rt: &impl Abort,
+    alloc: Global,
+    telegram: &mut Telegram,
+    next: Option<PacketTag>,
+    tag: PacketTag,
+    restrictions: &[u32],
+) {
+    let nine = packet(rt, alloc, NINE);
+    assert!(rt; put_before(rt, telegram, next, tag, nine).is_ok());
+    assert!(rt; has(telegram, restrictions));
+    let (_, was) = telegram.take(tag).expect(rt, "a packet");
+    assert!(rt; was == next);
+    assert!(rt; shows(rt, alloc, telegram, TWO_PACKETS));
 }
 
 #[test]
@@ -122,12 +156,31 @@ fn puts_a_packet_in_before_another(rt: HostRuntime) {
         (Some(PacketTag::Base(1)), PacketTag::Fresh(2), [5, 9, 7]),
         (None, PacketTag::Fresh(3), [5, 7, 9]),
     ] {
-        let nine = packet(&rt, alloc, NINE);
-        assert!(rt; put_before(&rt, &mut telegram, next, tag, nine).is_ok());
-        assert!(rt; has(&telegram, &restrictions));
-        let (_, was) = telegram.take(tag).expect(&rt, "a packet");
-        assert!(rt; was == next);
-        assert!(rt; shows(&rt, alloc, &telegram, TWO_PACKETS));
+        check_before(&rt, alloc, &mut telegram, next, tag, &restrictions);
+    }
+}
+
+/// That a packet is handed back that is put in after or before this one, and why.
+fn check_handed_back(
+    rt: &impl Abort,
+    alloc: Global,
+    telegram: &mut Telegram,
+    beside: Option<PacketTag>,
+    fault: TelegramFault,
+) {
+    let (given, tag) = (packet_bits(rt, alloc, NINE), PacketTag::Fresh(9));
+    let nine = packet(rt, alloc, NINE);
+    let outcome = put_after(rt, telegram, beside, tag, nine);
+    assert!(rt; handed_back(rt, outcome, &given) == Some(fault));
+    let nine = packet(rt, alloc, NINE);
+    let outcome = put_before(rt, telegram, beside, tag, nine);
+    assert!(rt; handed_back(rt, outcome, &given) == Some(fault));
+}
+
+fn put_two_last(rt: &impl Abort, alloc: Global, telegram: &mut Telegram) {
+    for n in 0..2 {
+        let five = packet(rt, alloc, FIVE);
+        assert!(rt; put_before(rt, telegram, None, PacketTag::Fresh(n), five).is_ok());
     }
 }
 
@@ -135,28 +188,35 @@ fn puts_a_packet_in_before_another(rt: HostRuntime) {
 fn hands_a_refused_packet_back(rt: HostRuntime) {
     let alloc = rt.alloc();
     let mut telegram = telegram(&rt, alloc, TWO_PACKETS);
-    let given = packet_bits(&rt, alloc, NINE);
-    let (lacking, tag) = (Some(PacketTag::Base(2)), PacketTag::Fresh(9));
-    let nine = packet(&rt, alloc, NINE);
-    let outcome = put_after(&rt, &mut telegram, lacking, tag, nine);
-    assert!(rt; handed_back(&rt, outcome, &given) == Some(TelegramFault::NoSuchPacket));
-    let nine = packet(&rt, alloc, NINE);
-    let outcome = put_before(&rt, &mut telegram, lacking, tag, nine);
-    assert!(rt; handed_back(&rt, outcome, &given) == Some(TelegramFault::NoSuchPacket));
+    let lacking = Some(PacketTag::Base(2));
+    check_handed_back(
+        &rt,
+        alloc,
+        &mut telegram,
+        lacking,
+        TelegramFault::NoSuchPacket,
+    );
     assert!(rt; shows(&rt, alloc, &telegram, TWO_PACKETS));
-    for n in 0..2 {
-        let five = packet(&rt, alloc, FIVE);
-        assert!(rt; put_before(&rt, &mut telegram, None, PacketTag::Fresh(n), five).is_ok());
-    }
+    put_two_last(&rt, alloc, &mut telegram);
     assert_eq!(rt; telegram.room(), 28);
-    let nine = packet(&rt, alloc, NINE);
-    let outcome = put_after(&rt, &mut telegram, None, tag, nine);
-    assert!(rt; handed_back(&rt, outcome, &given) == Some(TelegramFault::NoRoom));
-    let nine = packet(&rt, alloc, NINE);
-    let outcome = put_before(&rt, &mut telegram, None, tag, nine);
-    assert!(rt; handed_back(&rt, outcome, &given) == Some(TelegramFault::NoRoom));
+    check_handed_back(&rt, alloc, &mut telegram, None, TelegramFault::NoRoom);
     assert_eq!(rt; TelegramFault::NoRoom.refusal().number(), 20);
     assert!(rt; has(&telegram, &[5, 7, 5, 5]));
+}
+
+/// That one of two packets is moved behind the other and back.
+fn check_moved_after(rt: &impl Abort, alloc: Global, telegram: &mut Telegram) {
+    let (first, second) = (PacketTag::Base(0), PacketTag::Base(1));
+    assert!(rt; telegram.shift_after(first, Some(second)) == Ok(Some(second)));
+    assert!(rt; shows(rt, alloc, telegram, EXCHANGED));
+    assert!(rt; telegram.shift_after(first, None) == Ok(None));
+    assert!(rt; shows(rt, alloc, telegram, TWO_PACKETS));
+}
+
+/// Puts a third packet in last.
+fn put_third(rt: &impl Abort, alloc: Global, telegram: &mut Telegram, third: PacketTag) {
+    let nine = packet(rt, alloc, NINE);
+    assert!(rt; put_before(rt, telegram, None, third, nine).is_ok());
 }
 
 #[test]
@@ -164,13 +224,9 @@ fn moves_a_packet(rt: HostRuntime) {
     let alloc = rt.alloc();
     let mut telegram = telegram(&rt, alloc, TWO_PACKETS);
     let (first, second) = (PacketTag::Base(0), PacketTag::Base(1));
-    assert!(rt; telegram.shift_after(first, Some(second)) == Ok(Some(second)));
-    assert!(rt; shows(&rt, alloc, &telegram, EXCHANGED));
-    assert!(rt; telegram.shift_after(first, None) == Ok(None));
-    assert!(rt; shows(&rt, alloc, &telegram, TWO_PACKETS));
+    check_moved_after(&rt, alloc, &mut telegram);
     let third = PacketTag::Fresh(1);
-    let nine = packet(&rt, alloc, NINE);
-    assert!(rt; put_before(&rt, &mut telegram, None, third, nine).is_ok());
+    put_third(&rt, alloc, &mut telegram, third);
     assert!(rt; telegram.shift_after(third, Some(first)) == Ok(None));
     assert!(rt; has(&telegram, &[5, 9, 7]));
     assert!(rt; telegram.shift_after(first, Some(third)) == Ok(Some(third)));
@@ -179,18 +235,23 @@ fn moves_a_packet(rt: HostRuntime) {
     assert!(rt; has(&telegram, &[7, 9, 5]));
 }
 
+/// That one of two packets is moved before the other and back.
+fn check_moved_before(rt: &impl Abort, alloc: Global, telegram: &mut Telegram) {
+    let (first, second) = (PacketTag::Base(0), PacketTag::Base(1));
+    assert!(rt; telegram.shift_before(second, Some(first)) == Ok(None));
+    assert!(rt; shows(rt, alloc, telegram, EXCHANGED));
+    assert!(rt; telegram.shift_before(second, None) == Ok(Some(first)));
+    assert!(rt; shows(rt, alloc, telegram, TWO_PACKETS));
+}
+
 #[test]
 fn moves_a_packet_before_a_neighbour(rt: HostRuntime) {
     let alloc = rt.alloc();
     let mut telegram = telegram(&rt, alloc, TWO_PACKETS);
     let (first, second) = (PacketTag::Base(0), PacketTag::Base(1));
-    assert!(rt; telegram.shift_before(second, Some(first)) == Ok(None));
-    assert!(rt; shows(&rt, alloc, &telegram, EXCHANGED));
-    assert!(rt; telegram.shift_before(second, None) == Ok(Some(first)));
-    assert!(rt; shows(&rt, alloc, &telegram, TWO_PACKETS));
+    check_moved_before(&rt, alloc, &mut telegram);
     let third = PacketTag::Fresh(1);
-    let nine = packet(&rt, alloc, NINE);
-    assert!(rt; put_before(&rt, &mut telegram, None, third, nine).is_ok());
+    put_third(&rt, alloc, &mut telegram, third);
     assert!(rt; telegram.shift_before(first, Some(third)) == Ok(Some(second)));
     assert!(rt; has(&telegram, &[7, 5, 9]));
     assert!(rt; telegram.shift_before(third, Some(first)) == Ok(None));

@@ -10,16 +10,16 @@ fn read(rt: &impl Abort, alloc: Global, text: &str, len: usize) -> Option<Telegr
     let fault = crate::packed::read(rt, &bits);
     match Telegram::read(alloc, bits.copy().expect(rt, "memory")) {
         Ok(telegram) => {
-            let shown = telegram.shown().expect(rt, "memory");
-            assert!(rt; shown == bits, "{text}");
+            assert!(rt; shows_bits(rt, &telegram, &bits), "{text}");
             assert!(rt; fault.is_none(), "{text}");
-            None
         }
-        Err(other) => {
-            assert!(rt; fault == Some(other), "{text}");
-            fault
-        }
+        Err(other) => assert!(rt; fault == Some(other), "{text}"),
     }
+    fault
+}
+
+fn shows_bits(rt: &impl Abort, telegram: &Telegram, bits: &Bits) -> bool {
+    telegram.shown().expect(rt, "memory") == *bits
 }
 
 #[test]
@@ -34,6 +34,11 @@ fn shows_what_was_read(rt: HostRuntime) {
     ] {
         assert!(rt; read(&rt, rt.alloc(), text, 210).is_none(), "{text}");
     }
+}
+
+/// That reading these digits answers this fault.
+fn check_fault(rt: &impl Abort, alloc: Global, text: &str, len: usize, fault: TelegramFault) {
+    assert!(rt; read(rt, alloc, text, len) == Some(fault), "{text}");
 }
 
 #[test]
@@ -60,9 +65,9 @@ fn says_the_first_fault(rt: HostRuntime) {
             TelegramFault::LayoutMismatch,
         ),
     ] {
-        assert!(rt; read(&rt, rt.alloc(), text, 210) == Some(fault), "{text}");
+        check_fault(&rt, rt.alloc(), text, 210, fault);
     }
-    assert!(rt; read(&rt, rt.alloc(), "a1007f80", 32) == Some(TelegramFault::BadLength));
+    check_fault(&rt, rt.alloc(), "a1007f80", 32, TelegramFault::BadLength);
     assert_eq!(rt; TelegramFault::NoEnd.refusal().number(), 6);
     assert_eq!(rt; Refusal::from(TelegramFault::PacketCut), Refusal::PacketCut);
 }
@@ -103,7 +108,18 @@ pub(crate) fn telegram(rt: &impl Abort, alloc: Global, text: &str) -> Telegram {
 
 /// Whether the telegram shows these digits.
 pub(crate) fn shows(rt: &impl Abort, alloc: Global, telegram: &Telegram, text: &str) -> bool {
-    telegram.shown().expect(rt, "memory") == bits(rt, alloc, text)
+    shows_bits(rt, telegram, &bits(rt, alloc, text))
+}
+
+/// That the packet at a place is found there and under its tag.
+fn check_found(rt: &impl Abort, telegram: &Telegram, i: u32, restriction: u32) {
+    let (tag, packet) = telegram.at(i as usize).expect(rt, "a packet");
+    assert!(rt; tag == PacketTag::Base(i));
+    assert!(rt; telegram.packet_at(i as usize) == Some((tag, 66)));
+    assert!(rt; telegram.field(tag, Var::NidTsr, 0) == Some(restriction));
+    assert!(rt; packet.field(Var::NidTsr, 0) == Some(restriction));
+    let packet = telegram.packet(tag).expect(rt, "a packet");
+    assert!(rt; packet.field(Var::NidTsr, 0) == Some(restriction));
 }
 
 #[test]
@@ -114,15 +130,8 @@ fn finds_packets(rt: HostRuntime) {
     assert_eq!(rt; telegram.used(), 120);
     assert_eq!(rt; telegram.room(), 90);
     assert_eq!(rt; telegram.version(), 33);
-    for (i, restriction) in [(0, 5), (1, 7)] {
-        let (tag, packet) = telegram.at(i as usize).expect(&rt, "a packet");
-        assert!(rt; tag == PacketTag::Base(i));
-        assert!(rt; telegram.packet_at(i as usize) == Some((tag, 66)));
-        assert!(rt; telegram.field(tag, Var::NidTsr, 0) == Some(restriction));
-        assert!(rt; packet.field(Var::NidTsr, 0) == Some(restriction));
-        let packet = telegram.packet(tag).expect(&rt, "a packet");
-        assert!(rt; packet.field(Var::NidTsr, 0) == Some(restriction));
-    }
+    check_found(&rt, &telegram, 0, 5);
+    check_found(&rt, &telegram, 1, 7);
     assert!(rt; telegram.at(2).is_none());
     assert!(rt; telegram.packet_at(2).is_none());
     for tag in [PacketTag::Base(2), PacketTag::Fresh(0)] {
@@ -134,10 +143,21 @@ fn finds_packets(rt: HostRuntime) {
     }
 }
 
-#[test]
-fn sets_a_field_of_a_packet(rt: HostRuntime) {
-    let alloc = rt.alloc();
-    let mut telegram = telegram(&rt, alloc, TWO_PACKETS);
+/// That a field of the two packets isn't set, for this reason.
+fn check_refused(
+    rt: &impl Abort,
+    alloc: Global,
+    telegram: &mut Telegram,
+    place: (PacketTag, Var, u32),
+    value: u32,
+    fault: TelegramFault,
+) {
+    let (tag, var, k) = place;
+    assert!(rt; telegram.set_field(tag, var, k, value) == Err(fault));
+    assert!(rt; shows(rt, alloc, telegram, TWO_PACKETS));
+}
+
+fn check_fields_refused(rt: &impl Abort, alloc: Global, telegram: &mut Telegram) {
     for (tag, var, k, value, fault) in [
         (
             PacketTag::Base(2),
@@ -182,14 +202,39 @@ fn sets_a_field_of_a_packet(rt: HostRuntime) {
             TelegramFault::ValueTooWide,
         ),
     ] {
-        assert!(rt; telegram.set_field(tag, var, k, value) == Err(fault));
-        assert!(rt; shows(&rt, alloc, &telegram, TWO_PACKETS));
+        check_refused(rt, alloc, telegram, (tag, var, k), value, fault);
     }
+}
+
+#[test]
+fn sets_a_field_of_a_packet(rt: HostRuntime) {
+    let alloc = rt.alloc();
+    let mut telegram = telegram(&rt, alloc, TWO_PACKETS);
+    check_fields_refused(&rt, alloc, &mut telegram);
     let set = "a1007f80a03250900f82a1201f09ffffffffffffffffffffffffc0";
     assert!(rt; telegram.set_field(PacketTag::Base(1), Var::NidTsr, 0, 9) == Ok(7));
     assert!(rt; shows(&rt, alloc, &telegram, set));
     assert!(rt; telegram.set_field(PacketTag::Base(1), Var::NidTsr, 0, 7) == Ok(9));
     assert!(rt; shows(&rt, alloc, &telegram, TWO_PACKETS));
+}
+
+/// That a variable of the header isn't set, for this reason.
+fn check_head_refused(
+    rt: &impl Abort,
+    alloc: Global,
+    telegram: &mut Telegram,
+    var: Var,
+    value: u32,
+    fault: TelegramFault,
+) {
+    assert!(rt; telegram.set_head(var, value) == Err(fault));
+    assert!(rt; shows(rt, alloc, telegram, TWO_PACKETS));
+}
+
+/// That a variable of the header is set.
+fn check_head_set(rt: &impl Abort, telegram: &mut Telegram, var: Var, value: u32, old: u32) {
+    assert!(rt; telegram.set_head(var, value) == Ok(old));
+    assert!(rt; telegram.head(var) == Some(value));
 }
 
 #[test]
@@ -204,17 +249,11 @@ fn sets_a_variable_of_the_header(rt: HostRuntime) {
         (Var::MMcount, 256, TelegramFault::ValueTooWide),
         (Var::QLink, 2, TelegramFault::ValueTooWide),
     ] {
-        assert!(rt; telegram.set_head(var, value) == Err(fault));
-        assert!(rt; shows(&rt, alloc, &telegram, TWO_PACKETS));
+        check_head_refused(&rt, alloc, &mut telegram, var, value, fault);
     }
-    for (var, value, old) in [
-        (Var::MDup, 2, 0),
-        (Var::MMcount, 7, 255),
-        (Var::QLink, 0, 1),
-    ] {
-        assert!(rt; telegram.set_head(var, value) == Ok(old));
-        assert!(rt; telegram.head(var) == Some(value));
-    }
+    check_head_set(&rt, &mut telegram, Var::MDup, 2, 0);
+    check_head_set(&rt, &mut telegram, Var::MMcount, 7, 255);
+    check_head_set(&rt, &mut telegram, Var::QLink, 0, 1);
     let set = "a1010380a03210900f82a1201f07ffffffffffffffffffffffffc0";
     assert!(rt; shows(&rt, alloc, &telegram, set));
 }

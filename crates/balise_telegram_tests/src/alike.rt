@@ -212,25 +212,30 @@ fn packed_and_open_tell_and_change_alike(rt: HostRuntime) {
     }
 }
 
-#[test]
-fn tells_the_packets_that_have_elements(rt: HostRuntime) {
-    let alloc = rt.alloc();
-    let (balise, telegram) = (
-        balise(&rt, alloc, EACH_KIND),
-        telegram(&rt, alloc, EACH_KIND),
-    );
+/// That these are the four packets that have elements.
+fn check_four(rt: &impl Abort, told: &[(PacketTag, Vec<Id>)]) {
     let other = Id {
         country: 6,
         number: 100,
     };
-    for told in [balise.linking(), telegram.linking()] {
-        let told = told.expect(&rt, "memory");
-        assert_eq!(rt; told.len(), 4);
-        let (first, second) = (told.get(0), told.get(1));
-        assert!(rt; tells(first, 0, &[other, other]) && tells(second, 1, &[NAMED]));
-        let (third, fourth) = (told.get(2), told.get(3));
-        assert!(rt; tells(third, 7, &[NAMED]) && tells(fourth, 8, &[other]));
-    }
+    assert_eq!(rt; told.len(), 4);
+    let (first, second) = (told.get(0), told.get(1));
+    assert!(rt; tells(first, 0, &[other, other]) && tells(second, 1, &[NAMED]));
+    let (third, fourth) = (told.get(2), told.get(3));
+    assert!(rt; tells(third, 7, &[NAMED]) && tells(fourth, 8, &[other]));
+}
+
+#[test]
+fn tells_the_packets_that_have_elements(rt: HostRuntime) {
+    let alloc = rt.alloc();
+    let told = balise(&rt, alloc, EACH_KIND)
+        .linking()
+        .expect(&rt, "memory");
+    check_four(&rt, told.as_slice());
+    let told = telegram(&rt, alloc, EACH_KIND)
+        .linking()
+        .expect(&rt, "memory");
+    check_four(&rt, told.as_slice());
 }
 
 /// Whether the packet that was read at a place is told, with these elements.

@@ -174,10 +174,15 @@ fn check_put(rt: &impl Abort, alloc: Global, balise: &mut Balise, first: bool) {
     assert!(rt; put_first_or_last(rt, balise, first, tag, five).is_ok());
     assert!(rt; shows(rt, alloc, balise, ONE_PACKET));
     assert!(rt; balise.packet_at(0) == Some((tag, 66)));
+    take_last(rt, balise, tag);
+    assert!(rt; shows(rt, alloc, balise, SHORT));
+}
+
+/// Takes the last packet out, which takes back restriction 5.
+fn take_last(rt: &impl Abort, balise: &mut Balise, tag: PacketTag) {
     let (packet, next) = balise.take(tag).expect(rt, "a packet");
     assert!(rt; packet.field(Var::NidTsr, 0) == Some(5));
     assert!(rt; next.is_none());
-    assert!(rt; shows(rt, alloc, balise, SHORT));
 }
 
 #[test]
@@ -285,11 +290,16 @@ fn check_digits(rt: &impl Abort, balise: &Balise, digits: &mut Vec<u8>, text: &s
     }
 }
 
+fn check_full_digits(rt: &impl Abort, alloc: Global, digits: &mut Vec<u8>) {
+    let full = balise(rt, alloc, FULL);
+    check_digits(rt, &full, digits, FULL);
+}
+
 #[test]
 fn writes_the_digits_of_either_form(rt: HostRuntime) {
     let alloc = rt.alloc();
     let mut digits = Vec::new(alloc);
-    check_digits(&rt, &balise(&rt, alloc, FULL), &mut digits, FULL);
+    check_full_digits(&rt, alloc, &mut digits);
     let (packed, open) = both_forms(&rt, alloc);
     check_digits(&rt, &packed, &mut digits, TWO_PACKETS);
     check_digits(&rt, &open, &mut digits, TWO_PACKETS);

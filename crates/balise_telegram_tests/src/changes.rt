@@ -68,6 +68,10 @@ fn puts_variables_of_the_header(rt: HostRuntime) {
     assert!(rt; shows(&rt, alloc, &telegram, HEADER_PUT));
 }
 
+fn take_first(rt: &impl Abort, telegram: &mut Telegram) {
+    assert!(rt; telegram.take(PacketTag::Base(0)).is_ok());
+}
+
 /// That a copy still has two packets.
 fn check_copy(rt: &impl Abort, alloc: Global, copy: &Telegram) {
     assert_eq!(rt; copy.count(), 2);
@@ -80,6 +84,6 @@ fn copies_a_telegram(rt: HostRuntime) {
     let alloc = rt.alloc();
     let mut telegram = telegram(&rt, alloc, TWO_PACKETS);
     let copy = telegram.copy().expect(&rt, "memory");
-    assert!(rt; telegram.take(PacketTag::Base(0)).is_ok());
+    take_first(&rt, &mut telegram);
     check_copy(&rt, alloc, &copy);
 }

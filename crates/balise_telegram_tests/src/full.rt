@@ -42,6 +42,14 @@ fn taken(rt: &impl Abort, telegram: &mut Telegram, tag: PacketTag) -> Packet {
     telegram.take(tag).expect(rt, "a packet").0
 }
 
+/// That the telegram tells of 33 packets.
+fn check_filled(rt: &impl Abort, telegram: &Telegram) {
+    assert_eq!(rt; telegram.width(), 830);
+    assert_eq!(rt; telegram.count(), 33);
+    assert_eq!(rt; telegram.used(), 817);
+    assert_eq!(rt; telegram.room(), 13);
+}
+
 /// That a copy of the telegram shows these digits.
 fn check_copy(rt: &impl Abort, alloc: Global, telegram: &Telegram, text: &str) {
     let copy = telegram.copy().expect(rt, "memory");
@@ -52,10 +60,7 @@ fn check_copy(rt: &impl Abort, alloc: Global, telegram: &Telegram, text: &str) {
 fn shows_and_copies_33_packets(rt: HostRuntime) {
     let alloc = rt.alloc();
     let telegram = telegram(&rt, alloc, FULL);
-    assert_eq!(rt; telegram.width(), 830);
-    assert_eq!(rt; telegram.count(), 33);
-    assert_eq!(rt; telegram.used(), 817);
-    assert_eq!(rt; telegram.room(), 13);
+    check_filled(&rt, &telegram);
     assert!(rt; shows(&rt, alloc, &telegram, FULL));
     check_copy(&rt, alloc, &telegram, FULL);
 }

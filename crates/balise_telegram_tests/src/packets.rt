@@ -84,11 +84,16 @@ fn check_put(rt: &impl Abort, alloc: Global, telegram: &mut Telegram, before: &s
     let five = packet(rt, alloc, FIVE);
     assert!(rt; put_after(rt, telegram, None, tag, five).is_ok());
     assert!(rt; shows(rt, alloc, telegram, after));
+    take_last(rt, telegram, tag);
+    assert!(rt; shows(rt, alloc, telegram, before));
+    assert!(rt; telegram.take(tag).is_err());
+}
+
+/// Takes the last packet out, which takes back restriction 5.
+fn take_last(rt: &impl Abort, telegram: &mut Telegram, tag: PacketTag) {
     let (packet, next) = telegram.take(tag).expect(rt, "a packet");
     assert!(rt; packet.field(Var::NidTsr, 0) == Some(5));
     assert!(rt; next.is_none());
-    assert!(rt; shows(rt, alloc, telegram, before));
-    assert!(rt; telegram.take(tag).is_err());
 }
 
 #[test]

@@ -122,16 +122,16 @@ fn check_found(rt: &impl Abort, telegram: &Telegram, i: u32, restriction: u32) {
     assert!(rt; packet.field(Var::NidTsr, 0) == Some(restriction));
 }
 
-#[test]
-fn finds_packets(rt: HostRuntime) {
-    let telegram = telegram(&rt, rt.alloc(), TWO_PACKETS);
+fn check_whole(rt: &impl Abort, telegram: &Telegram) {
     assert_eq!(rt; telegram.count(), 2);
     assert_eq!(rt; telegram.width(), 210);
     assert_eq!(rt; telegram.used(), 120);
     assert_eq!(rt; telegram.room(), 90);
     assert_eq!(rt; telegram.version(), 33);
-    check_found(&rt, &telegram, 0, 5);
-    check_found(&rt, &telegram, 1, 7);
+}
+
+/// That nothing is found where there is no packet, nor in the header.
+fn check_lacking(rt: &impl Abort, telegram: &Telegram) {
     assert!(rt; telegram.at(2).is_none());
     assert!(rt; telegram.packet_at(2).is_none());
     for tag in [PacketTag::Base(2), PacketTag::Fresh(0)] {
@@ -141,6 +141,15 @@ fn finds_packets(rt: HostRuntime) {
     for (var, value) in [(Var::MMcount, Some(255)), (Var::NidTsr, None)] {
         assert!(rt; telegram.head(var) == value);
     }
+}
+
+#[test]
+fn finds_packets(rt: HostRuntime) {
+    let telegram = telegram(&rt, rt.alloc(), TWO_PACKETS);
+    check_whole(&rt, &telegram);
+    check_found(&rt, &telegram, 0, 5);
+    check_found(&rt, &telegram, 1, 7);
+    check_lacking(&rt, &telegram);
 }
 
 /// That a field of the two packets isn't set, for this reason.

@@ -2,7 +2,7 @@
 
 use crate::digits::{EMPTY, LINKING, LONG, THREE};
 use crate::plans::{shows, telegrams};
-use balise_plan::{GroupReader, Plan, Refusal};
+use balise_plan::{Bits, GroupReader, Plan, Refusal};
 use std::alloc::Global;
 use std::process::Abort;
 
@@ -24,10 +24,15 @@ fn read(rt: &impl Abort, alloc: Global, text: &str) -> GroupReader {
     reader
 }
 
-#[test]
-fn groups_pushed(rt: HostRuntime) {
-    let alloc = rt.alloc();
-    let mut plan = Plan::empty(alloc);
+/// Pushes a group of these digits.
+fn push(rt: &impl Abort, alloc: Global, plan: &mut Plan, text: &str, answer: Result<(), Refusal>) {
+    let group = read(rt, alloc, text);
+    assert!(rt; plan.changes() == 0);
+    assert!(rt; plan.push_group(group) == answer);
+}
+
+/// Pushes groups, some of which are refused.
+fn push_each(rt: &impl Abort, alloc: Global, plan: &mut Plan) {
     for (text, answer) in [
         (THREE, Ok(())),
         (LINKING, Ok(())),
@@ -36,12 +41,32 @@ fn groups_pushed(rt: HostRuntime) {
         (ONE_OF_TWO, Err(Refusal::HeaderDisagrees)),
         (RESERVED, Err(Refusal::NumberReserved)),
     ] {
-        let group = read(&rt, alloc, text);
-        assert!(rt; plan.changes() == 0);
-        assert!(rt; plan.push_group(group) == answer);
+        push(rt, alloc, plan, text, answer);
     }
     assert_eq!(rt; plan.changes(), 0);
+}
+
+#[test]
+fn groups_pushed(rt: HostRuntime) {
+    let alloc = rt.alloc();
+    let mut plan = Plan::empty(alloc);
+    push_each(&rt, alloc, &mut plan);
     assert!(rt; shows(&rt, alloc, &plan, &[THREE, LINKING]));
+}
+
+/// Pushes a telegram of 830 bits as this one of eight. A ninth is refused.
+fn push_one_of_eight(rt: &impl Abort, reader: &mut GroupReader, bits: Bits, pig: u32) {
+    let mut bits = bits;
+    assert!(rt; bits.len() == 830);
+    bits.put(9, 3, pig % 8);
+    assert!(rt; bits.len() == 830);
+    bits.put(12, 3, 7);
+    let answer = if pig < 8 {
+        Ok(())
+    } else {
+        Err(Refusal::GroupSize)
+    };
+    assert!(rt; reader.push(bits) == answer);
 }
 
 #[test]
@@ -50,17 +75,7 @@ fn eight_telegrams_and_no_ninth(rt: HostRuntime) {
     let mut reader = GroupReader::new(alloc);
     for pig in 0..9 {
         for bits in telegrams(&rt, alloc, LONG) {
-            let mut bits = bits;
-            assert!(rt; bits.len() == 830);
-            bits.put(9, 3, pig % 8);
-            assert!(rt; bits.len() == 830);
-            bits.put(12, 3, 7);
-            let answer = if pig < 8 {
-                Ok(())
-            } else {
-                Err(Refusal::GroupSize)
-            };
-            assert!(rt; reader.push(bits) == answer);
+            push_one_of_eight(&rt, &mut reader, bits, pig);
         }
     }
     let group = reader.done().expect(&rt, "a group");

@@ -1,7 +1,7 @@
 //! The fullest telegrams and groups. No contract says that memory is there, so each call that takes it is made on them.
 
 use crate::digits::LONG;
-use crate::plans::{id, read, shows};
+use crate::plans::{id, plan_of, shows};
 use crate::steps::{Answer, Step, make, put_back};
 use crate::walking::agrees;
 use balise_plan::{Bits, GroupTag, PacketTag, Plan, Refusal, Spot};
@@ -69,36 +69,22 @@ fn holds(rt: &impl Abort, alloc: Global, plan: &Plan, text: &str, other: &str) -
     same & agrees(rt, alloc, plan, [].as_slice()) & agrees(rt, alloc, &copy, [].as_slice())
 }
 
-#[test]
-fn renumbers_179_links_at_once(rt: HostRuntime) {
-    let alloc = rt.alloc();
-    let mut plan = Plan::read(alloc, nine(&rt, alloc, LONG, ELEMENTS)).expect(&rt, "a plan");
+/// Makes a change that is accepted.
+fn change(rt: &impl Abort, alloc: Global, plan: &mut Plan, step: Step, answer: Answer) {
+    assert!(rt; make(rt, alloc, plan, step) == Ok(answer));
+}
+
+/// Puts 20 packets that name 5.100 into each of eight telegrams.
+fn put_160(rt: &impl Abort, alloc: Global, plan: &mut Plan) {
     for n in 0..160 {
-        let step = Step::Put(
-            FIRST,
-            n % 8,
-            Spot::Before(None),
-            PacketTag::Fresh(n),
-            "88404c0190",
-        );
-        assert!(rt; make(&rt, alloc, &mut plan, step) == Ok(Answer::Done));
+        let (last, new) = (Spot::Before(None), PacketTag::Fresh(n));
+        let step = Step::Put(FIRST, n % 8, last, new, "88404c0190");
+        change(rt, alloc, plan, step, Answer::Done);
     }
-    assert!(rt; holds(&rt, alloc, &plan, NAMING, ELEMENTS));
-    assert_eq!(rt;
-        plan.links_to(id(5, 100)).map(|links| links.len()),
-        Some(179)
-    );
-    let step = Step::Rename(FIRST, 200);
-    assert!(rt; make(&rt, alloc, &mut plan, step) == Ok(Answer::Old(100)));
-    assert!(rt; holds(&rt, alloc, &plan, RENUMBERED, ELEMENTS_RENUMBERED));
-    let step = Step::Turn(FIRST);
-    assert!(rt; make(&rt, alloc, &mut plan, step) == Ok(Answer::Done));
-    assert!(rt; holds(&rt, alloc, &plan, TURNED, ELEMENTS_FLIPPED));
-    assert!(rt; make(&rt, alloc, &mut plan, step) == Ok(Answer::Done));
-    let step = Step::Rename(FIRST, 100);
-    assert!(rt; make(&rt, alloc, &mut plan, step) == Ok(Answer::Old(200)));
-    put_back(&rt, &mut plan, FIRST);
-    assert!(rt; holds(&rt, alloc, &plan, NAMING, ELEMENTS));
+}
+
+/// Takes them out again, the first ones first.
+fn take_160(rt: &impl Abort, alloc: Global, plan: &mut Plan) {
     for n in 0..160 {
         let next = if n < 152 {
             Some(PacketTag::Fresh(n + 8))
@@ -106,22 +92,53 @@ fn renumbers_179_links_at_once(rt: HostRuntime) {
             None
         };
         let step = Step::Take(FIRST, n % 8, PacketTag::Fresh(n));
-        assert!(rt; make(&rt, alloc, &mut plan, step) == Ok(Answer::Next(next)));
+        change(rt, alloc, plan, step, Answer::Next(next));
     }
-    assert!(rt; holds(&rt, alloc, &plan, LONG, ELEMENTS));
+}
+
+/// Renumbers and turns the group that 179 links name, and back.
+fn renumber_and_turn(rt: &impl Abort, alloc: Global, plan: &mut Plan) {
+    change(rt, alloc, plan, Step::Rename(FIRST, 200), Answer::Old(100));
+    assert!(rt; holds(rt, alloc, plan, RENUMBERED, ELEMENTS_RENUMBERED));
+    change(rt, alloc, plan, Step::Turn(FIRST), Answer::Done);
+    assert!(rt; holds(rt, alloc, plan, TURNED, ELEMENTS_FLIPPED));
+    change(rt, alloc, plan, Step::Turn(FIRST), Answer::Done);
+    change(rt, alloc, plan, Step::Rename(FIRST, 100), Answer::Old(200));
+}
+
+/// That 179 links name 5.100.
+fn check_links(rt: &impl Abort, plan: &Plan) {
+    let links = plan.links_to(id(5, 100)).map(|links| links.len());
+    assert_eq!(rt; links, Some(179));
 }
 
 #[test]
-fn puts_33_packets_into_a_telegram(rt: HostRuntime) {
+fn renumbers_179_links_at_once(rt: HostRuntime) {
     let alloc = rt.alloc();
-    let mut plan = read(&rt, alloc, &[LONG]).expect(&rt, "a plan");
+    let mut plan = Plan::read(alloc, nine(&rt, alloc, LONG, ELEMENTS)).expect(&rt, "a plan");
+    put_160(&rt, alloc, &mut plan);
+    assert!(rt; holds(&rt, alloc, &plan, NAMING, ELEMENTS));
+    check_links(&rt, &plan);
+    renumber_and_turn(&rt, alloc, &mut plan);
+    put_back(&rt, &mut plan, FIRST);
+    assert!(rt; holds(&rt, alloc, &plan, NAMING, ELEMENTS));
+    take_160(&rt, alloc, &mut plan);
+    assert!(rt; holds(&rt, alloc, &plan, LONG, ELEMENTS));
+}
+
+/// Puts 33 packets in, each before the others, and no further one.
+fn put_33(rt: &impl Abort, alloc: Global, plan: &mut Plan) {
     for n in 0..33 {
         let step = Step::Put(FIRST, 0, Spot::After(None), PacketTag::Fresh(n), "2c402e");
-        assert!(rt; make(&rt, alloc, &mut plan, step) == Ok(Answer::Done));
+        change(rt, alloc, plan, step, Answer::Done);
     }
-    assert!(rt; shows(&rt, alloc, &plan, &[FULL]));
+    assert!(rt; shows(rt, alloc, plan, &[FULL]));
     let step = Step::Put(FIRST, 0, Spot::Before(None), PacketTag::Fresh(33), "2c402e");
-    assert!(rt; make(&rt, alloc, &mut plan, step) == Err(Refusal::NoRoom));
+    assert!(rt; make(rt, alloc, plan, step) == Err(Refusal::NoRoom));
+}
+
+/// Moves the first and the last of them.
+fn shift_ends(rt: &impl Abort, alloc: Global, plan: &mut Plan) {
     let (first, last) = (PacketTag::Fresh(32), PacketTag::Fresh(0));
     for (tag, spot, next) in [
         (last, Spot::After(None), None),
@@ -130,13 +147,31 @@ fn puts_33_packets_into_a_telegram(rt: HostRuntime) {
         (first, Spot::Before(Some(PacketTag::Fresh(31))), None),
     ] {
         let step = Step::Shift(FIRST, 0, tag, spot);
-        assert!(rt; make(&rt, alloc, &mut plan, step) == Ok(Answer::Next(next)));
+        change(rt, alloc, plan, step, Answer::Next(next));
     }
-    let copy = plan.copy().expect(&rt, "memory");
-    assert!(rt; shows(&rt, alloc, &copy, &[FULL]));
+}
+
+/// Takes 33 packets out, the last one first.
+fn take_33(rt: &impl Abort, alloc: Global, plan: &mut Plan) {
     for n in 0..33 {
         let step = Step::Take(FIRST, 0, PacketTag::Fresh(n));
-        assert!(rt; make(&rt, alloc, &mut plan, step) == Ok(Answer::Next(None)));
+        change(rt, alloc, plan, step, Answer::Next(None));
     }
+}
+
+/// That a copy of the plan shows this group.
+fn check_copy(rt: &impl Abort, alloc: Global, plan: &Plan, text: &str) {
+    let copy = plan.copy().expect(rt, "memory");
+    assert!(rt; shows(rt, alloc, &copy, &[text]));
+}
+
+#[test]
+fn puts_33_packets_into_a_telegram(rt: HostRuntime) {
+    let alloc = rt.alloc();
+    let mut plan = plan_of(&rt, alloc, &[LONG]);
+    put_33(&rt, alloc, &mut plan);
+    shift_ends(&rt, alloc, &mut plan);
+    check_copy(&rt, alloc, &plan, FULL);
+    take_33(&rt, alloc, &mut plan);
     assert!(rt; shows(&rt, alloc, &plan, &[LONG]));
 }

@@ -1,10 +1,11 @@
 //! What names what after each change: sessions of commands, whose digits were made by hand or by another program.
 
 use crate::digits::{ABROAD, EMPTY, INFILL, LINKING, REVOCATION, THREE};
-use crate::plans::read;
+use crate::plans::plan_of;
 use crate::steps::{Answer, Step, follow};
-use balise_plan::{GroupTag, PacketTag, Refusal, Spot, Var};
+use balise_plan::{GroupTag, PacketTag, Plan, Refusal, Spot, Var};
 use std::alloc::Global;
+use std::process::Abort;
 
 const FIRST: GroupTag = GroupTag::Base(0);
 
@@ -16,10 +17,8 @@ const PACKET: PacketTag = PacketTag::Base(0);
 
 const SET_ABROAD: &str = "a1007f80a03341503b204b20300c88c08190012d8cffffffffffc0";
 
-#[test]
-fn follows_links_that_are_set(rt: HostRuntime) {
-    let alloc = rt.alloc();
-    let mut plan = read(&rt, alloc, &[ABROAD]).expect(&rt, "a plan");
+/// Sets what a packet names.
+fn set_links(rt: &impl Abort, alloc: Global, plan: &mut Plan) {
     let no_first = "a1007f80a03341503b204b2037ffe8c08190012d8cffffffffffc0";
     let none = "a1007f80a03341503b204b2037ffe8c081907fff8cffffffffffc0";
     let no_second = "a1007f80a03341503b204b20300c88c081907fff8cffffffffffc0";
@@ -36,13 +35,19 @@ fn follows_links_that_are_set(rt: HostRuntime) {
     ] {
         let step = Step::Field(FIRST, 0, PACKET, var, k, value);
         let answer = answer.map(|old| Answer::Old(old));
-        follow(&rt, alloc, &mut plan, step, answer, [text].as_slice());
+        follow(rt, alloc, plan, step, answer, [text].as_slice());
     }
 }
 
 #[test]
-fn follows_renumbered_groups(rt: HostRuntime) {
+fn follows_links_that_are_set(rt: HostRuntime) {
     let alloc = rt.alloc();
+    let mut plan = plan_of(&rt, alloc, &[ABROAD]);
+    set_links(&rt, alloc, &mut plan);
+}
+
+/// Renumbers each of three groups.
+fn renumber(rt: &impl Abort, alloc: Global, plan: &mut Plan) {
     let (first, second) = (
         "a1007f80a0647fffffffffffffffffffffffffffffffffffffffc0",
         "a1007f80a032c15022a07d00646301ffffffffffffffffffffffc0",
@@ -51,7 +56,6 @@ fn follows_renumbered_groups(rt: HostRuntime) {
     let third = "a1007f80a03241503b204b20300c88c0819000c98cffffffffffc0";
     let first_again = "a1007f80a032ffffffffffffffffffffffffffffffffffffffffc0";
     let named_again = "a1007f80a096415022a07d0032e301ffffffffffffffffffffffc0";
-    let mut plan = read(&rt, alloc, &[EMPTY, LINKING, ABROAD]).expect(&rt, "a plan");
     for (group, number, old, texts) in [
         (FIRST, 200, 100, [first, second, ABROAD]),
         (FIRST, 100, 200, [EMPTY, LINKING, ABROAD]),
@@ -62,9 +66,9 @@ fn follows_renumbered_groups(rt: HostRuntime) {
     ] {
         let step = Step::Rename(group, number);
         follow(
-            &rt,
+            rt,
             alloc,
-            &mut plan,
+            plan,
             step,
             Ok(Answer::Old(old)),
             texts.as_slice(),
@@ -73,8 +77,14 @@ fn follows_renumbered_groups(rt: HostRuntime) {
 }
 
 #[test]
-fn follows_turned_groups(rt: HostRuntime) {
+fn follows_renumbered_groups(rt: HostRuntime) {
     let alloc = rt.alloc();
+    let mut plan = plan_of(&rt, alloc, &[EMPTY, LINKING, ABROAD]);
+    renumber(&rt, alloc, &mut plan);
+}
+
+/// Turns a group before and after other changes.
+fn turn(rt: &impl Abort, alloc: Global, plan: &mut Plan) {
     let turned =
         "a1047f80a0327fffffffffffffffffffffffffffffffffffffffc0 a114ff80a0324b1010697fffffffffffffffffffffffffffffffc0 a1257f80a032504023a0a0320096047fffffffffffffffffffffc0";
     let with_packet =
@@ -89,7 +99,6 @@ fn follows_turned_groups(rt: HostRuntime) {
     let flipped_too = "a1007f80a032c15022a07d00642301ffffffffffffffffffffffc0";
     let named = "a1007f80a032c15022a07d00646301ffffffffffffffffffffffc0";
     let (packet, link) = (PacketTag::Fresh(2), PacketTag::Fresh(3));
-    let mut plan = read(&rt, alloc, &[THREE, LINKING]).expect(&rt, "a plan");
     for (step, answer, texts) in [
         (Step::Turn(FIRST), Answer::Done, [turned, flipped]),
         (
@@ -126,19 +135,24 @@ fn follows_turned_groups(rt: HostRuntime) {
         ),
         (Step::Turn(FIRST), Answer::Done, [THREE, LINKING]),
     ] {
-        follow(&rt, alloc, &mut plan, step, Ok(answer), texts.as_slice());
+        follow(rt, alloc, plan, step, Ok(answer), texts.as_slice());
     }
 }
 
 #[test]
-fn follows_a_distance_set_back(rt: HostRuntime) {
+fn follows_turned_groups(rt: HostRuntime) {
     let alloc = rt.alloc();
+    let mut plan = plan_of(&rt, alloc, &[THREE, LINKING]);
+    turn(&rt, alloc, &mut plan);
+}
+
+/// Sets a distance, and sets it back after other changes.
+fn set_distance(rt: &impl Abort, alloc: Global, plan: &mut Plan) {
     let farther = "a1007f80a032c15022a09600326301ffffffffffffffffffffffc0";
     let renumbered = "a1007f80a096415022a09600326301ffffffffffffffffffffffc0";
     let with_packet = "a1007f80a09650900f8282a045412c0064c603ffffffffffffffc0";
     let nearer = "a1007f80a09650900f8282a04540fa0064c603ffffffffffffffc0";
     let packet = PacketTag::Fresh(3);
-    let mut plan = read(&rt, alloc, &[EMPTY, LINKING]).expect(&rt, "a plan");
     for (step, answer, text) in [
         (
             Step::Field(SECOND, 0, PACKET, Var::DLink, 0, 600),
@@ -157,22 +171,20 @@ fn follows_a_distance_set_back(rt: HostRuntime) {
             nearer,
         ),
     ] {
-        follow(
-            &rt,
-            alloc,
-            &mut plan,
-            step,
-            Ok(answer),
-            [EMPTY, text].as_slice(),
-        );
+        follow(rt, alloc, plan, step, Ok(answer), [EMPTY, text].as_slice());
     }
 }
 
 #[test]
-fn follows_groups_dropped_and_added(rt: HostRuntime) {
+fn follows_a_distance_set_back(rt: HostRuntime) {
     let alloc = rt.alloc();
+    let mut plan = plan_of(&rt, alloc, &[EMPTY, LINKING]);
+    set_distance(&rt, alloc, &mut plan);
+}
+
+/// Drops groups and adds others.
+fn drop_and_add(rt: &impl Abort, alloc: Global, plan: &mut Plan) {
     let added = GroupTag::Fresh(3);
-    let mut plan = read(&rt, alloc, &[EMPTY, LINKING]).expect(&rt, "a plan");
     for (first, second) in [
         (Spot::Before(None), Spot::Before(Some(SECOND))),
         (Spot::After(None), Spot::After(None)),
@@ -201,14 +213,20 @@ fn follows_groups_dropped_and_added(rt: HostRuntime) {
                 [EMPTY, LINKING].as_slice(),
             ),
         ] {
-            follow(&rt, alloc, &mut plan, step, Ok(answer), texts);
+            follow(rt, alloc, plan, step, Ok(answer), texts);
         }
     }
 }
 
 #[test]
-fn follows_infill(rt: HostRuntime) {
+fn follows_groups_dropped_and_added(rt: HostRuntime) {
     let alloc = rt.alloc();
+    let mut plan = plan_of(&rt, alloc, &[EMPTY, LINKING]);
+    drop_and_add(&rt, alloc, &mut plan);
+}
+
+/// Changes a group and one whose infill names it.
+fn change_infill(rt: &impl Abort, alloc: Global, plan: &mut Plan) {
     let first = "a1007f80a0647fffffffffffffffffffffffffffffffffffffffc0";
     let second = "a1007f80a033e2101300c8ffffffffffffffffffffffffffffffc0";
     let turned = "a1007f80a033e2001300c8ffffffffffffffffffffffffffffffc0";
@@ -217,7 +235,6 @@ fn follows_infill(rt: HostRuntime) {
     let renumbered = "a1007f80a04b7fffffffffffffffffffffffffffffffffffffffc0";
     let naming = "a1007f80a04b6210130064ffffffffffffffffffffffffffffffc0";
     let (link, taken) = (PacketTag::Fresh(7), Err(Refusal::NumberTaken));
-    let mut plan = read(&rt, alloc, &[EMPTY, INFILL]).expect(&rt, "a plan");
     for (step, answer, texts) in [
         (
             Step::Rename(FIRST, 200),
@@ -255,6 +272,13 @@ fn follows_infill(rt: HostRuntime) {
             [renumbered, none],
         ),
     ] {
-        follow(&rt, alloc, &mut plan, step, answer, texts.as_slice());
+        follow(rt, alloc, plan, step, answer, texts.as_slice());
     }
+}
+
+#[test]
+fn follows_infill(rt: HostRuntime) {
+    let alloc = rt.alloc();
+    let mut plan = plan_of(&rt, alloc, &[EMPTY, INFILL]);
+    change_infill(&rt, alloc, &mut plan);
 }

@@ -9,30 +9,48 @@ pub(crate) fn id(country: u32, number: u32) -> Id {
     Id { country, number }
 }
 
+/// Puts the bits of a telegram of these digits behind the others.
+fn push_digits(rt: &impl Abort, alloc: Global, telegrams: &mut Vec<Bits>, digits: &str) {
+    let len = match digits.len() {
+        54 => 210,
+        208 => 830,
+        _ => 32,
+    };
+    let bits = Bits::from_hex(alloc, digits, len).expect(rt, "digits");
+    telegrams.push(bits).expect(rt, "memory");
+}
+
+fn push_words(rt: &impl Abort, alloc: Global, telegrams: &mut Vec<Bits>, text: &str) {
+    for word in text.split_whitespace() {
+        push_digits(rt, alloc, telegrams, word);
+    }
+}
+
 /// The bits of a group's telegrams, whose digits stand apart by a space.
 pub(crate) fn telegrams(rt: &impl Abort, alloc: Global, text: &str) -> Vec<Bits> {
     let mut telegrams = Vec::new(alloc);
-    for word in text.split_whitespace() {
-        let len = match word.len() {
-            54 => 210,
-            208 => 830,
-            _ => 32,
-        };
-        let bits = Bits::from_hex(alloc, word, len).expect(rt, "digits");
-        telegrams.push(bits).expect(rt, "memory");
-    }
+    push_words(rt, alloc, &mut telegrams, text);
     telegrams
 }
 
 /// What reading a plan of these groups answers.
 pub(crate) fn read(rt: &impl Abort, alloc: Global, texts: &[&str]) -> Result<Plan, Refusal> {
     let mut groups = Vec::new(alloc);
+    push_groups(rt, alloc, &mut groups, texts);
+    Plan::read(alloc, groups)
+}
+
+fn push_groups(rt: &impl Abort, alloc: Global, groups: &mut Vec<Vec<Bits>>, texts: &[&str]) {
     for text in texts.iter() {
         groups
             .push(telegrams(rt, alloc, *text))
             .expect(rt, "memory");
     }
-    Plan::read(alloc, groups)
+}
+
+/// The plan of these groups.
+pub(crate) fn plan_of(rt: &impl Abort, alloc: Global, texts: &[&str]) -> Plan {
+    read(rt, alloc, texts).expect(rt, "a plan")
 }
 
 /// Whether a plan shows these groups.

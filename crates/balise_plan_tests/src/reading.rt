@@ -57,6 +57,11 @@ fn refused(rt: &impl Abort, alloc: Global, words: &[&str]) -> Option<Refusal> {
     }
 }
 
+/// That a group of these telegrams is refused for this reason, or read.
+fn check_refused(rt: &impl Abort, alloc: Global, words: &[&str], refusal: Option<Refusal>) {
+    assert!(rt; refused(rt, alloc, words) == refusal, "{words:?}");
+}
+
 #[test]
 fn reads_groups(rt: HostRuntime) {
     let alloc = rt.alloc();
@@ -116,7 +121,7 @@ fn reads_groups(rt: HostRuntime) {
         ([LONG_INFILL].as_slice(), Some(Refusal::LayoutMismatch)),
         (["a1007f80"].as_slice(), Some(Refusal::BadLength)),
     ] {
-        assert!(rt; refused(&rt, alloc, words) == refusal, "{words:?}");
+        check_refused(&rt, alloc, words, refusal);
     }
 }
 
@@ -136,6 +141,12 @@ fn reads_plans_of_groups(rt: HostRuntime) {
     assert!(rt; reads(&rt, alloc, &[LINKING, THREE]));
 }
 
+/// That a plan of these groups is refused for this reason.
+fn check_plan_refused(rt: &impl Abort, alloc: Global, texts: &[&str], refusal: Refusal) {
+    let plan = read(rt, alloc, texts);
+    assert!(rt; matches!(plan, Err(fault) if fault == refusal), "{texts:?}");
+}
+
 #[test]
 fn refuses_plans_of_groups(rt: HostRuntime) {
     let alloc = rt.alloc();
@@ -149,7 +160,6 @@ fn refuses_plans_of_groups(rt: HostRuntime) {
         ([RESERVED, RESERVED].as_slice(), Refusal::NumberReserved),
         ([LINKING, PACKET_ZERO].as_slice(), Refusal::PacketZero),
     ] {
-        let plan = read(&rt, alloc, texts);
-        assert!(rt; matches!(plan, Err(fault) if fault == refusal), "{texts:?}");
+        check_plan_refused(&rt, alloc, texts, refusal);
     }
 }

@@ -1,10 +1,11 @@
 //! What is refused, and in which order.
 
 use crate::digits::{ABROAD, INFILL, LINKING, REVOCATIONS};
-use crate::plans::{id, read, shows};
+use crate::plans::{id, plan_of, shows};
 use crate::steps::{Step, follow};
-use balise_plan::{Address, GroupTag, PacketTag, Place, Refusal, Spot, Var};
+use balise_plan::{Address, GroupTag, PacketTag, Place, Plan, Refusal, Spot, Var};
 use std::alloc::Global;
+use std::process::Abort;
 
 const FIRST: GroupTag = GroupTag::Base(0);
 
@@ -19,11 +20,9 @@ const WIDE: &str = "2c813000000000000000000000000000000000";
 
 const NARROW: &str = "42403e0a";
 
-#[test]
-fn refuses_numbers(rt: HostRuntime) {
-    let alloc = rt.alloc();
+/// Asks for numbers that are refused.
+fn ask_for_numbers(rt: &impl Abort, alloc: Global, plan: &mut Plan) {
     let texts = [LINKING, ABROAD, INFILL];
-    let mut plan = read(&rt, alloc, texts.as_slice()).expect(&rt, "a plan");
     for (group, number, refusal) in [
         (NOWHERE, 4294967295, Refusal::NoSuchGroup),
         (NOWHERE, 7, Refusal::NoSuchGroup),
@@ -35,15 +34,21 @@ fn refuses_numbers(rt: HostRuntime) {
         (FIRST, 100, Refusal::NumberTaken),
     ] {
         let step = Step::Rename(group, number);
-        follow(&rt, alloc, &mut plan, step, Err(refusal), texts.as_slice());
+        follow(rt, alloc, plan, step, Err(refusal), texts.as_slice());
     }
 }
 
 #[test]
-fn hands_groups_back(rt: HostRuntime) {
+fn refuses_numbers(rt: HostRuntime) {
     let alloc = rt.alloc();
+    let texts = [LINKING, ABROAD, INFILL];
+    let mut plan = plan_of(&rt, alloc, texts.as_slice());
+    ask_for_numbers(&rt, alloc, &mut plan);
+}
+
+/// Puts in groups that are refused.
+fn put_groups(rt: &impl Abort, alloc: Global, plan: &mut Plan) {
     let texts = [LINKING, ABROAD];
-    let mut plan = read(&rt, alloc, texts.as_slice()).expect(&rt, "a plan");
     for (spot, text, refusal) in [
         (Spot::Before(Some(NOWHERE)), LINKING, Refusal::NoSuchGroup),
         (Spot::After(Some(NOWHERE)), INFILL, Refusal::NoSuchGroup),
@@ -52,15 +57,21 @@ fn hands_groups_back(rt: HostRuntime) {
         (Spot::Before(Some(FIRST)), ABROAD, Refusal::GroupTwice),
     ] {
         let step = Step::PutGroup(spot, NOWHERE, text);
-        follow(&rt, alloc, &mut plan, step, Err(refusal), texts.as_slice());
+        follow(rt, alloc, plan, step, Err(refusal), texts.as_slice());
     }
 }
 
 #[test]
-fn hands_packets_back(rt: HostRuntime) {
+fn hands_groups_back(rt: HostRuntime) {
     let alloc = rt.alloc();
+    let texts = [LINKING, ABROAD];
+    let mut plan = plan_of(&rt, alloc, texts.as_slice());
+    put_groups(&rt, alloc, &mut plan);
+}
+
+/// Puts in packets that are refused.
+fn put_packets(rt: &impl Abort, alloc: Global, plan: &mut Plan) {
     let texts = [REVOCATIONS, LINKING];
-    let mut plan = read(&rt, alloc, texts.as_slice()).expect(&rt, "a plan");
     let (first, lacking) = (Spot::After(None), Spot::Before(Some(NEW)));
     let too_far = Spot::After(Some(PacketTag::Base(2)));
     for (group, t, spot, text, refusal) in [
@@ -73,15 +84,21 @@ fn hands_packets_back(rt: HostRuntime) {
         (FIRST, 0, Spot::Before(Some(PACKET)), WIDE, Refusal::NoRoom),
     ] {
         let step = Step::Put(group, t, spot, NEW, text);
-        follow(&rt, alloc, &mut plan, step, Err(refusal), texts.as_slice());
+        follow(rt, alloc, plan, step, Err(refusal), texts.as_slice());
     }
 }
 
 #[test]
-fn refuses_changes(rt: HostRuntime) {
+fn hands_packets_back(rt: HostRuntime) {
     let alloc = rt.alloc();
     let texts = [REVOCATIONS, LINKING];
-    let mut plan = read(&rt, alloc, texts.as_slice()).expect(&rt, "a plan");
+    let mut plan = plan_of(&rt, alloc, texts.as_slice());
+    put_packets(&rt, alloc, &mut plan);
+}
+
+/// Asks for changes that are refused.
+fn ask_for_changes(rt: &impl Abort, alloc: Global, plan: &mut Plan) {
+    let texts = [REVOCATIONS, LINKING];
     let first = Spot::After(None);
     for (step, refusal) in [
         (
@@ -131,15 +148,21 @@ fn refuses_changes(rt: HostRuntime) {
         (Step::TakeGroup(NOWHERE), Refusal::NoSuchGroup),
         (Step::Turn(NOWHERE), Refusal::NoSuchGroup),
     ] {
-        follow(&rt, alloc, &mut plan, step, Err(refusal), texts.as_slice());
+        follow(rt, alloc, plan, step, Err(refusal), texts.as_slice());
     }
 }
 
 #[test]
-fn resolves_addresses(rt: HostRuntime) {
+fn refuses_changes(rt: HostRuntime) {
     let alloc = rt.alloc();
     let texts = [REVOCATIONS, LINKING];
-    let plan = read(&rt, alloc, texts.as_slice()).expect(&rt, "a plan");
+    let mut plan = plan_of(&rt, alloc, texts.as_slice());
+    ask_for_changes(&rt, alloc, &mut plan);
+}
+
+/// Resolves addresses of each kind, there or not.
+fn resolve_addresses(rt: &impl Abort, alloc: Global, plan: &Plan) {
+    let texts = [REVOCATIONS, LINKING];
     let (named, other) = (id(5, 101), id(6, 101));
     let second = GroupTag::Base(1);
     for (address, place) in [
@@ -194,6 +217,14 @@ fn resolves_addresses(rt: HostRuntime) {
     ] {
         assert!(rt; plan.resolve(address) == place, "{address:?}");
     }
-    assert!(rt; shows(&rt, alloc, &plan, texts.as_slice()));
+    assert!(rt; shows(rt, alloc, plan, texts.as_slice()));
     assert_eq!(rt; plan.changes(), 0);
+}
+
+#[test]
+fn resolves_addresses(rt: HostRuntime) {
+    let alloc = rt.alloc();
+    let texts = [REVOCATIONS, LINKING];
+    let plan = plan_of(&rt, alloc, texts.as_slice());
+    resolve_addresses(&rt, alloc, &plan);
 }

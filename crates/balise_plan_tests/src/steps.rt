@@ -113,13 +113,18 @@ fn put(
     match plan.put_packet(g, t, spot, p, packet) {
         Ok(()) => Ok(Answer::Done),
         Err((fault, packet)) => {
-            let mut back = Bits::new(alloc);
-            assert!(rt; packet.write(&mut back).is_ok());
-            assert!(rt; end <= bits.len());
-            assert!(rt; back == bits.slice(0, end).expect(rt, "memory"));
+            check_back(rt, alloc, &packet, &bits, end);
             Err(fault)
         }
     }
+}
+
+/// That a packet that came back has the bits that it was read from.
+fn check_back(rt: &impl Abort, alloc: Global, packet: &Packet, bits: &Bits, end: usize) {
+    let mut back = Bits::new(alloc);
+    assert!(rt; packet.write(&mut back).is_ok());
+    assert!(rt; end <= bits.len());
+    assert!(rt; back == bits.slice(0, end).expect(rt, "memory"));
 }
 
 /// Puts a group in under a tag that is new. One that is refused comes back as it was.

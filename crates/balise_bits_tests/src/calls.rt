@@ -40,24 +40,25 @@ fn check_refused(rt: &impl Abort, alloc: Global, hex: &str, fault: BitsFault) {
     assert_eq!(rt; answer.err(), Some(fault), "{hex}");
 }
 
+// That the bits of these digits are written in place of what was written.
+fn check_written(rt: &impl Abort, alloc: Global, digits: &mut Vec<u8>, hex: &str, len: usize) {
+    let bits = Bits::from_hex(alloc, hex, len).expect(rt, "digits");
+    bits.hex_into(digits).expect(rt, "memory");
+    assert!(rt; digits.as_slice() == hex.as_bytes());
+}
+
+fn check_none_written(rt: &impl Abort, alloc: Global, digits: &mut Vec<u8>) {
+    Bits::new(alloc).hex_into(digits).expect(rt, "memory");
+    assert!(rt; digits.is_empty());
+}
+
 #[test]
 fn digits_are_written_into_a_buffer(rt: HostRuntime) {
     let mut digits = Vec::new(rt.alloc());
     let text = long(&rt, rt.alloc());
-    Bits::from_hex(rt.alloc(), text.as_str(), 830)
-        .expect(&rt, "digits")
-        .hex_into(&mut digits)
-        .expect(&rt, "memory");
-    assert_eq!(rt; digits.as_slice(), text.as_bytes());
-    Bits::from_hex(rt.alloc(), SHORT, 210)
-        .expect(&rt, "digits")
-        .hex_into(&mut digits)
-        .expect(&rt, "memory");
-    assert_eq!(rt; digits.as_slice(), SHORT.as_bytes());
-    Bits::new(rt.alloc())
-        .hex_into(&mut digits)
-        .expect(&rt, "memory");
-    assert!(rt; digits.is_empty());
+    check_written(&rt, rt.alloc(), &mut digits, text.as_str(), 830);
+    check_written(&rt, rt.alloc(), &mut digits, SHORT, 210);
+    check_none_written(&rt, rt.alloc(), &mut digits);
 }
 
 #[test]
@@ -74,37 +75,31 @@ fn wrong_texts_are_refused(rt: HostRuntime) {
     assert_eq!(rt; Refusal::from(BitsFault::BadHex), Refusal::BadHex);
 }
 
+fn check_digits(rt: &impl Abort, bits: &Bits, len: usize, hex: &str) {
+    assert_eq!(rt; bits.len(), len);
+    check_hex(rt, bits, hex);
+}
+
+fn check_bad(rt: &impl Abort, answer: Result<Bits, BitsFault>) {
+    assert_eq!(rt; answer.err(), Some(BitsFault::BadHex));
+}
+
 #[test]
 fn digits_of_both_cases_are_read(rt: HostRuntime) {
     let bits = Bits::digits(rt.alloc(), "A1007F80a0327f").expect(&rt, "memory");
-    assert_eq!(rt; bits.len(), 56);
-    check_hex(&rt, &bits, "a1007f80a0327f");
-    assert_eq!(rt;
-        Bits::digits(rt.alloc(), "a10").err(),
-        Some(BitsFault::BadHex)
-    );
-    assert_eq!(rt;
-        Bits::digits(rt.alloc(), "a1:0").err(),
-        Some(BitsFault::BadHex)
-    );
+    check_digits(&rt, &bits, 56, "a1007f80a0327f");
+    check_bad(&rt, Bits::digits(rt.alloc(), "a10"));
+    check_bad(&rt, Bits::digits(rt.alloc(), "a1:0"));
 }
 
 #[test]
 fn bytes_are_read_as_digits(rt: HostRuntime) {
     let bits = Bits::from_hex_bytes(rt.alloc(), SHORT.as_bytes(), 210).expect(&rt, "memory");
-    assert_eq!(rt; bits.len(), 210);
-    check_hex(&rt, &bits, SHORT);
+    check_digits(&rt, &bits, 210, SHORT);
     let bits = Bits::digits_in_bytes(rt.alloc(), b"A1007F80a0327f").expect(&rt, "memory");
-    assert_eq!(rt; bits.len(), 56);
-    check_hex(&rt, &bits, "a1007f80a0327f");
-    assert_eq!(rt;
-        Bits::from_hex_bytes(rt.alloc(), b"a1\xff0", 16).err(),
-        Some(BitsFault::BadHex)
-    );
-    assert_eq!(rt;
-        Bits::digits_in_bytes(rt.alloc(), b"a1\xff0").err(),
-        Some(BitsFault::BadHex)
-    );
+    check_digits(&rt, &bits, 56, "a1007f80a0327f");
+    check_bad(&rt, Bits::from_hex_bytes(rt.alloc(), b"a1\xff0", 16));
+    check_bad(&rt, Bits::digits_in_bytes(rt.alloc(), b"a1\xff0"));
 }
 
 fn check_number(rt: &impl Abort, bits: &Bits, at: usize, width: u32, number: u32) {
@@ -170,46 +165,65 @@ fn slices_are_cut(rt: HostRuntime) {
     check_hex(&rt, &slice(&rt, &bits, 50, 0), "")
 }
 
+// That so many bits of some and all of them behind are these digits.
+fn check_joined(rt: &impl Abort, len: usize, other: &Bits, hex: &str) {
+    let mut joined = slice(rt, other, 0, len);
+    joined.append(other).expect(rt, "memory");
+    check_hex(rt, &joined, hex);
+}
+
 #[test]
 fn bits_are_joined(rt: HostRuntime) {
     let bits = Bits::from_hex(rt.alloc(), SHORT, 210).expect(&rt, "digits");
-    let mut joined = slice(&rt, &bits, 0, 50);
-    joined.append(&bits).expect(&rt, "memory");
     let hex = "a1007f80a03268401fe0280c9ffffffffffffffffffffffffffffffffffffffff0";
-    check_hex(&rt, &joined, hex);
-    let mut joined = slice(&rt, &bits, 0, 48);
-    joined.append(&bits).expect(&rt, "memory");
+    check_joined(&rt, 50, &bits, hex);
     let hex = "a1007f80a032a1007f80a0327fffffffffffffffffffffffffffffffffffffffc0";
-    check_hex(&rt, &joined, hex)
+    check_joined(&rt, 48, &bits, hex);
+}
+
+// The same with 61 of them behind.
+fn check_part_joined(rt: &impl Abort, len: usize, other: &Bits, from: usize, hex: &str) {
+    let mut joined = slice(rt, other, 0, len);
+    assert!(rt; other.len() == 210);
+    assert!(rt; from <= 149);
+    joined.append_part(other, from, 61).expect(rt, "memory");
+    check_hex(rt, &joined, hex);
 }
 
 #[test]
 fn parts_are_joined(rt: HostRuntime) {
     let bits = Bits::from_hex(rt.alloc(), SHORT, 210).expect(&rt, "digits");
-    assert_eq!(rt; bits.len(), 210);
-    let mut joined = slice(&rt, &bits, 0, 50);
-    joined.append_part(&bits, 13, 61).expect(&rt, "memory");
-    check_hex(&rt, &joined, "a1007f80a03243fc050193fffffe");
-    let mut joined = slice(&rt, &bits, 0, 48);
-    joined.append_part(&bits, 8, 61).expect(&rt, "memory");
-    check_hex(&rt, &joined, "a1007f80a032007f80a0327ffff8")
+    check_part_joined(&rt, 50, &bits, 13, "a1007f80a03243fc050193fffffe");
+    check_part_joined(&rt, 48, &bits, 8, "a1007f80a032007f80a0327ffff8");
+}
+
+fn push_numbers(rt: &impl Abort, bits: &mut Bits) {
+    bits.push(2, 1).expect(rt, "memory");
+    bits.push(8, 66).expect(rt, "memory");
+    bits.push(8, 0xff).expect(rt, "memory");
+    check_hex(rt, bits, "a1007f80a03250bfc0");
+}
+
+fn push_zeros(rt: &impl Abort, bits: &mut Bits) {
+    bits.push_zeros(20).expect(rt, "memory");
+    check_hex(rt, bits, "a1007f80a03250bfc00000");
+}
+
+fn check_pushed(rt: &impl Abort, alloc: Global) {
+    let mut bits = Bits::new(alloc);
+    bits.push(3, 5).expect(rt, "memory");
+    check_hex(rt, &bits, "a0");
 }
 
 #[test]
 fn bits_grow(rt: HostRuntime) {
     let mut bits = Bits::with_capacity(rt.alloc(), 80).expect(&rt, "memory");
     assert!(rt; bits.is_empty());
-    bits.append(&Bits::digits(rt.alloc(), "a1007f80a032").expect(&rt, "memory"))
-        .expect(&rt, "memory");
-    bits.push(2, 1).expect(&rt, "memory");
-    bits.push(8, 66).expect(&rt, "memory");
-    bits.push(8, 0xff).expect(&rt, "memory");
-    check_hex(&rt, &bits, "a1007f80a03250bfc0");
-    bits.push_zeros(20).expect(&rt, "memory");
-    check_hex(&rt, &bits, "a1007f80a03250bfc00000");
-    let mut bits = Bits::new(bits.allocator());
-    bits.push(3, 5).expect(&rt, "memory");
-    check_hex(&rt, &bits, "a0")
+    let digits = Bits::digits(rt.alloc(), "a1007f80a032").expect(&rt, "memory");
+    bits.append(&digits).expect(&rt, "memory");
+    push_numbers(&rt, &mut bits);
+    push_zeros(&rt, &mut bits);
+    check_pushed(&rt, bits.allocator());
 }
 
 #[test]

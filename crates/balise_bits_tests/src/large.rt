@@ -28,67 +28,108 @@ fn parts(rt: &impl Abort, alloc: Global, count: usize) -> Bits {
     Bits::digits(alloc, text.as_str()).expect(rt, "memory")
 }
 
+fn check_many(rt: &impl Abort, bits: &Bits, hex: &str, len: usize) {
+    assert_eq!(rt; bits.len(), len);
+    check_hex(rt, bits, hex);
+}
+
+/// That digits are read from a text, with a length and without.
+fn check_texts(rt: &impl Abort, alloc: Global, hex: &str, len: usize) {
+    let bits = Bits::from_hex(alloc, hex, len).expect(rt, "digits");
+    check_many(rt, &bits, hex, len);
+    let bits = Bits::digits(alloc, hex).expect(rt, "memory");
+    check_many(rt, &bits, hex, len);
+}
+
+/// That digits are read from bytes, with a length and without.
+fn check_bytes(rt: &impl Abort, alloc: Global, hex: &str, len: usize) {
+    let bits = Bits::from_hex_bytes(alloc, hex.as_bytes(), len).expect(rt, "memory");
+    check_many(rt, &bits, hex, len);
+    let bits = Bits::digits_in_bytes(alloc, hex.as_bytes()).expect(rt, "memory");
+    check_many(rt, &bits, hex, len);
+}
+
 #[test]
 fn many_digits_are_read(rt: HostRuntime) {
     for count in COUNTS {
         let text = repeated(&rt, rt.alloc(), PART, count);
-        let hex = text.as_str();
-        for bits in [
-            Bits::from_hex(rt.alloc(), hex, 64 * count).expect(&rt, "digits"),
-            Bits::from_hex_bytes(rt.alloc(), text.as_bytes(), 64 * count).expect(&rt, "memory"),
-            Bits::digits(rt.alloc(), hex).expect(&rt, "memory"),
-            Bits::digits_in_bytes(rt.alloc(), text.as_bytes()).expect(&rt, "memory"),
-        ] {
-            assert_eq!(rt; bits.len(), 64 * count);
-            check_hex(&rt, &bits, hex);
-        }
+        check_texts(&rt, rt.alloc(), text.as_str(), 64 * count);
+        check_bytes(&rt, rt.alloc(), text.as_str(), 64 * count);
     }
+}
+
+/// That the bits are a part repeated so often.
+fn check_repeated(rt: &impl Abort, bits: &Bits, part: &str, count: usize) {
+    let text = repeated(rt, bits.allocator(), part, count);
+    check_hex(rt, bits, text.as_str());
+}
+
+fn check_copy(rt: &impl Abort, bits: &Bits, count: usize) {
+    let copy = bits.copy().expect(rt, "memory");
+    check_repeated(rt, &copy, PART, count);
 }
 
 #[test]
 fn many_bits_are_copied_and_cut(rt: HostRuntime) {
     for count in COUNTS {
         let bits = parts(&rt, rt.alloc(), count);
-        let text = repeated(&rt, rt.alloc(), PART, count);
-        check_hex(&rt, &bits.copy().expect(&rt, "memory"), text.as_str());
-        let shifted = repeated(&rt, rt.alloc(), FROM_FOURTH, count - 1);
+        check_copy(&rt, &bits, count);
         let behind = slice(&rt, &bits, 3, 64 * (count - 1));
-        check_hex(&rt, &behind, shifted.as_str());
+        check_repeated(&rt, &behind, FROM_FOURTH, count - 1);
     }
+}
+
+/// That bits are joined whole.
+fn check_joined(rt: &impl Abort, bits: &Bits, behind: &Bits, twice: usize) {
+    let mut joined = slice(rt, bits, 0, 3);
+    joined.append(behind).expect(rt, "memory");
+    joined.append(bits).expect(rt, "memory");
+    check_repeated(rt, &joined, PART, twice);
+}
+
+/// That a part that is all of some bits is joined.
+fn check_part_joined(rt: &impl Abort, bits: &Bits, behind: &Bits, count: usize) {
+    let mut joined = slice(rt, bits, 0, 3);
+    joined
+        .append_part(behind, 0, behind.len())
+        .expect(rt, "memory");
+    check_repeated(rt, &joined, PART, count);
 }
 
 #[test]
 fn many_bits_are_joined(rt: HostRuntime) {
     for count in COUNTS {
         let bits = parts(&rt, rt.alloc(), count);
-        let mut joined = slice(&rt, &bits, 0, 3);
         let behind = slice(&rt, &bits, 3, 64 * count - 3);
-        joined.append(&behind).expect(&rt, "memory");
-        joined.append(&bits).expect(&rt, "memory");
-        let twice = repeated(&rt, rt.alloc(), PART, 2 * count);
-        check_hex(&rt, &joined, twice.as_str());
-        let mut joined = slice(&rt, &bits, 0, 3);
-        joined
-            .append_part(&behind, 0, behind.len())
-            .expect(&rt, "memory");
-        let once = repeated(&rt, rt.alloc(), PART, count);
-        check_hex(&rt, &joined, once.as_str());
+        check_joined(&rt, &bits, &behind, 2 * count);
+        check_part_joined(&rt, &bits, &behind, count);
     }
+}
+
+/// Puts a part in behind the bits so often.
+fn push_parts(rt: &impl Abort, bits: &mut Bits, count: usize) {
+    for _ in 0..count {
+        bits.push(32, 0x01234567).expect(rt, "memory");
+        bits.push(32, 0x89abcdef).expect(rt, "memory");
+    }
+}
+
+fn check_pushed(rt: &impl Abort, alloc: Global, count: usize, len: usize) {
+    let mut bits = Bits::with_capacity(alloc, len).expect(rt, "memory");
+    push_parts(rt, &mut bits, count);
+    check_repeated(rt, &bits, PART, count);
+}
+
+fn check_zeros(rt: &impl Abort, alloc: Global, count: usize, len: usize) {
+    let mut bits = Bits::new(alloc);
+    bits.push_zeros(len).expect(rt, "memory");
+    check_repeated(rt, &bits, "0000000000000000", count);
 }
 
 #[test]
 fn many_bits_grow(rt: HostRuntime) {
     for count in COUNTS {
-        let mut bits = Bits::with_capacity(rt.alloc(), 64 * count).expect(&rt, "memory");
-        for _ in 0..count {
-            bits.push(32, 0x01234567).expect(&rt, "memory");
-            bits.push(32, 0x89abcdef).expect(&rt, "memory");
-        }
-        let text = repeated(&rt, rt.alloc(), PART, count);
-        check_hex(&rt, &bits, text.as_str());
-        let mut bits = Bits::new(rt.alloc());
-        bits.push_zeros(64 * count).expect(&rt, "memory");
-        let zeros = repeated(&rt, rt.alloc(), "0000000000000000", count);
-        check_hex(&rt, &bits, zeros.as_str());
+        check_pushed(&rt, rt.alloc(), count, 64 * count);
+        check_zeros(&rt, rt.alloc(), count, 64 * count);
     }
 }

@@ -29,33 +29,50 @@ fn is_worn(session: &mut Session) -> bool {
         && matches!(session.strike(2_000_000), Err(Refusal::Worn))
 }
 
+/// Does so many edits, under serials from 1.
+fn edit_often(rt: &impl Abort, session: &mut Session, count: u32) {
+    for i in 0..count {
+        assert!(rt; session.edit(counted(i % 255)) == Ok(i + 1));
+    }
+}
+
+/// Undoes so many edits, the last one first.
+fn undo_each(rt: &impl Abort, session: &mut Session, count: u32) {
+    for i in 0..count {
+        assert!(rt; session.undo() == Ok(count - i));
+    }
+}
+
 #[test]
 fn a_million_edits(rt: HostRuntime) {
     let alloc = rt.alloc();
     let mut session = session_of(&rt, alloc, &[EMPTY]);
-    for i in 0..1_000_000 {
-        assert!(rt; session.edit(counted(i % 255)) == Ok(i + 1));
-    }
-    assert_eq!(rt; session.standing().len(), 1_000_000);
+    edit_often(&rt, &mut session, 1_000_000);
+    check_standing(&rt, &session, 1_000_000);
     assert!(rt; is_worn(&mut session));
-    assert_eq!(rt; session.standing().len(), 1_000_000);
+    check_standing(&rt, &session, 1_000_000);
+}
+
+fn check_standing(rt: &impl Abort, session: &Session, count: usize) {
+    assert_eq!(rt; session.standing().len(), count);
+}
+
+/// That so many edits are undone, the last one done first.
+fn check_undone(rt: &impl Abort, session: &Session, count: usize, first: u32) {
+    let undone = session.undone().expect(rt, "memory");
+    assert_eq!(rt; undone.len(), count);
+    assert_eq!(rt; undone.first().copied(), Some(first));
 }
 
 #[test]
 fn half_a_million_edits_undone(rt: HostRuntime) {
     let alloc = rt.alloc();
     let mut session = session_of(&rt, alloc, &[EMPTY]);
-    for i in 0..500_000 {
-        assert!(rt; session.edit(counted(i % 255)) == Ok(i + 1));
-    }
-    for i in 0..500_000 {
-        assert!(rt; session.undo() == Ok(500_000 - i));
-    }
+    edit_often(&rt, &mut session, 500_000);
+    undo_each(&rt, &mut session, 500_000);
     assert!(rt; is_worn(&mut session));
-    assert_eq!(rt; session.standing().len(), 0);
-    let undone = session.undone().expect(&rt, "memory");
-    assert_eq!(rt; undone.len(), 500_000);
-    assert_eq!(rt; undone.first().copied(), Some(500_000));
+    check_standing(&rt, &session, 0);
+    check_undone(&rt, &session, 500_000, 500_000);
 }
 
 /// One edit of each kind, and a second of one that leaves the identities as they were.
@@ -74,55 +91,97 @@ fn of_each_kind(value: u32) -> [Step; 10] {
     ]
 }
 
+/// Makes 1,000 edits of all kinds.
+fn edit_all(rt: &impl Abort, alloc: Global, session: &mut Session) {
+    for value in 0..100 {
+        for step in of_each_kind(value) {
+            assert!(rt; answer_to(rt, alloc, session, step).is_ok());
+        }
+    }
+}
+
 /// A session with 1,000 standing edits of all kinds.
 fn busy(rt: &impl Abort, alloc: Global) -> Session {
     let mut session = session_of(rt, alloc, &[REVOCATION, LINKING]);
-    for value in 0..100 {
-        for step in of_each_kind(value) {
-            assert!(rt; answer_to(rt, alloc, &mut session, step).is_ok());
-        }
-    }
+    edit_all(rt, alloc, &mut session);
     session
+}
+
+/// What the plan of a session shows.
+fn shown(rt: &impl Abort, session: &Session) -> Vec<Vec<Bits>> {
+    session.plan().shown().expect(rt, "memory")
+}
+
+/// What the plan shows that the busy session was made over.
+fn shown_as_read(rt: &impl Abort, alloc: Global) -> Vec<Vec<Bits>> {
+    let read = plan_of(rt, alloc, &[REVOCATION, LINKING]).expect(rt, "a plan");
+    read.shown().expect(rt, "memory")
+}
+
+/// Redoes so many edits, the first one first.
+fn redo_each(rt: &impl Abort, session: &mut Session, count: u32) {
+    for i in 0..count {
+        assert!(rt; session.redo() == Ok(i + 1));
+    }
+}
+
+/// Undoes 1,000 edits and redoes them, and no more than those.
+fn undo_and_redo(rt: &impl Abort, session: &mut Session, read: &Vec<Vec<Bits>>) {
+    undo_each(rt, session, 1000);
+    assert!(rt; shown(rt, session) == *read);
+    assert!(rt; session.undo() == Err(Refusal::NothingToUndo));
+    redo_each(rt, session, 1000);
 }
 
 #[test]
 fn a_thousand_edits_of_all_kinds_undone_and_redone(rt: HostRuntime) {
     let alloc = rt.alloc();
     let mut session = busy(&rt, alloc);
-    let read = plan_of(&rt, alloc, &[REVOCATION, LINKING]).expect(&rt, "a plan");
-    let read = read.shown().expect(&rt, "memory");
-    let made = session.plan().shown().expect(&rt, "memory");
-    assert_eq!(rt; session.next_serial(), 1001);
-    for i in 0..1000 {
-        assert!(rt; session.undo() == Ok(1000 - i));
-    }
-    assert!(rt; session.plan().shown().expect(&rt, "memory") == read);
-    assert!(rt; session.undo() == Err(Refusal::NothingToUndo));
-    for i in 0..1000 {
-        assert!(rt; session.redo() == Ok(i + 1));
-    }
-    assert!(rt; session.plan().shown().expect(&rt, "memory") == made);
+    check_next(&rt, &session, 1001);
+    let made = shown(&rt, &session);
+    undo_and_redo(&rt, &mut session, &shown_as_read(&rt, alloc));
+    assert!(rt; shown(&rt, &session) == made);
     assert!(rt; session.redo() == Err(Refusal::NothingToRedo));
+}
+
+fn check_next(rt: &impl Abort, session: &Session, serial: u32) {
+    assert_eq!(rt; session.next_serial(), serial);
+}
+
+fn undo_500(rt: &impl Abort, session: &mut Session) {
+    for _ in 0..500 {
+        assert!(rt; session.undo().is_ok());
+    }
+}
+
+fn redo_500(rt: &impl Abort, session: &mut Session) {
+    for _ in 0..500 {
+        assert!(rt; session.redo().is_ok());
+    }
+}
+
+/// That a session that was read back from a journal is as far as this one, and shows the same.
+fn check_read_back(rt: &impl Abort, again: &Session, session: &Session) {
+    check_next(rt, again, 1001);
+    check_standing(rt, again, 500);
+    assert!(rt; shown(rt, again) == shown(rt, session));
+}
+
+/// That what was made is made again in a session that was read back from a journal, where half of it was undone.
+fn check_redone(rt: &impl Abort, alloc: Global, session: &Session, made: &Vec<Vec<Bits>>) {
+    let mut again = read_back(rt, alloc, &[REVOCATION, LINKING], session);
+    check_read_back(rt, &again, session);
+    redo_500(rt, &mut again);
+    assert!(rt; shown(rt, &again) == *made);
 }
 
 #[test]
 fn a_journal_of_a_thousand_edits_read_back(rt: HostRuntime) {
     let alloc = rt.alloc();
     let mut session = busy(&rt, alloc);
-    let made = session.plan().shown().expect(&rt, "memory");
-    for _ in 0..500 {
-        assert!(rt; session.undo().is_ok());
-    }
-    let mut again = read_back(&rt, alloc, &[REVOCATION, LINKING], &session);
-    assert_eq!(rt; again.next_serial(), 1001);
-    assert_eq!(rt; again.standing().len(), 500);
-    assert!(rt;
-        again.plan().shown().expect(&rt, "memory") == session.plan().shown().expect(&rt, "memory")
-    );
-    for _ in 0..500 {
-        assert!(rt; again.redo().is_ok());
-    }
-    assert!(rt; again.plan().shown().expect(&rt, "memory") == made);
+    let made = shown(&rt, &session);
+    undo_500(&rt, &mut session);
+    check_redone(&rt, alloc, &session, &made);
 }
 
 /// A group of one telegram without packets, of this number in country 5.
@@ -136,25 +195,38 @@ fn group(rt: &impl Abort, alloc: Global, number: u32) -> Vec<Bits> {
     telegrams
 }
 
+/// Adds 1,001 groups, each later one behind the second place.
+fn add_groups(rt: &impl Abort, alloc: Global, session: &mut Session) {
+    for number in 0..1001 {
+        let command = Command::AddGroup {
+            at: if number == 0 { 1 } else { 2 },
+            telegrams: group(rt, alloc, number + 200),
+        };
+        assert!(rt; session.edit(command) == Ok(number + 1));
+    }
+}
+
+/// Strikes the first edit out, which is compared with 1,000 later ones.
+fn strike_first(rt: &impl Abort, session: &mut Session) {
+    let struck = session.strike(1).expect(rt, "a strike");
+    assert_eq!(rt; struck.compared, 1000);
+    assert_eq!(rt; session.plan().count(), 1001);
+}
+
+/// That a session shows the same once its journal was read back.
+fn check_again(rt: &impl Abort, alloc: Global, session: &Session) {
+    let again = read_back(rt, alloc, &[EMPTY], session);
+    assert!(rt; shown(rt, &again) == shown(rt, session));
+}
+
 #[test]
 fn struck_under_a_thousand_later_neighbours(rt: HostRuntime) {
     let alloc = rt.alloc();
     let mut session = session_of(&rt, alloc, &[EMPTY]);
-    for number in 0..1001 {
-        let command = Command::AddGroup {
-            at: if number == 0 { 1 } else { 2 },
-            telegrams: group(&rt, alloc, number + 200),
-        };
-        assert!(rt; session.edit(command) == Ok(number + 1));
-    }
-    let made = session.plan().shown().expect(&rt, "memory");
-    let struck = session.strike(1).expect(&rt, "a strike");
-    assert_eq!(rt; struck.compared, 1000);
-    assert_eq!(rt; session.plan().count(), 1001);
-    let again = read_back(&rt, alloc, &[EMPTY], &session);
-    assert!(rt;
-        again.plan().shown().expect(&rt, "memory") == session.plan().shown().expect(&rt, "memory")
-    );
+    add_groups(&rt, alloc, &mut session);
+    let made = shown(&rt, &session);
+    strike_first(&rt, &mut session);
+    check_again(&rt, alloc, &session);
     assert!(rt; session.redo() == Ok(1));
-    assert!(rt; session.plan().shown().expect(&rt, "memory") == made);
+    assert!(rt; shown(&rt, &session) == made);
 }

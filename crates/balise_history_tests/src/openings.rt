@@ -73,23 +73,38 @@ pub(crate) fn read_back(
     texts: &[&str],
     session: &Session,
 ) -> Session {
-    let mut opening = match opening_of(rt, alloc, texts, session.next_serial()) {
-        Ok(opening) => opening,
-        Err(fault) => panic!(rt; "{fault:?}"),
-    };
+    let mut opening = opened(rt, alloc, texts, session.next_serial());
     for line in session.lines().expect(rt, "memory") {
-        opening = match opening.entry(line) {
-            Ok(opening) => opening,
-            Err(fault) => panic!(rt; "{fault:?}"),
-        };
+        opening = entered(rt, opening, line);
     }
     for serial in session.undone().expect(rt, "memory") {
-        opening = match opening.undone(serial) {
-            Ok(opening) => opening,
-            Err(fault) => panic!(rt; "{fault:?}"),
-        };
+        opening = struck_out(rt, opening, serial);
     }
     opening.done()
+}
+
+/// A session to be over groups, with this next serial, which is accepted.
+fn opened(rt: &impl Abort, alloc: Global, texts: &[&str], next: u32) -> Opening {
+    match opening_of(rt, alloc, texts, next) {
+        Ok(opening) => opening,
+        Err(fault) => panic!(rt; "{fault:?}"),
+    }
+}
+
+/// The session to be with this line, which is accepted.
+fn entered(rt: &impl Abort, opening: Opening, line: Line) -> Opening {
+    match opening.entry(line) {
+        Ok(opening) => opening,
+        Err(fault) => panic!(rt; "{fault:?}"),
+    }
+}
+
+/// The session to be where this edit is undone, which stood.
+fn struck_out(rt: &impl Abort, opening: Opening, serial: u32) -> Opening {
+    match opening.undone(serial) {
+        Ok(opening) => opening,
+        Err(fault) => panic!(rt; "{fault:?}"),
+    }
 }
 
 #[test]
@@ -169,88 +184,68 @@ fn places_of_faults(rt: HostRuntime) {
     }
 }
 
+/// A session to be over one group, whose one edit is undone.
+fn one_undone(rt: &impl Abort, alloc: Global, next: u32) -> Opening {
+    let opening = opened(rt, alloc, &[REVOCATION], next);
+    let opening = entered(rt, opening, set(1, Tag::Base(0), 9, 5));
+    struck_out(rt, opening, 1)
+}
+
 #[test]
 fn what_was_undone_is_done_again(rt: HostRuntime) {
     let alloc = rt.alloc();
-    let mut opening = match opening_of(&rt, alloc, &[REVOCATION], 2) {
-        Ok(opening) => opening,
-        Err(fault) => panic!(rt; "{fault:?}"),
-    };
-    opening = match opening.entry(set(1, Tag::Base(0), 9, 5)) {
-        Ok(opening) => opening,
-        Err(fault) => panic!(rt; "{fault:?}"),
-    };
-    opening = match opening.undone(1) {
-        Ok(opening) => opening,
-        Err(fault) => panic!(rt; "{fault:?}"),
-    };
-    let mut session = opening.done();
-    assert_eq!(rt; session.next_serial(), 2);
+    let mut session = one_undone(&rt, alloc, 2).done();
+    assert!(rt; session.next_serial() == 2);
     follow(&rt, alloc, &mut session, &[(Step::Redo, Ok(1))], &[SET]);
+}
+
+/// That a journal is refused.
+fn check_mismatch(rt: &impl Abort, answer: Result<Opening, Refusal>) {
+    match answer {
+        Ok(_) => panic!(rt; "an opening"),
+        Err(fault) => assert!(rt; fault == Refusal::JournalMismatch),
+    }
 }
 
 #[test]
 fn nothing_is_struck_that_does_not_stand(rt: HostRuntime) {
-    let alloc = rt.alloc();
-    let opening = match opening_of(&rt, alloc, &[REVOCATION], 2) {
-        Ok(opening) => opening,
-        Err(fault) => panic!(rt; "{fault:?}"),
-    };
-    match opening.undone(7) {
-        Ok(_) => panic!(&rt; "undone"),
-        Err(fault) => assert!(rt; fault == Refusal::JournalMismatch),
-    }
+    let opening = opened(&rt, rt.alloc(), &[REVOCATION], 2);
+    check_mismatch(&rt, opening.undone(7));
 }
 
 #[test]
 fn no_entry_behind_one_undone(rt: HostRuntime) {
-    let alloc = rt.alloc();
-    let mut opening = match opening_of(&rt, alloc, &[REVOCATION], 3) {
-        Ok(opening) => opening,
-        Err(fault) => panic!(rt; "{fault:?}"),
-    };
-    opening = match opening.entry(set(1, Tag::Base(0), 9, 5)) {
-        Ok(opening) => opening,
-        Err(fault) => panic!(rt; "{fault:?}"),
-    };
-    opening = match opening.undone(1) {
-        Ok(opening) => opening,
-        Err(fault) => panic!(rt; "{fault:?}"),
-    };
-    match opening.entry(set(2, Tag::Base(0), 9, 5)) {
-        Ok(_) => panic!(&rt; "an entry"),
-        Err(fault) => assert!(rt; fault == Refusal::JournalMismatch),
+    let opening = one_undone(&rt, rt.alloc(), 3);
+    check_mismatch(&rt, opening.entry(set(2, Tag::Base(0), 9, 5)));
+}
+
+/// Puts two packets in and strikes the first of them.
+fn insert_and_strike(rt: &impl Abort, alloc: Global, session: &mut Session) {
+    for (asked, serial) in [
+        (Step::Insert(100, 0, TSR_5), 1),
+        (Step::Insert(100, 1, TSR_6), 2),
+        (Step::Strike(1), 1),
+    ] {
+        assert!(rt; answer_to(rt, alloc, session, asked) == Ok(serial));
     }
+}
+
+/// That a session is read back in which the first of two packets is struck, and done again.
+fn check_read_back(rt: &impl Abort, alloc: Global, session: &Session) {
+    let struck = "a1007f80a03250900f837fffffffffffffffffffffffffffffffc0";
+    let both = "a1007f80a03250900f82a1201f06ffffffffffffffffffffffffc0";
+    let mut again = read_back(rt, alloc, &[EMPTY], session);
+    assert!(rt; again.next_serial() == 3);
+    assert!(rt; shows(rt, alloc, &again, &[struck]));
+    follow(rt, alloc, &mut again, &[(Step::Redo, Ok(1))], &[both]);
 }
 
 #[test]
 fn what_stood_behind_is_read_back(rt: HostRuntime) {
     let alloc = rt.alloc();
     let mut session = session_of(&rt, alloc, &[EMPTY]);
-    for (asked, serial) in [
-        (Step::Insert(100, 0, TSR_5), 1),
-        (Step::Insert(100, 1, TSR_6), 2),
-        (Step::Strike(1), 1),
-    ] {
-        assert!(rt; answer_to(&rt, alloc, &mut session, asked) == Ok(serial));
-    }
-    let mut again = read_back(&rt, alloc, &[EMPTY], &session);
-    assert!(rt; again.next_serial() == 3);
-    assert!(rt;
-        shows(
-            &rt,
-            alloc,
-            &again,
-            &["a1007f80a03250900f837fffffffffffffffffffffffffffffffc0"]
-        )
-    );
-    follow(
-        &rt,
-        alloc,
-        &mut again,
-        &[(Step::Redo, Ok(1))],
-        &["a1007f80a03250900f82a1201f06ffffffffffffffffffffffffc0"],
-    );
+    insert_and_strike(&rt, alloc, &mut session);
+    check_read_back(&rt, alloc, &session);
 }
 
 /// How many entries a session's journal tells, and how many of them are lent, where all of them stand.
@@ -267,6 +262,11 @@ fn entries_that_a_journal_tells(rt: HostRuntime) {
     let alloc = rt.alloc();
     let mut session = session_of(&rt, alloc, &[REVOCATION]);
     assert!(rt; told(&rt, &session) == (0, Some(0)));
+    check_told_after(&rt, alloc, &mut session);
+}
+
+/// What is told after each of some steps.
+fn check_told_after(rt: &impl Abort, alloc: Global, session: &mut Session) {
     for (step, is) in [
         (Step::SetHead(100, Var::MMcount, 7), (1, Some(1))),
         (Step::Turn(100), (2, Some(2))),
@@ -275,7 +275,7 @@ fn entries_that_a_journal_tells(rt: HostRuntime) {
         (Step::Redo, (2, None)),
         (Step::Redo, (2, Some(2))),
     ] {
-        assert!(rt; answer_to(&rt, alloc, &mut session, step).is_ok());
-        assert!(rt; told(&rt, &session) == is, "{step:?}");
+        assert!(rt; answer_to(rt, alloc, session, step).is_ok());
+        assert!(rt; told(rt, session) == is, "{step:?}");
     }
 }

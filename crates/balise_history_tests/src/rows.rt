@@ -4,7 +4,9 @@ use crate::sessions::{
     ABROAD, EMPTY, LINKING, REVOCATION, Step, TSR_5, TSR_6, TSR_7, TSR_9, answer_to, follow,
     follow_over, session_of, shows,
 };
-use balise_history::{Refusal, Var};
+use balise_history::{Refusal, Session, Var};
+use std::alloc::Global;
+use std::process::Abort;
 
 /// 5.100 with packets 66 of NID_TSR 1, 2, 3 and 4.
 const FOUR: &str = "a1007f80a03250900f80a1201f0242403e0684807c13ffffffffc0";
@@ -274,33 +276,34 @@ fn strikes_under_a_move_behind(rt: HostRuntime) {
     );
 }
 
-#[test]
-fn strikes_a_link(rt: HostRuntime) {
-    let alloc = rt.alloc();
-    let mut session = session_of(&rt, alloc, &[EMPTY, LINKING]);
+/// Edits a group that links, and renumbers it.
+fn edit_linking(rt: &impl Abort, alloc: Global, session: &mut Session) {
     for (asked, serial) in [
         (Step::Set(101, Var::DLink, 0, 600), 1),
         (Step::Renumber(101, 300), 2),
         (Step::Insert(300, 0, TSR_5), 3),
     ] {
-        assert!(rt; answer_to(&rt, alloc, &mut session, asked) == Ok(serial));
+        assert!(rt; answer_to(rt, alloc, session, asked) == Ok(serial));
     }
+}
+
+/// Strikes the first edit out, which is compared with two and is one change.
+fn strike_first(rt: &impl Abort, session: &mut Session) {
     let before = session.plan().changes();
     assert!(rt; before < 100);
-    let struck = session.strike(1).expect(&rt, "a strike");
+    let struck = session.strike(1).expect(rt, "a strike");
     assert_eq!(rt; struck.compared, 2);
     assert_eq!(rt; session.plan().changes(), before + 1);
-    assert!(rt;
-        shows(
-            &rt,
-            alloc,
-            &session,
-            &[
-                EMPTY,
-                "a1007f80a09650900f8282a04540fa0064c603ffffffffffffffc0"
-            ]
-        )
-    );
+}
+
+#[test]
+fn strikes_a_link(rt: HostRuntime) {
+    let alloc = rt.alloc();
+    let mut session = session_of(&rt, alloc, &[EMPTY, LINKING]);
+    edit_linking(&rt, alloc, &mut session);
+    strike_first(&rt, &mut session);
+    let struck = "a1007f80a09650900f8282a04540fa0064c603ffffffffffffffc0";
+    assert!(rt; shows(&rt, alloc, &session, &[EMPTY, struck]));
 }
 
 #[test]

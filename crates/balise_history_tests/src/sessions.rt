@@ -53,11 +53,23 @@ pub(crate) fn id(number: u32) -> Id {
 /// The bits of a group's telegrams, of 210 bits each, whose digits stand apart by a space.
 pub(crate) fn telegrams(rt: &impl Abort, alloc: Global, text: &str) -> Vec<Bits> {
     let mut telegrams = Vec::new(alloc);
+    push_words(rt, alloc, &mut telegrams, text);
+    telegrams
+}
+
+fn push_words(rt: &impl Abort, alloc: Global, telegrams: &mut Vec<Bits>, text: &str) {
     for word in text.split_whitespace() {
         let bits = Bits::from_hex(alloc, word, 210).expect(rt, "digits");
         telegrams.push(bits).expect(rt, "memory");
     }
-    telegrams
+}
+
+fn push_groups(rt: &impl Abort, alloc: Global, groups: &mut Vec<Vec<Bits>>, texts: &[&str]) {
+    for text in texts.iter() {
+        groups
+            .push(telegrams(rt, alloc, *text))
+            .expect(rt, "memory");
+    }
 }
 
 /// The plan of groups.
@@ -66,11 +78,7 @@ pub(crate) fn plan_of(rt: &impl Abort, alloc: Global, texts: &[&str]) -> Result<
     ensures changes { IfOk result (λ p. p.changes ≡ 0) }
 {
     let mut groups = Vec::new(alloc);
-    for text in texts.iter() {
-        groups
-            .push(telegrams(rt, alloc, *text))
-            .expect(rt, "memory");
-    }
+    push_groups(rt, alloc, &mut groups, texts);
     match Plan::read(alloc, groups) {
         Ok(plan) => Ok(plan),
         Err(fault) => Err(fault),

@@ -27,10 +27,10 @@ use Rattle.balise_plan.proofs.Walking.{each-same, each-found, cond-each}
 use Rattle.balise_plan.proofs.Spots.{value-each}
 use Rattle.balise_plan.proofs.Placing.{same-item, unerr}
 use Rattle.balise_plan.proofs.Replaced.{with_telegram}
-use Rattle.balise_plan.specs.Links.{Falling}
+use Rattle.balise_plan.specs.Links.{IndexOf}
 
 -- An edit done, and the indexes for what it makes.
-pub record Outcome (e : Edit) (ids : map.BTreeMap Falling Tag) (names : map.BTreeMap Falling (set.BTreeSet LinkPlace)) (plan new : Plan) : Type 0 where
+pub record Outcome (e : Edit) (ids : IndexOf Tag) (names : IndexOf (set.BTreeSet LinkPlace)) (plan new : Plan) : Type 0 where
   pub accepted : refusal e plan ≡ None
   pub is : new ≡ done (0, e) plan
   pub held : IsHeld ids names new

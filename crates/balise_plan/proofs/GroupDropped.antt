@@ -26,7 +26,7 @@ use Rattle.balise_rules.proofs.Found.{group_sound}
 use Rattle.balise_edit_laws.proofs.Naming.{no_group_from, no_group_to}
 use Rattle.balise_edit_laws.proofs.Identities.{differ_apart, apart_differ, apart_without}
 use Rattle.balise_plan.specs.declared.links.LinkPlace.{LinkPlace}
-use Rattle.balise_plan.specs.Links.{Falling, indexed, is_id, held, named_at, named_in_telegram, AreFull}
+use Rattle.balise_plan.specs.Links.{IndexOf, indexed, is_id, held, named_at, named_in_telegram, AreFull}
 use Rattle.balise_plan.specs.GroupLinks.{links_in_group, ForgetsAll}
 use Rattle.balise_plan.specs.Held.{IsHeld, tag_named}
 use Rattle.balise_plan.proofs.Answered.{Outcome}
@@ -48,7 +48,7 @@ dropped-sound g plan s =
       groups = all-without IsSoundGroup same_tag g plan s.groups;
     }
 
-module _ (plan : rules.Plan) (ids : map.BTreeMap Falling Tag) (names : map.BTreeMap Falling (set.BTreeSet LinkPlace)) (held_is : IsHeld ids names plan) (g : Tag) (ys : Group) (here : find same_tag g plan ≡ Some ys) where
+module _ (plan : rules.Plan) (ids : IndexOf Tag) (names : IndexOf (set.BTreeSet LinkPlace)) (held_is : IsHeld ids names plan) (g : Tag) (ys : Group) (here : find same_tag g plan ≡ Some ys) where
   abbrev rest : rules.Plan
   rest = without same_tag g plan
 
@@ -78,7 +78,7 @@ module _ (plan : rules.Plan) (ids : map.BTreeMap Falling Tag) (names : map.BTree
           tag-named q rest (dropped-sound g plan held_is.sound) y.0 y.1 (find-without tag_test y.0 g d plan ∙ h.0) h.1
           ∙ sym (ap (option_map (λ (y : Tag × Group). y.0)) e)
 
-  names-dropped : (after : map.BTreeMap Falling (set.BTreeSet LinkPlace)) → ForgetsAll (links_in_group g ys) names after → (q : Id) (w : LinkPlace) → held after q w ≡ named_at q w rest
+  names-dropped : (after : IndexOf (set.BTreeSet LinkPlace)) → ForgetsAll (links_in_group g ys) names after → (q : Id) (w : LinkPlace) → held after q w ≡ named_at q w rest
   names-dropped after f q w =
       f q w ∙ ap (λ b. cond b false (held names q w)) (listed-names g ys group-is q w) ∙ ap (cond (is_real q && (same_tag g w.group && there)) false) (held_is.named q w)
       ∙ split_keys tag_test w.group g
@@ -102,7 +102,7 @@ module _ (plan : rules.Plan) (ids : map.BTreeMap Falling Tag) (names : map.BTree
       no true = refl
       no false = refl
 
-  module _ (ls : List (Id × LinkPlace)) (links : ls ≡ links_in_group g ys) (after : map.BTreeMap Falling (set.BTreeSet LinkPlace)) (full : AreFull after) (forgets : ForgetsAll ls names after) (i : Id) (is_own : i ≡ identity_of ys) (left : map.BTreeMap Falling Tag) (out : (q : Id) → indexed left q ≡ cond (is_id i q) None (indexed ids q)) where
+  module _ (ls : List (Id × LinkPlace)) (links : ls ≡ links_in_group g ys) (after : IndexOf (set.BTreeSet LinkPlace)) (full : AreFull after) (forgets : ForgetsAll ls names after) (i : Id) (is_own : i ≡ identity_of ys) (left : IndexOf Tag) (out : (q : Id) → indexed left q ≡ cond (is_id i q) None (indexed ids q)) where
     -- the group is taken out of the plan and of both indexes
     pub dropped : Outcome (DropGroup g) left after plan (remove_entry (same_tag g) plan)
     dropped =

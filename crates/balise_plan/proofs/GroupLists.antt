@@ -10,14 +10,14 @@ use Rattle.balise_rules.specs.Plan.{Group, SoundFrom, IsSoundTelegram}
 use Rattle.balise_rules.proofs.Cases.{unsome}
 use Rattle.balise_rules.proofs.Tests.{IsTest, split_on, equal_yes}
 use Rattle.balise_plan.specs.declared.links.LinkPlace.{LinkPlace}
-use Rattle.balise_plan.specs.Links.{Falling, held, is_id, is_place, Keeps, Sets}
+use Rattle.balise_plan.specs.Links.{IndexOf, held, is_id, is_place, Keeps, Sets}
 use Rattle.balise_plan.specs.GroupLinks.{listed, AddsAll, ForgetsAll}
 
 abbrev pub Links : Type 0
 Links = List (Id × LinkPlace)
 
 abbrev Index : Type 0
-Index = map.BTreeMap Falling (set.BTreeSet LinkPlace)
+Index = IndexOf (set.BTreeSet LinkPlace)
 
 or_assoc : (a b c : Bool) → ((a || b) || c) ≡ (a || (b || c))
 or_assoc true b c = refl

@@ -18,7 +18,7 @@ use Rattle.balise_rules.proofs.Cases.{unsome, parts3}
 use Rattle.balise_edit_laws.proofs.Naming.{no_group_from}
 use Rattle.balise_edit_laws.proofs.Identities.{AllApart, differ_apart, apart_differ}
 use Rattle.balise_plan.specs.declared.links.LinkPlace.{LinkPlace}
-use Rattle.balise_plan.specs.Links.{Falling, indexed, is_id, held, named_at, named_in_telegram, AreFull}
+use Rattle.balise_plan.specs.Links.{IndexOf, indexed, is_id, held, named_at, named_in_telegram, AreFull}
 use Rattle.balise_plan.specs.GroupLinks.{listed, links_in_group, AddsAll}
 use Rattle.balise_plan.specs.Held.{IsHeld, tag_named}
 use Rattle.balise_plan.proofs.Comparing.{id_is}
@@ -34,7 +34,7 @@ and-none false = refl
 insert-between : (z : Tag × Group) (xs : rules.Plan) (i : ℕ) → Between z xs (insert xs i z)
 insert-between z xs i = record { left = take i xs; right = drop i xs; before = sym (take-append-drop i xs); after = refl }
 
-module _ (plan : rules.Plan) (ids : map.BTreeMap Falling Tag) (names : map.BTreeMap Falling (set.BTreeSet LinkPlace)) (held_is : IsHeld ids names plan) (g : Tag) (ys : Group) (absent : find same_tag g plan ≡ None) (good : IsSoundGroup ys) where
+module _ (plan : rules.Plan) (ids : IndexOf Tag) (names : IndexOf (set.BTreeSet LinkPlace)) (held_is : IsHeld ids names plan) (g : Tag) (ys : Group) (absent : find same_tag g plan ≡ None) (good : IsSoundGroup ys) where
   abbrev named : LinkPlace → Id → Option Group → Bool
   named w q o = is_real q && named_in_telegram q w (option_and_then (find eqb w.telegram) o)
 
@@ -87,7 +87,7 @@ module _ (plan : rules.Plan) (ids : map.BTreeMap Falling Tag) (names : map.BTree
             tag-named q new put-sound y.0 y.1 (between-other b y.0 d ∙ h.0) h.1
             ∙ sym (ap (option_map (λ (y : Tag × Group). y.0)) e)
 
-    names-put : (after : map.BTreeMap Falling (set.BTreeSet LinkPlace)) → AddsAll (links_in_group g ys) names after → (q : Id) (w : LinkPlace) → held after q w ≡ named_at q w new
+    names-put : (after : IndexOf (set.BTreeSet LinkPlace)) → AddsAll (links_in_group g ys) names after → (q : Id) (w : LinkPlace) → held after q w ≡ named_at q w new
     names-put after f q w =
         f q w ∙ ap (λ x. x || held names q w) (listed-names g ys good q w) ∙ ap (λ x. (is_real q && (same_tag g w.group && there)) || x) (held_is.named q w)
         ∙ split_keys tag_test w.group g
@@ -107,7 +107,7 @@ module _ (plan : rules.Plan) (ids : map.BTreeMap Falling Tag) (names : map.BTree
         either true false = refl
         either false x = refl
 
-  module _ (free : group_named (identity_of ys) plan ≡ None) (ls : List (Id × LinkPlace)) (links : ls ≡ links_in_group g ys) (after : map.BTreeMap Falling (set.BTreeSet LinkPlace)) (full : AreFull after) (adds : AddsAll ls names after) (i : Id) (is_own : i ≡ identity_of ys) (left : map.BTreeMap Falling Tag) (put : (q : Id) → indexed left q ≡ cond (is_id i q) (Some g) (indexed ids q)) where
+  module _ (free : group_named (identity_of ys) plan ≡ None) (ls : List (Id × LinkPlace)) (links : ls ≡ links_in_group g ys) (after : IndexOf (set.BTreeSet LinkPlace)) (full : AreFull after) (adds : AddsAll ls names after) (i : Id) (is_own : i ≡ identity_of ys) (left : IndexOf Tag) (put : (q : Id) → indexed left q ≡ cond (is_id i q) (Some g) (indexed ids q)) where
     pub held-inserted : (n : ℕ) → IsHeld left after (insert plan n (g, ys))
     held-inserted n =
         let new = insert plan n (g, ys) in

@@ -24,9 +24,9 @@ use Rattle.balise_plan.specs.Held.{IsHeld}
 use Rattle.balise_plan.proofs.Replaced.{Replaces, held-kept}
 use Rattle.balise_plan.proofs.Answered.{Outcome, Refused, well, ill, by-telegram}
 use Rattle.balise_plan.proofs.TelegramEdits.{head-at, head-other, head-refused, head-lacking}
-use Rattle.balise_plan.specs.Links.{Falling}
+use Rattle.balise_plan.specs.Links.{IndexOf}
 
-module _ (plan : rules.Plan) (ids : map.BTreeMap Falling Tag) (names : map.BTreeMap Falling (set.BTreeSet LinkPlace)) (held_is : IsHeld ids names plan) (g : Tag) (t : ℕ) (v : Var) (n : ℕ) (ys zs : Group) (here : find same_tag g plan ≡ Some ys) where
+module _ (plan : rules.Plan) (ids : IndexOf Tag) (names : IndexOf (set.BTreeSet LinkPlace)) (held_is : IsHeld ids names plan) (g : Tag) (t : ℕ) (v : Var) (n : ℕ) (ys zs : Group) (here : find same_tag g plan ≡ Some ys) where
   pub refused : (e : Refusal) → Within eqb t no_telegram (Passed (SetsHead v n)) ys (Err e) zs → Refused (SetHead g t v n) plan (set_value (same_tag g) plan zs) e
   refused e w =
       ill g t plan held_is.sound ys zs here (SetsHead v n) e w

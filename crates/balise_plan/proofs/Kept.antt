@@ -10,14 +10,14 @@ use Rattle.balise_rules.specs.Tags.{same_tag}
 use Rattle.balise_rules.specs.Plan.{Group, Plan}
 use Rattle.balise_plan.specs.declared.links.LinkPlace.{LinkPlace}
 use Rattle.balise_plan.specs.Held.{IsHeld, IsKept, IsBased}
-use Rattle.balise_plan.specs.Links.{Falling}
+use Rattle.balise_plan.specs.Links.{IndexOf}
 
 -- a change is counted
-pub changed : {ids : map.BTreeMap Falling Tag} {names : map.BTreeMap Falling (set.BTreeSet LinkPlace)} {groups : Plan} (n : ℕ) → IsHeld ids names groups → IsKept ids names groups (n + 1)
+pub changed : {ids : IndexOf Tag} {names : IndexOf (set.BTreeSet LinkPlace)} {groups : Plan} (n : ℕ) → IsHeld ids names groups → IsKept ids names groups (n + 1)
 changed n h = record { held = h; based = λ e. absurd (omega (arith, e)) }
 
 -- the groups are as before
-pub kept-as : {ids after_ids : map.BTreeMap Falling Tag} {names after : map.BTreeMap Falling (set.BTreeSet LinkPlace)} {plan groups : Plan} {n : ℕ} → IsKept ids names plan n → groups ≡ plan → IsHeld after_ids after groups → IsKept after_ids after groups n
+pub kept-as : {ids after_ids : IndexOf Tag} {names after : IndexOf (set.BTreeSet LinkPlace)} {plan groups : Plan} {n : ℕ} → IsKept ids names plan n → groups ≡ plan → IsHeld after_ids after groups → IsKept after_ids after groups n
 kept-as {n = n} k e h = record { held = h; based = subst (λ gs. n ≡ 0 → IsBased 0 gs) (sym e) k.based }
 
 -- the tag of a later place is new

@@ -31,7 +31,7 @@ use Rattle.balise_layout.specs.Held.{with_field as with_packet_field}
 use Rattle.balise_telegram.specs.Packed.{links_at, links_found}
 use Rattle.balise_telegram.specs.Setting.{SetsField, field_at}
 use Rattle.balise_plan.specs.declared.links.LinkPlace.{LinkPlace}
-use Rattle.balise_plan.specs.Links.{Falling, held, named_at, named_in_packet, AreFull, Keeps}
+use Rattle.balise_plan.specs.Links.{IndexOf, held, named_at, named_in_packet, AreFull, Keeps}
 use Rattle.balise_plan.specs.LinksIn.{LinksIn, NoLinks}
 use Rattle.balise_plan.specs.PacketLinks.{is_in}
 use Rattle.balise_plan.specs.Relinking.{AddsReal, ForgetsOther, element_at, unnamed}
@@ -94,7 +94,7 @@ parted true true false e x y z h k = refl
 parted true false d e x y z h k = refl
 parted false b d e x y z h k = refl
 
-module _ (plan : rules.Plan) (ids : map.BTreeMap Falling Tag) (names : map.BTreeMap Falling (set.BTreeSet LinkPlace)) (held_is : IsHeld ids names plan) (g : Tag) (t : ℕ) (p : Tag) (k n : ℕ) (ys : Group) (here : find same_tag g plan ≡ Some ys) where
+module _ (plan : rules.Plan) (ids : IndexOf Tag) (names : IndexOf (set.BTreeSet LinkPlace)) (held_is : IsHeld ids names plan) (g : Tag) (t : ℕ) (p : Tag) (k n : ℕ) (ys : Group) (here : find same_tag g plan ≡ Some ys) where
   -- the links of the packet weren't told
   pub untold : (e : Refusal) → NoLinks t ys e → (e ≡ refusals.OutOfMemory) ⊎ (refusal (SetVar g t p NidBg k n) plan ≡ Some e)
   untold e (inl q) = inl q
@@ -107,7 +107,7 @@ module _ (plan : rules.Plan) (ids : map.BTreeMap Falling Tag) (names : map.BTree
     stands : telegram_at g t plan ≡ Some links.0
     stands = at-group g t plan held_is.sound ys ys here (Some links.0) links.1
 
-    module _ (mid after : map.BTreeMap Falling (set.BTreeSet LinkPlace)) (adds : AddsReal names mid to (place g t p k)) where
+    module _ (mid after : IndexOf (set.BTreeSet LinkPlace)) (adds : AddsReal names mid to (place g t p k)) where
       -- not set
       pub kept : ForgetsOther mid after (element_at ls k) to (place g t p k) → Keeps names after
       kept f = unlinked g t p k plan held_is.sound links.0 stands names held_is.named ls links.2 to mid after adds f

@@ -25,7 +25,7 @@ use Rattle.balise_rules.proofs.Used.{used-without_there}
 use Rattle.balise_rules.proofs.Found.{stood, place_is, packet_spelt}
 use Rattle.balise_telegram.specs.Packed.{links_at, links_found}
 use Rattle.balise_plan.specs.declared.links.LinkPlace.{LinkPlace}
-use Rattle.balise_plan.specs.Links.{Falling, held, named_at, named_in_packet, named_in_telegram}
+use Rattle.balise_plan.specs.Links.{IndexOf, held, named_at, named_in_packet, named_in_telegram}
 use Rattle.balise_plan.specs.PacketLinks.{is_in, is_item, links_it, Adds, Forgets, Lacks}
 use Rattle.balise_plan.proofs.LinksAt.{links-at}
 use Rattle.balise_plan.proofs.Identified.{in-packet}
@@ -108,7 +108,7 @@ added-all true false b o h = h refl
 added-all false true b o h = refl
 added-all false false b o h = refl
 
-module _ (g : Tag) (t : ℕ) (p : Tag) (plan : Plan) (sound : IsSound plan) (y : Telegram) (stands : telegram_at g t plan ≡ Some y) (names after : map.BTreeMap Falling (set.BTreeSet LinkPlace)) (index : (q : Id) (w : LinkPlace) → held names q w ≡ named_at q w plan) (x : Packet) (ls : List Id) (all : ls ≡ links_of (country_of y) x) where
+module _ (g : Tag) (t : ℕ) (p : Tag) (plan : Plan) (sound : IsSound plan) (y : Telegram) (stands : telegram_at g t plan ≡ Some y) (names after : IndexOf (set.BTreeSet LinkPlace)) (index : (q : Id) (w : LinkPlace) → held names q w ≡ named_at q w plan) (x : Packet) (ls : List Id) (all : ls ≡ links_of (country_of y) x) where
   pub forgotten : find same_tag p y.packets ≡ Some x → Forgets g t p ls (length ls) names after → (q : Id) (w : LinkPlace) → held after q w ≡ cond (is_in g t p w) (is_real q && named_in_packet (country_of y) q w.element None) (named_at q w plan)
   forgotten e f q w =
       f q w ∙ ap (λ l. cond (links_it g t p l (length l) q w) false (held names q w)) all

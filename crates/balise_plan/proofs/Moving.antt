@@ -6,11 +6,11 @@ use Rattle.std.specs.Option.{IfSome}
 use Rattle.balise_rules.specs.declared.identity.Id.{Id}
 use Rattle.balise_rules.proofs.Tests.{split_on}
 use Rattle.balise_plan.specs.declared.links.LinkPlace.{LinkPlace}
-use Rattle.balise_plan.specs.Links.{Falling, indexed, in_links, is_id, AreFull, Moves}
+use Rattle.balise_plan.specs.Links.{IndexOf, indexed, in_links, is_id, AreFull, Moves}
 use Rattle.balise_plan.proofs.Comparing.{id_one}
 
 abbrev Index : Type 0
-Index = map.BTreeMap Falling (set.BTreeSet LinkPlace)
+Index = IndexOf (set.BTreeSet LinkPlace)
 
 pub either : (b : Bool) (x y : Option (set.BTreeSet LinkPlace)) → IfSome x (λ s. 0 < set.btree_set_len s) → IfSome y (λ s. 0 < set.btree_set_len s) → IfSome (cond b x y) (λ s. 0 < set.btree_set_len s)
 either true x y h k = h

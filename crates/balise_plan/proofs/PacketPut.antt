@@ -28,7 +28,7 @@ use Rattle.balise_telegram.specs.Balise.{InsertsOrWants}
 use Rattle.balise_telegram.specs.Moving.{insert_refusal}
 use Rattle.balise_plan.specs.declared.links.LinkPlace.{LinkPlace}
 use Rattle.balise_plan.specs.declared.spot.Spot.{Spot}
-use Rattle.balise_plan.specs.Links.{Falling, AreFull, Keeps}
+use Rattle.balise_plan.specs.Links.{IndexOf, AreFull, Keeps}
 use Rattle.balise_plan.specs.PacketLinks.{Adds, Lacks}
 use Rattle.balise_plan.specs.PutsIn.{PutsIn, no_telegram, passed}
 use Rattle.balise_plan.specs.Spots.{put_in, put_refusal, spot_stands}
@@ -40,7 +40,7 @@ use Rattle.balise_plan.proofs.TelegramEdits.{here, put-refused, put-lacking}
 use Rattle.balise_plan.proofs.Inserting.{find-put_other, find-put_itself, distinct-put_in, all-put_in, used-put_in}
 use Rattle.balise_plan.proofs.LinksAll.{added, lacks, links-within}
 
-pub held-keeps : (ids : map.BTreeMap Falling Tag) (names after : map.BTreeMap Falling (set.BTreeSet LinkPlace)) (plan : rules.Plan) → IsHeld ids names plan → AreFull after → Keeps names after → IsHeld ids after plan
+pub held-keeps : (ids : IndexOf Tag) (names after : IndexOf (set.BTreeSet LinkPlace)) (plan : rules.Plan) → IsHeld ids names plan → AreFull after → Keeps names after → IsHeld ids after plan
 held-keeps ids names after plan h full k = record { sound = h.sound; tags = h.tags; named = λ q w. k q w ∙ h.named q w; full = full }
 
 -- a spelt packet has few links
@@ -90,7 +90,7 @@ kept s p x o last m y d there roomy absent word =
     }
 
 -- A packet put in, and the indexes for what this makes.
-pub record PutOutcome (g : Tag) (t : ℕ) (s : Spot Tag) (p : Tag) (x : Packet) (ids : map.BTreeMap Falling Tag) (names : map.BTreeMap Falling (set.BTreeSet LinkPlace)) (plan new : rules.Plan) : Type 0 where
+pub record PutOutcome (g : Tag) (t : ℕ) (s : Spot Tag) (p : Tag) (x : Packet) (ids : IndexOf Tag) (names : IndexOf (set.BTreeSet LinkPlace)) (plan new : rules.Plan) : Type 0 where
   pub accepted : put_refusal g t s x plan ≡ None
   pub is : new ≡ in_packets g t (put_in s (p, x)) plan
   pub held : IsHeld ids names new
@@ -104,7 +104,7 @@ pub record PutFailed (g : Tag) (t : ℕ) (s : Spot Tag) (x : Packet) (plan new :
 unpair : (e f : Refusal × Packet) → ◌≡◌ {A = Result Unit (Refusal × Packet)} (Err e) (Err f) → e ≡ f
 unpair e f q = cc
 
-module _ (plan : rules.Plan) (ids : map.BTreeMap Falling Tag) (names : map.BTreeMap Falling (set.BTreeSet LinkPlace)) (held_is : IsHeld ids names plan) (g : Tag) (t : ℕ) (s : Spot Tag) (p : Tag) (x : Packet) (ys : Group) (group : find same_tag g plan ≡ Some ys)
+module _ (plan : rules.Plan) (ids : IndexOf Tag) (names : IndexOf (set.BTreeSet LinkPlace)) (held_is : IsHeld ids names plan) (g : Tag) (t : ℕ) (s : Spot Tag) (p : Tag) (x : Packet) (ys : Group) (group : find same_tag g plan ≡ Some ys)
     (fresh : (y : Telegram) → telegram_at g t plan ≡ Some y → find same_tag p y.packets ≡ None) (spelt : (y : Telegram) → telegram_at g t plan ≡ Some y → IsSpelt (version_of y) x) where
   at : (o : Option Telegram) → find eqb t ys ≡ o → telegram_at g t plan ≡ o
   at o e = ap (option_and_then (find eqb t)) group ∙ e
@@ -150,7 +150,7 @@ module _ (plan : rules.Plan) (ids : map.BTreeMap Falling Tag) (names : map.BTree
               or (inl m) = inl m
               or (inr m) = inr (put-refused g t plan ys group s x y h ∙ m)
 
-      pub put-done : (u : Unit) → Within eqb t (no_telegram x) (PutsIn s p x) ys (Ok u) zs → (ls : List Id) → ls ≡ links_of c x → (after : map.BTreeMap Falling (set.BTreeSet LinkPlace)) → AreFull after → Adds g t p ls (length ls) names after →
+      pub put-done : (u : Unit) → Within eqb t (no_telegram x) (PutsIn s p x) ys (Ok u) zs → (ls : List Id) → ls ≡ links_of c x → (after : IndexOf (set.BTreeSet LinkPlace)) → AreFull after → Adds g t p ls (length ls) names after →
           PutOutcome g t s p x ids after plan (set_value (same_tag g) plan zs)
       put-done u w ls all after full adds =
           spoken g t plan held_is.sound ys zs group (no_telegram x) (PutsIn s p x) (Ok u) w

@@ -44,7 +44,7 @@ use Rattle.balise_plan.proofs.Answered.{Outcome, Failed, Ill, well, ill, by-tele
 use Rattle.balise_plan.proofs.TelegramEdits.{here, delete-at, move-at, move-other, move-refused, move-lacking, before-refused, before-lacking}
 use Rattle.balise_plan.proofs.Inserting.{find-put_other, find-put_itself}
 use Rattle.balise_plan.proofs.PacketPut.{kept}
-use Rattle.balise_plan.specs.Links.{Falling}
+use Rattle.balise_plan.specs.Links.{IndexOf}
 
 -- ---- before a neighbour, in one telegram
 
@@ -103,7 +103,7 @@ same-before p n y w r =
 -- ---- in the plan
 
 -- A packet moved, and the indexes for what this makes.
-pub record ShiftOutcome (g : Tag) (t : ℕ) (p : Tag) (s : Spot Tag) (ids : map.BTreeMap Falling Tag) (names : map.BTreeMap Falling (set.BTreeSet LinkPlace)) (plan new : rules.Plan) : Type 0 where
+pub record ShiftOutcome (g : Tag) (t : ℕ) (p : Tag) (s : Spot Tag) (ids : IndexOf Tag) (names : IndexOf (set.BTreeSet LinkPlace)) (plan new : rules.Plan) : Type 0 where
   pub accepted : shift_refusal g t p s plan ≡ None
   pub is : new ≡ shifted g t p s plan
   pub held : IsHeld ids names new
@@ -113,7 +113,7 @@ pub record ShiftFailed (g : Tag) (t : ℕ) (p : Tag) (s : Spot Tag) (plan new : 
   pub why : (r ≡ refusals.OutOfMemory) ⊎ (shift_refusal g t p s plan ≡ Some r)
   pub is : new ≡ plan
 
-module _ (plan : rules.Plan) (ids : map.BTreeMap Falling Tag) (names : map.BTreeMap Falling (set.BTreeSet LinkPlace)) (held_is : IsHeld ids names plan) (g : Tag) (t : ℕ) (p : Tag) (b : Option Tag) (ys zs : Group) (here : find same_tag g plan ≡ Some ys) where
+module _ (plan : rules.Plan) (ids : IndexOf Tag) (names : IndexOf (set.BTreeSet LinkPlace)) (held_is : IsHeld ids names plan) (g : Tag) (t : ℕ) (p : Tag) (b : Option Tag) (ys zs : Group) (here : find same_tag g plan ≡ Some ys) where
   unmoved_after : (e : Refusal) → Within eqb t no_telegram (Passed (OrWants (Shifts p b))) ys (Err e) zs → Failed (MovePacket g t p b) plan (set_value (same_tag g) plan zs) e
   unmoved_after e w =
       ill g t plan held_is.sound ys zs here (OrWants (Shifts p b)) e w
@@ -144,7 +144,7 @@ module _ (plan : rules.Plan) (ids : map.BTreeMap Falling Tag) (names : map.BTree
         held = subst (IsHeld ids names) (sym l.is) (held-kept plan held_is.sound g t l.old l.next l.stands replaces ids names held_is same);
       }
 
-module _ (plan : rules.Plan) (ids : map.BTreeMap Falling Tag) (names : map.BTreeMap Falling (set.BTreeSet LinkPlace)) (held_is : IsHeld ids names plan) (g : Tag) (t : ℕ) (p : Tag) (n : Option Tag) (ys zs : Group) (here_is : find same_tag g plan ≡ Some ys) where
+module _ (plan : rules.Plan) (ids : IndexOf Tag) (names : IndexOf (set.BTreeSet LinkPlace)) (held_is : IsHeld ids names plan) (g : Tag) (t : ℕ) (p : Tag) (n : Option Tag) (ys zs : Group) (here_is : find same_tag g plan ≡ Some ys) where
   unmoved_before : (e : Refusal) → Within eqb t no_telegram (Passed (OrWants (ShiftsBefore p n))) ys (Err e) zs → ShiftFailed g t p (Before n) plan (set_value (same_tag g) plan zs) e
   unmoved_before e w =
       ill g t plan held_is.sound ys zs here_is (OrWants (ShiftsBefore p n)) e w
@@ -171,7 +171,7 @@ module _ (plan : rules.Plan) (ids : map.BTreeMap Falling Tag) (names : map.BTree
 
 -- ---- either
 
-module _ (plan : rules.Plan) (ids : map.BTreeMap Falling Tag) (names : map.BTreeMap Falling (set.BTreeSet LinkPlace)) (held_is : IsHeld ids names plan) (g : Tag) (t : ℕ) (p : Tag) where
+module _ (plan : rules.Plan) (ids : IndexOf Tag) (names : IndexOf (set.BTreeSet LinkPlace)) (held_is : IsHeld ids names plan) (g : Tag) (t : ℕ) (p : Tag) where
   pub unmoved : (s : Spot Tag) (ys zs : Group) → find same_tag g plan ≡ Some ys → (e : Refusal) → Within eqb t no_telegram (Passed (OrWants (ShiftsIn s p))) ys (Err e) zs → ShiftFailed g t p s plan (set_value (same_tag g) plan zs) e
   unmoved (After a) ys zs h e w = let r = unmoved_after plan ids names held_is g t p a ys zs h e w in record { why = r.why; is = r.is }
   unmoved (Before n) ys zs h e w = unmoved_before plan ids names held_is g t p n ys zs h e w

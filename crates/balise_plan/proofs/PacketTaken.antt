@@ -27,7 +27,7 @@ use Rattle.balise_telegram.specs.Balise.{OrWants}
 use Rattle.balise_telegram.specs.Moving.{TakesOut}
 use Rattle.balise_telegram.specs.Packed.{links_at, links_found}
 use Rattle.balise_plan.specs.declared.links.LinkPlace.{LinkPlace}
-use Rattle.balise_plan.specs.Links.{Falling, AreFull}
+use Rattle.balise_plan.specs.Links.{IndexOf, AreFull}
 use Rattle.balise_plan.specs.PacketLinks.{Forgets}
 use Rattle.balise_plan.specs.LinksIn.{LinksIn, NoLinks}
 use Rattle.balise_plan.specs.Within.{Within, Passed, no_telegram}
@@ -37,7 +37,7 @@ use Rattle.balise_plan.proofs.Answered.{Outcome, Failed, Ill, well, ill, by-tele
 use Rattle.balise_plan.proofs.TelegramEdits.{delete-at, delete-other, delete-refused, delete-lacking}
 use Rattle.balise_plan.proofs.LinksAll.{forgotten}
 
-module _ (plan : rules.Plan) (ids : map.BTreeMap Falling Tag) (names : map.BTreeMap Falling (set.BTreeSet LinkPlace)) (held_is : IsHeld ids names plan) (g : Tag) (t : ℕ) (p : Tag) (ys : Group) (here : find same_tag g plan ≡ Some ys) where
+module _ (plan : rules.Plan) (ids : IndexOf Tag) (names : IndexOf (set.BTreeSet LinkPlace)) (held_is : IsHeld ids names plan) (g : Tag) (t : ℕ) (p : Tag) (ys : Group) (here : find same_tag g plan ≡ Some ys) where
   -- the links of the packet weren't told
   pub untold : (e : Refusal) → NoLinks t ys e → (e ≡ refusals.OutOfMemory) ⊎ (refusal (DeletePacket g t p) plan ≡ Some e)
   untold e (inl q) = inl q
@@ -61,7 +61,7 @@ module _ (plan : rules.Plan) (ids : map.BTreeMap Falling Tag) (names : map.BTree
       links-is : (y : Telegram) → telegram_at g t plan ≡ Some y → ls ≡ links_at p y
       links-is y e = links.2 ∙ ap (links_at p) (unsome (sym (at-group g t plan held_is.sound ys ys here (Some links.0) links.1) ∙ e))
 
-      pub taken : (after : map.BTreeMap Falling (set.BTreeSet LinkPlace)) → AreFull after → Forgets g t p ls (length ls) names after →
+      pub taken : (after : IndexOf (set.BTreeSet LinkPlace)) → AreFull after → Forgets g t p ls (length ls) names after →
           Outcome (DeletePacket g t p) ids after plan (set_value (same_tag g) plan zs)
       taken after full f =
           let l = well g t plan held_is.sound ys zs here (OrWants (TakesOut p)) a w in

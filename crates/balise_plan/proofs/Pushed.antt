@@ -14,10 +14,10 @@ use Rattle.balise_plan.specs.Held.{IsKept, IsBased, IsHeld}
 use Rattle.balise_plan.specs.Spots.{Pushes}
 use Rattle.balise_plan.proofs.Kept.{based-more}
 use Rattle.balise_plan.proofs.KeyPlaces.{end-place}
-use Rattle.balise_plan.specs.Links.{Falling}
+use Rattle.balise_plan.specs.Links.{IndexOf}
 
 -- one more group is tagged by its place
-pub kept-more : {ids left : tree.BTreeMap Falling Tag} {names after : tree.BTreeMap Falling (set.BTreeSet LinkPlace)} {plan groups : Plan} {changes : ℕ} → IsKept ids names plan changes → (ys : Group) (n : ℕ) → n ≡ length plan → groups ≡ insert plan n (Base n, ys) → IsHeld left after groups → IsKept left after groups changes
+pub kept-more : {ids left : IndexOf Tag} {names after : IndexOf (set.BTreeSet LinkPlace)} {plan groups : Plan} {changes : ℕ} → IsKept ids names plan changes → (ys : Group) (n : ℕ) → n ≡ length plan → groups ≡ insert plan n (Base n, ys) → IsHeld left after groups → IsKept left after groups changes
 kept-more {plan = plan} {groups = groups} k ys n q e h = record {
   held = h;
   based = λ z. subst (IsBased 0) (sym (e ∙ ap (λ m. insert plan m (Base n, ys)) q ∙ end-place (Base n, ys) plan)) (let at : 0 + length plan ≡ n = omega (arith, q) in based-more 0 n plan ys (k.based z) at);

@@ -15,7 +15,7 @@ use Rattle.balise_rules.proofs.Tests.{split_on, tag_test, nat_test, id_test, tes
 use Rattle.balise_rules.proofs.Cases.{found}
 use Rattle.balise_telegram.specs.Packed.{links_at, links_found}
 use Rattle.balise_plan.specs.declared.links.LinkPlace.{LinkPlace}
-use Rattle.balise_plan.specs.Links.{Falling, held, is_id, is_place, named_at, named_in_packet, Keeps}
+use Rattle.balise_plan.specs.Links.{IndexOf, held, is_id, is_place, named_at, named_in_packet, Keeps}
 use Rattle.balise_plan.specs.PacketLinks.{is_in}
 use Rattle.balise_plan.specs.Relinking.{AddsReal, ForgetsOther, element_at, unnamed}
 use Rattle.balise_plan.proofs.Comparing.{id_is, place_one}
@@ -84,7 +84,7 @@ told : (r : Id) (o : Option Id) → (is_real r && is_the r o) ≡ (is_real r && 
 told r None = unnamed-real r
 told r (Some j) = refl
 
-module _ (g : Tag) (t : ℕ) (p : Tag) (k : ℕ) (plan : Plan) (sound : IsSound plan) (y : Telegram) (stands : telegram_at g t plan ≡ Some y) (names : map.BTreeMap Falling (set.BTreeSet LinkPlace)) (index : (q : Id) (w : LinkPlace) → held names q w ≡ named_at q w plan) (ls : List Id) (all : ls ≡ links_at p y) where
+module _ (g : Tag) (t : ℕ) (p : Tag) (k : ℕ) (plan : Plan) (sound : IsSound plan) (y : Telegram) (stands : telegram_at g t plan ≡ Some y) (names : IndexOf (set.BTreeSet LinkPlace)) (index : (q : Id) (w : LinkPlace) → held names q w ≡ named_at q w plan) (ls : List Id) (all : ls ≡ links_at p y) where
   here : (r : Id) → held names r (place g t p k) ≡ (is_real r && same_id (element_at ls k) r)
   here r =
       index r (place g t p k) ∙ named-inside g t plan sound y stands p r (place g t p k) inside
@@ -98,7 +98,7 @@ module _ (g : Tag) (t : ℕ) (p : Tag) (k : ℕ) (plan : Plan) (sound : IsSound 
       inside : is_in g t p (place g t p k) ≡ true
       inside = let a = tag_test.itself g in let b = nat_test.itself t in let c = tag_test.itself p in simp (a, b, c)
 
-  module _ (to : Id) (mid after : map.BTreeMap Falling (set.BTreeSet LinkPlace)) (adds : AddsReal names mid to (place g t p k)) where
+  module _ (to : Id) (mid after : IndexOf (set.BTreeSet LinkPlace)) (adds : AddsReal names mid to (place g t p k)) where
     abbrev from : Id
     from = element_at ls k
 

@@ -33,7 +33,7 @@ use Rattle.balise_edit_laws.proofs.Refusing.{refused_exactly}
 use Rattle.balise_edit_laws.proofs.SoundKept.{groups_kept, sound_parts}
 use Rattle.balise_plan.specs.declared.links.LinkPlace.{LinkPlace}
 use Rattle.balise_plan.specs.declared.change.Change.TheVariants.{Name}
-use Rattle.balise_plan.specs.Links.{Falling, indexed, is_id, held, in_links, named_at, Moves, AreFull}
+use Rattle.balise_plan.specs.Links.{IndexOf, indexed, is_id, held, in_links, named_at, Moves, AreFull}
 use Rattle.balise_plan.specs.Walks.{change_all, places_of, renumbered_heads}
 use Rattle.balise_plan.specs.Held.{IsHeld, tag_named}
 use Rattle.balise_plan.proofs.Comparing.{id_one, id_is, id_itself}
@@ -161,7 +161,7 @@ module _ (plan : rules.Plan) (sound : IsSound plan) (g0 : Tag) (ys0 : Group) (n 
         (λ d q. simp d (ap (λ (j : Id). record { country = j.country; number = n }) q))
         (λ d. simp d))
 
-    module _ (names : map.BTreeMap Falling (set.BTreeSet LinkPlace)) (index : (q : Id) (w : LinkPlace) → held names q w ≡ named_at q w plan) (empty : indexed names to ≡ None) (after : map.BTreeMap Falling (set.BTreeSet LinkPlace)) (moves : Moves names after from to) where
+    module _ (names : IndexOf (set.BTreeSet LinkPlace)) (index : (q : Id) (w : LinkPlace) → held names q w ≡ named_at q w plan) (empty : indexed names to ≡ None) (after : IndexOf (set.BTreeSet LinkPlace)) (moves : Moves names after from to) where
       pub names_new : (q : Id) (w : LinkPlace) → held after q w ≡ named_at q w new
       names_new q w = moves q w ∙ ap (λ b. cond b (held names from w) (cond (is_id from q) false (held names q w))) (id_is to q) ∙ ap (λ b. cond (same_id to q) (held names from w) (cond b false (held names q w))) (id_is from q)
           ∙ ap (λ b. cond (same_id to q) b (cond (same_id from q) false (held names q w))) (index from w ∙ named-is from w plan) ∙ ap (λ b. cond (same_id to q) (is_real from && is_the from (id_at w plan)) (cond (same_id from q) false b)) (index q w ∙ named-is q w plan)
@@ -223,7 +223,7 @@ module _ (plan : rules.Plan) (sound : IsSound plan) (g0 : Tag) (ys0 : Group) (n 
 
 -- ---- what the code knows when it has renumbered the group whose identity is `own`
 
-pub record Steps (plan : rules.Plan) (g0 : Tag) (n : ℕ) (own : Id) (ids first ids_after : map.BTreeMap Falling Tag) (names after : map.BTreeMap Falling (set.BTreeSet LinkPlace)) (walked_groups groups : rules.Plan) : Type 0 where
+pub record Steps (plan : rules.Plan) (g0 : Tag) (n : ℕ) (own : Id) (ids first ids_after : IndexOf Tag) (names after : IndexOf (set.BTreeSet LinkPlace)) (walked_groups groups : rules.Plan) : Type 0 where
   pub tags : (q : Id) → indexed ids q ≡ tag_named q plan
   pub put : (q : Id) → indexed first q ≡ cond (is_id (record { country = own.country; number = n }) q) (Some g0) (indexed ids q)
   pub taken_out : (q : Id) → indexed ids_after q ≡ cond (is_id own q) None (indexed first q)
@@ -235,7 +235,7 @@ pub record Steps (plan : rules.Plan) (g0 : Tag) (n : ℕ) (own : Id) (ids first 
   pub links : walked_groups ≡ change_all (Name n) (places_of (indexed after (record { country = own.country; number = n }))) plan
   pub heads : groups ≡ renumbered_heads g0 n walked_groups
 
-pub record Outcome (plan : rules.Plan) (g0 : Tag) (n : ℕ) (ids : map.BTreeMap Falling Tag) (names : map.BTreeMap Falling (set.BTreeSet LinkPlace)) (groups : rules.Plan) : Type 0 where
+pub record Outcome (plan : rules.Plan) (g0 : Tag) (n : ℕ) (ids : IndexOf Tag) (names : IndexOf (set.BTreeSet LinkPlace)) (groups : rules.Plan) : Type 0 where
   pub accepted : refusal (Renumber g0 n) plan ≡ None
   pub is : groups ≡ done (0, Renumber g0 n) plan
   pub held : IsHeld ids names groups
@@ -245,7 +245,7 @@ none-of None e = refl
 none-of (Some x) e = absurd (true≢false e)
 
 -- what was put under a new identity and taken out again leaves all as it was
-pub there_and_back : (m mid n : map.BTreeMap Falling Tag) (to : Id) (g : Tag) → is_some (indexed m to) ≡ false → ((r : Id) → indexed mid r ≡ cond (is_id to r) (Some g) (indexed m r)) → ((r : Id) → indexed n r ≡ cond (is_id to r) None (indexed mid r)) → (r : Id) → indexed n r ≡ indexed m r
+pub there_and_back : (m mid n : IndexOf Tag) (to : Id) (g : Tag) → is_some (indexed m to) ≡ false → ((r : Id) → indexed mid r ≡ cond (is_id to r) (Some g) (indexed m r)) → ((r : Id) → indexed n r ≡ cond (is_id to r) None (indexed mid r)) → (r : Id) → indexed n r ≡ indexed m r
 there_and_back m mid n to g e put out r =
     split_on (is_id to r)
     (λ d. out r ∙ ap (λ b. cond b None (indexed mid r)) d ∙ sym (ap (indexed m) (sym (id_one to r d)) ∙ none-of (indexed m to) e))
@@ -255,7 +255,7 @@ none-map : {A B : Type 0} (f : A → B) (o : Option A) → option_map f o ≡ No
 none-map f None e = refl
 none-map f (Some x) e = absurd cc
 
-module _ (plan : rules.Plan) (sound : IsSound plan) (g0 : Tag) (ys0 : Group) (n : ℕ) (here : find same_tag g0 plan ≡ Some ys0) (small : n < 16384) (other : n ≢ 16383) (ids first ids_after : map.BTreeMap Falling Tag) (names after : map.BTreeMap Falling (set.BTreeSet LinkPlace)) (walked_groups groups : rules.Plan) where
+module _ (plan : rules.Plan) (sound : IsSound plan) (g0 : Tag) (ys0 : Group) (n : ℕ) (here : find same_tag g0 plan ≡ Some ys0) (small : n < 16384) (other : n ≢ 16383) (ids first ids_after : IndexOf Tag) (names after : IndexOf (set.BTreeSet LinkPlace)) (walked_groups groups : rules.Plan) where
   finished : Steps plan g0 n (identity_of ys0) ids first ids_after names after walked_groups groups → Outcome plan g0 n ids_after after groups
   finished s =
       let i : Id = record { country = (identity_of ys0).country; number = n } in
@@ -285,7 +285,7 @@ some-map : {A B : Type 0} (f : A → B) (o : Option A) → is_some (option_map f
 some-map f None = refl
 some-map f (Some x) = refl
 
-module _ (plan : rules.Plan) (ids : map.BTreeMap Falling Tag) (names : map.BTreeMap Falling (set.BTreeSet LinkPlace)) (held_is : IsHeld ids names plan) where
+module _ (plan : rules.Plan) (ids : IndexOf Tag) (names : IndexOf (set.BTreeSet LinkPlace)) (held_is : IsHeld ids names plan) where
   pub known_id : (i : Id) → is_some (indexed ids i) ≡ is_some (group_named i plan)
   known_id i = ap is_some (held_is.tags i) ∙ some-map (λ (y : Tag × Group). y.0) (group_named i plan)
 

@@ -24,7 +24,7 @@ use Rattle.balise_rules.specs.Plan.{IsSoundGroup}
 use Rattle.balise_edit_laws.proofs.GroupsKept.{GroupKept, sound_each, sound_as}
 use Rattle.balise_edit_laws.proofs.Identities.{differ_apart, apart_differ, apart_each}
 use Rattle.balise_plan.specs.declared.links.LinkPlace.{LinkPlace}
-use Rattle.balise_plan.specs.Links.{Falling, held, named_at, named_in_packet, named_in_telegram, AreFull}
+use Rattle.balise_plan.specs.Links.{IndexOf, held, named_at, named_in_packet, named_in_telegram, AreFull}
 use Rattle.balise_plan.specs.PacketLinks.{is_in}
 use Rattle.balise_plan.specs.Held.{IsHeld, tag_named}
 use Rattle.balise_plan.proofs.Renamed.{telegram-each}
@@ -128,7 +128,7 @@ module _ (plan : rules.Plan) (sound : IsSound plan) (g : Tag) (t : ℕ) (y z : T
       by true false d n = refl
       by false b d n = refl
 
-  module _ (ids : map.BTreeMap Falling Tag) (names : map.BTreeMap Falling (set.BTreeSet LinkPlace)) (held_is : IsHeld ids names plan) where
+  module _ (ids : IndexOf Tag) (names : IndexOf (set.BTreeSet LinkPlace)) (held_is : IsHeld ids names plan) where
     pub held-kept : ((p : Tag) → find same_tag p z.packets ≡ find same_tag p y.packets) → IsHeld ids names (with_telegram g t z plan)
     held-kept same = record {
       sound = replaced-sound;
@@ -138,7 +138,7 @@ module _ (plan : rules.Plan) (sound : IsSound plan) (g : Tag) (t : ℕ) (y z : T
     }
 
     pub held-put : (p : Tag) (o : Option Packet) → find same_tag p z.packets ≡ o → ((r : Tag) → same_tag r p ≡ false → find same_tag r z.packets ≡ find same_tag r y.packets) →
-        (after : map.BTreeMap Falling (set.BTreeSet LinkPlace)) → AreFull after → ((q : Id) (w : LinkPlace) → held after q w ≡ cond (is_in g t p w) (is_real q && named_in_packet (country_of y) q w.element o) (named_at q w plan)) →
+        (after : IndexOf (set.BTreeSet LinkPlace)) → AreFull after → ((q : Id) (w : LinkPlace) → held after q w ≡ cond (is_in g t p w) (is_real q && named_in_packet (country_of y) q w.element o) (named_at q w plan)) →
         IsHeld ids after (with_telegram g t z plan)
     held-put p o e same after full index = record {
       sound = replaced-sound;

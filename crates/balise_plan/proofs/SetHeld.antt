@@ -24,7 +24,7 @@ use Rattle.balise_plan.specs.Held.{IsHeld}
 use Rattle.balise_plan.proofs.Renamed.{telegram-each}
 use Rattle.balise_plan.proofs.Turned.{tags-kept, map-id}
 use Rattle.balise_plan.proofs.Identified.{id_at, is_the, named-is, id-after}
-use Rattle.balise_plan.specs.Links.{Falling}
+use Rattle.balise_plan.specs.Links.{IndexOf}
 
 off : (a b c d : Bool) → d ≡ false → (a && (b && (c && d))) ≡ false
 off true true true d e = e
@@ -32,7 +32,7 @@ off true true false d e = refl
 off true false c d e = refl
 off false b c d e = refl
 
-module _ (plan : rules.Plan) (ids : map.BTreeMap Falling Tag) (names : map.BTreeMap Falling (set.BTreeSet LinkPlace)) (held_is : IsHeld ids names plan) (g : Tag) (t : ℕ) (p : Tag) (v : Var) (k n : ℕ) (own : Id) (ok : refusal (SetVar g t p v k n) plan ≡ None) (apart : same_var v NidBg ≡ false) where
+module _ (plan : rules.Plan) (ids : IndexOf Tag) (names : IndexOf (set.BTreeSet LinkPlace)) (held_is : IsHeld ids names plan) (g : Tag) (t : ℕ) (p : Tag) (v : Var) (k n : ℕ) (own : Id) (ok : refusal (SetVar g t p v k n) plan ≡ None) (apart : same_var v NidBg ≡ false) where
   accepted : Accepted (SetVar g t p v k n) plan
   accepted = (refused_exactly (SetVar g t p v k n) plan held_is.sound).0 ok
 

@@ -15,7 +15,7 @@ use Rattle.balise_rules.specs.Names.{Names, is_named, is_real, is_it, calls, cou
 use Rattle.balise_rules.proofs.Tests.{split_on, id_test}
 use Rattle.balise_edit_laws.proofs.Naming.{no_name_from, no_name_to}
 use Rattle.balise_plan.specs.declared.links.LinkPlace.{LinkPlace}
-use Rattle.balise_plan.specs.Links.{Falling, indexed, compare_place, is_place, held, in_links, named_at, named_in_telegram, named_in_packet, AreFull}
+use Rattle.balise_plan.specs.Links.{IndexOf, indexed, compare_place, is_place, held, in_links, named_at, named_in_telegram, named_in_packet, AreFull}
 use Rattle.balise_plan.proofs.Walking.{place}
 use Rattle.balise_plan.proofs.Comparing.{places}
 
@@ -46,7 +46,7 @@ place-names i plan w e = let h = and_parts (is_real i) _ e in in-telegram h.0 (t
     in-telegram r None s c = absurd (true≢false (sym c))
     in-telegram r (Some y) s c = in-packets r y s (find same_tag w.packet y.packets) refl c
 
-module _ (names : map.BTreeMap Falling (set.BTreeSet LinkPlace)) (plan : Plan) (sound : IsSound plan) (index : (q : Id) (w : LinkPlace) → held names q w ≡ named_at q w plan) where
+module _ (names : IndexOf (set.BTreeSet LinkPlace)) (plan : Plan) (sound : IsSound plan) (index : (q : Id) (w : LinkPlace) → held names q w ≡ named_at q w plan) where
   pub untold : (i : Id) → indexed names i ≡ None → is_named i plan ≡ false
   untold i e = no_name_to i plan sound (λ g t p k n. true≢false (sym (named-place i plan (place g t p k) n) ∙ sym (index i (place g t p k)) ∙ ap (λ o. in_links o (place g t p k)) e))
 

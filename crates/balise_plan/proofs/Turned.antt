@@ -27,7 +27,7 @@ use Rattle.balise_rules.proofs.Reversed.{find-reverse}
 use Rattle.balise_edit_laws.proofs.SoundKept.{groups_kept, sound_parts}
 use Rattle.balise_plan.specs.declared.links.LinkPlace.{LinkPlace}
 use Rattle.balise_plan.specs.declared.change.Change.TheVariants.{Flip}
-use Rattle.balise_plan.specs.Links.{Falling, indexed, in_links, named_at}
+use Rattle.balise_plan.specs.Links.{IndexOf, indexed, in_links, named_at}
 use Rattle.balise_plan.specs.Walks.{change_all, places_of, turned_in, FitsTotals, FitsIn}
 use Rattle.balise_plan.specs.Held.{IsHeld, tag_named}
 use Rattle.balise_plan.proofs.Walking.{among_after, all_once, group_fields, change-all, all-same, all-flip, found-each}
@@ -67,12 +67,12 @@ map-id (Some x) = refl
 
 -- ---- turning
 
-pub record TurnOutcome (plan : rules.Plan) (g0 : Tag) (ids : map.BTreeMap Falling Tag) (names : map.BTreeMap Falling (set.BTreeSet LinkPlace)) (groups : rules.Plan) : Type 0 where
+pub record TurnOutcome (plan : rules.Plan) (g0 : Tag) (ids : IndexOf Tag) (names : IndexOf (set.BTreeSet LinkPlace)) (groups : rules.Plan) : Type 0 where
   pub accepted : refusal (TurnGroup g0) plan ≡ None
   pub is : groups ≡ done (0, TurnGroup g0) plan
   pub held : IsHeld ids names groups
 
-module _ (plan : rules.Plan) (ids : map.BTreeMap Falling Tag) (names : map.BTreeMap Falling (set.BTreeSet LinkPlace)) (held_is : IsHeld ids names plan) (g0 : Tag) (ys0 : Group) (here : find same_tag g0 plan ≡ Some ys0) where
+module _ (plan : rules.Plan) (ids : IndexOf Tag) (names : IndexOf (set.BTreeSet LinkPlace)) (held_is : IsHeld ids names plan) (g0 : Tag) (ys0 : Group) (here : find same_tag g0 plan ≡ Some ys0) where
   accepted : Accepted (TurnGroup g0) plan
   accepted = (tt, (ys0, here))
 

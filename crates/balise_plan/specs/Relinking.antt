@@ -6,7 +6,7 @@ use Rattle.balise_rules.specs.declared.identity.Id.{Id}
 use Rattle.balise_rules.specs.Tags.{same_id}
 use Rattle.balise_rules.specs.Names.{is_real}
 use Rattle.balise_plan.specs.declared.links.LinkPlace.{LinkPlace}
-use Rattle.balise_plan.specs.Links.{Falling, held, is_id, is_place}
+use Rattle.balise_plan.specs.Links.{IndexOf, held, is_id, is_place}
 
 -- an identity that nothing names
 abbrev pub unnamed : Id
@@ -17,9 +17,9 @@ abbrev pub element_at : List Id → ℕ → Id
 element_at links k = unwrap_or (slice_get links k) unnamed
 
 -- w names q, if that can be named
-abbrev pub AddsReal : map.BTreeMap Falling (set.BTreeSet LinkPlace) → map.BTreeMap Falling (set.BTreeSet LinkPlace) → Id → LinkPlace → Type 0
+abbrev pub AddsReal : IndexOf (set.BTreeSet LinkPlace) → IndexOf (set.BTreeSet LinkPlace) → Id → LinkPlace → Type 0
 AddsReal m n q w = (r : Id) (v : LinkPlace) → held n r v ≡ cond (is_real q && (is_id q r && is_place w v)) true (held m r v)
 
 -- w doesn't name the one identity, unless that is the other
-abbrev pub ForgetsOther : map.BTreeMap Falling (set.BTreeSet LinkPlace) → map.BTreeMap Falling (set.BTreeSet LinkPlace) → Id → Id → LinkPlace → Type 0
+abbrev pub ForgetsOther : IndexOf (set.BTreeSet LinkPlace) → IndexOf (set.BTreeSet LinkPlace) → Id → Id → LinkPlace → Type 0
 ForgetsOther m n kept gone w = (r : Id) (v : LinkPlace) → held n r v ≡ cond (not (same_id kept gone) && (is_id gone r && is_place w v)) false (held m r v)

@@ -9,6 +9,7 @@ ghost use Rattle.balise_plan.specs.GroupLinks.{links_from, links_in_group, links
 ghost use Rattle.balise_plan.specs.Links.{held, AreFull, Keeps};
 
 use crate::group::Group;
+use crate::identity_map::IdentityMap;
 use crate::link_set::Links;
 use crate::links::LinkPlace;
 use crate::links_of::count;
@@ -16,8 +17,6 @@ use crate::names::{add, forget};
 use balise_rules::{Id, Refusal, Tag};
 use balise_telegram::Balise;
 use std::alloc::{AllocError, Global};
-use std::cmp::Reverse;
-use std::collections::BTreeMap;
 
 /// Each link of a group with its place, in order.
 pub(crate) fn links_in(
@@ -84,7 +83,7 @@ fn add_packet(
 
 /// Forgets the first `n` of these links. Takes no memory.
 pub(crate) fn forget_first(
-    names: &mut BTreeMap<Reverse<Id>, Links>,
+    names: &mut IdentityMap<Links>,
     links: &Vec<(Id, LinkPlace)>,
     n: usize,
 )
@@ -101,7 +100,7 @@ pub(crate) fn forget_first(
 /// Notes these links, of which none is noted. Leaves all as before where memory is wanting.
 pub(crate) fn add_all(
     alloc: Global,
-    names: &mut BTreeMap<Reverse<Id>, Links>,
+    names: &mut IdentityMap<Links>,
     links: &Vec<(Id, LinkPlace)>,
 ) -> Result<(), AllocError>
     requires none { (q : Id) (w : LinkPlace) → listed q w links.now.items ≡ true → held names.old q w ≡ false }

@@ -10,13 +10,12 @@ ghost use Rattle.balise_plan.specs.Spots.{put_in, spot_stands};
 
 use crate::group::Group;
 use crate::group_links::{add_all, links_in};
+use crate::identity_map::IdentityMap;
 use crate::link_set::Links;
 use crate::ordered_groups::OrderedGroups;
 use crate::spot::Spot;
 use balise_rules::{Id, Tag};
 use std::alloc::Global;
-use std::cmp::Reverse;
-use std::collections::BTreeMap;
 
 /// The place that a spot names.
 pub(crate) fn place_of(groups: &OrderedGroups, spot: Spot<Tag>) -> Option<usize>
@@ -36,25 +35,19 @@ pub(crate) fn place_of(groups: &OrderedGroups, spot: Spot<Tag>) -> Option<usize>
     }
 }
 
-/// Whether a group has an identity. Groups mostly come in the order of their identities, so the largest is seen first.
-pub(crate) fn is_taken(identities: &BTreeMap<Reverse<Id>, Tag>, id: Id) -> bool
+/// Whether a group has an identity.
+pub(crate) fn is_taken(identities: &IdentityMap<Tag>, id: Id) -> bool
     ensures { result ≡ is_some (indexed identities.now id) }
 {
-    let key = Reverse(id);
-    if let Some((largest, _)) = identities.first_key_value() {
-        if key.cmp(largest).is_lt() {
-            return false;
-        }
-    }
-    identities.get(&key).is_some()
+    identities.get(id).is_some()
 }
 
 /// Puts a group of a new identity in at a place, under a tag that is new, and notes its identity and its links. Where
 /// memory is wanting, all stays and the group is handed back.
 pub(crate) fn put_at(
     groups: &mut OrderedGroups,
-    identities: &mut BTreeMap<Reverse<Id>, Tag>,
-    names: &mut BTreeMap<Reverse<Id>, Links>,
+    identities: &mut IdentityMap<Tag>,
+    names: &mut IdentityMap<Links>,
     i: usize,
     g: Tag,
     group: Group,
@@ -77,11 +70,11 @@ pub(crate) fn put_at(
     if groups.reserve(1).is_err() {
         return Err(group);
     }
-    if identities.insert(Reverse(own), g).is_err() {
+    if identities.insert(own, g).is_err() {
         return Err(group);
     }
     if add_all(alloc, names, &links).is_err() {
-        let _ = identities.remove(&Reverse(own));
+        let _ = identities.remove(own);
         return Err(group);
     }
     groups.insert(i, g, group);

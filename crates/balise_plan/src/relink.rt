@@ -4,13 +4,12 @@ ghost use Rattle.std.specs.Prelude.{◌≡◌, OnOk, OnErr};
 ghost use Rattle.balise_plan.specs.Links.{Keeps, AreFull};
 ghost use Rattle.balise_plan.specs.Relinking.{AddsReal, ForgetsOther, element_at};
 
+use crate::identity_map::IdentityMap;
 use crate::link_set::Links;
 use crate::links::LinkPlace;
 use crate::names::{add, forget};
 use balise_rules::Id;
 use std::alloc::{AllocError, Global};
-use std::cmp::Reverse;
-use std::collections::BTreeMap;
 
 /// The identity of element `k` of a packet that has these: number 16383 where there is none.
 pub(crate) fn element(links: &Vec<Id>, k: u32) -> Id
@@ -28,7 +27,7 @@ pub(crate) fn element(links: &Vec<Id>, k: u32) -> Id
 /// Notes that a place names an identity, if its number isn't 16383. Leaves all as before where memory is wanting.
 pub(crate) fn add_real(
     alloc: Global,
-    names: &mut BTreeMap<Reverse<Id>, Links>,
+    names: &mut IdentityMap<Links>,
     id: Id,
     place: LinkPlace,
 ) -> Result<(), AllocError>
@@ -44,7 +43,7 @@ pub(crate) fn add_real(
 
 /// Forgets that a place names the one identity, unless that is the other. Takes no memory.
 pub(crate) fn forget_other(
-    names: &mut BTreeMap<Reverse<Id>, Links>,
+    names: &mut IdentityMap<Links>,
     kept: Id,
     gone: Id,
     place: LinkPlace,

@@ -27,6 +27,13 @@ fn set_links(rt: &impl Abort, alloc: Global, plan: &mut Plan) {
         (Var::NidBg, 2, 5, Err(Refusal::NoSuchVariable), SET_ABROAD),
         (Var::NidC, 0, 7, Err(Refusal::Steering), SET_ABROAD),
         (Var::NidBg, 0, 16384, Err(Refusal::ValueTooWide), SET_ABROAD),
+        (
+            Var::NidBg,
+            0,
+            4294967295,
+            Err(Refusal::ValueTooWide),
+            SET_ABROAD,
+        ),
         (Var::NidBg, 1, 150, Ok(150), SET_ABROAD),
         (Var::NidBg, 0, 16383, Ok(100), no_first),
         (Var::NidBg, 1, 16383, Ok(150), none),

@@ -24,8 +24,8 @@ impl Plan {
         }
         Ok(Plan {
             groups,
-            identities: self.identities.clone()?,
-            names: self.names.clone()?,
+            identities: self.identities.copy()?,
+            names: self.names.copy()?,
             changes: self.changes,
         })
     }

@@ -16,7 +16,6 @@ use crate::ordered_groups::OrderedGroups;
 use crate::plan::Plan;
 use crate::spot::Spot;
 use balise_rules::{Refusal, Tag};
-use std::cmp::Reverse;
 
 impl Plan {
     /// Puts a group in under a tag that is new.
@@ -74,7 +73,7 @@ impl Plan {
             Err(fault) => return Err(fault),
         };
         forget_first(&mut self.names, &links, links.len());
-        let _ = self.identities.remove(&Reverse(own));
+        let _ = self.identities.remove(own);
         let (i, group) = self.groups.remove(g).unwrap();
         let before = tag_at(&self.groups, i);
         self.changes += 1;

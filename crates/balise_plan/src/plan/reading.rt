@@ -8,12 +8,12 @@ ghost use Rattle.balise_plan.specs.Spots.{Pushes};
 use crate::group::Group;
 use crate::group_places::{is_taken, put_at};
 use crate::group_reader::GroupReader;
+use crate::identity_map::IdentityMap;
 use crate::ordered_groups::OrderedGroups;
 use crate::plan::Plan;
 use balise_bits::Bits;
 use balise_rules::{Refusal, Tag};
 use std::alloc::Global;
-use std::collections::BTreeMap;
 
 impl Plan {
     /// A plan with no group and no change. Takes no memory.
@@ -23,8 +23,8 @@ impl Plan {
     {
         Plan {
             groups: OrderedGroups::new(alloc),
-            identities: BTreeMap::new(alloc),
-            names: BTreeMap::new(alloc),
+            identities: IdentityMap::new(alloc),
+            names: IdentityMap::new(alloc),
             changes: 0,
         }
     }

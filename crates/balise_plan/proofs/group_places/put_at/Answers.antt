@@ -4,7 +4,7 @@ use Rattle.balise_rules.specs.Plan.{group_named}
 use Rattle.balise_plan.proofs.Renamed.{known_id, there_and_back}
 use Rattle.std.specs.BTreeMap as map
 use Rattle.balise_plan.specs.Held.{IsHeld}
-use Rattle.balise_plan.specs.Links.{compare_falling, falling, indexed, Keeps}
+use Rattle.balise_plan.specs.Links.{Updates, indexed, Keeps}
 use Rattle.balise_plan.specs.GroupLinks.{AddsAll}
 use Rattle.balise_plan.proofs.GroupPut.{none-noted, held-inserted}
 use Rattle.balise_plan.proofs.group_places.put_at.Goals as goal
@@ -26,9 +26,9 @@ returns-clause-held c =
     let names = c.args.names.now in
     let e : c.reserve.new.self.entries ≡ plan = c.reserve.ensures.entries in
     let is : c.insert-2.new.self.entries ≡ insert plan c.args.i (c.args.g, c.args.group) = c.insert-2.ensures ∙ ap (λ xs. insert xs c.args.i (c.args.g, c.args.group)) e in
-    let put : map.Updates compare_falling ids c.insert.new.self (falling c.identity-own.result) (Some c.args.g) = search rules in
+    let put : Updates ids c.insert.new.self c.identity-own.result (Some c.args.g) = search rules in
     let adds : AddsAll c.in-Ok.links.items names c.add_all.new.names = search rules in
-    subst (IsHeld c.insert.new.self c.add_all.new.names) (sym is) (held-inserted plan ids names c.requires.held c.args.g c.args.group c.requires.new c.requires.sound c.requires.free c.in-Ok.links.items c.in-Ok.ensures.ok c.add_all.new.names (c.add_all.ensures.full c.requires.held.full) adds c.identity-own.result c.identity-own.ensures c.insert.new.self (λ q. put.0 (falling q)) c.args.i)
+    subst (IsHeld c.insert.new.self c.add_all.new.names) (sym is) (held-inserted plan ids names c.requires.held c.args.g c.args.group c.requires.new c.requires.sound c.requires.free c.in-Ok.links.items c.in-Ok.ensures.ok c.add_all.new.names (c.add_all.ensures.full c.requires.held.full) adds c.identity-own.result c.identity-own.ensures c.insert.new.self (λ q. put q) c.args.i)
 
 pub returns-then-is_err-3-clause-held : goal.returns-then-is_err-3-clause-held
 returns-then-is_err-3-clause-held c =
@@ -37,13 +37,13 @@ returns-then-is_err-3-clause-held c =
     let h = c.requires.held in
     let own = c.identity-own.result in
     let e : c.reserve.new.self.entries ≡ plan = c.reserve.ensures.entries in
-    let put : map.Updates compare_falling ids c.insert.new.self (falling own) (Some c.args.g) = search rules in
-    let out : map.Updates compare_falling c.insert.new.self c.remove.new.self (falling own) None = search rules in
+    let put : Updates ids c.insert.new.self own (Some c.args.g) = search rules in
+    let out : Updates c.insert.new.self c.remove.new.self own None = search rules in
     let keeps : Keeps c.args.names.now c.add_all.new.names = search rules in
     let free : is_some (indexed ids own) ≡ false = known_id plan ids c.args.names.now h own ∙ ap is_some (ap (λ i. group_named i plan) c.identity-own.ensures ∙ c.requires.free) in
     subst (IsHeld c.remove.new.self c.add_all.new.names) (sym e) (record {
       sound = h.sound;
-      tags = λ q. there_and_back ids c.insert.new.self c.remove.new.self own c.args.g free (λ r. put.0 (falling r)) (λ r. out.0 (falling r)) q ∙ h.tags q;
+      tags = λ q. there_and_back ids c.insert.new.self c.remove.new.self own c.args.g free (λ r. put r) (λ r. out r) q ∙ h.tags q;
       named = λ q w. keeps q w ∙ h.named q w;
       full = c.add_all.ensures.full h.full;
     })

@@ -9,7 +9,7 @@ use Rattle.std.proofs.lemmas.List.{length-take-le, take_all}
 use Rattle.balise_plan.proofs.Kept.{kept-as}
 use Rattle.balise_plan.specs.Held.{IsHeld}
 use Rattle.balise_plan.specs.InOrder.{in_order, OrderedGroups}
-use Rattle.balise_plan.specs.Links.{compare_falling, falling, Falling, indexed, in_links}
+use Rattle.balise_plan.specs.Links.{indexed, held, AreFull}
 use Rattle.balise_rules.specs.Tagged.{find}
 use Rattle.balise_rules.specs.Tags.{same_tag}
 use Rattle.balise_rules.proofs.Tests.{tag_test}
@@ -39,20 +39,16 @@ loop-i-preserved c =
 pairs : {A B : Type 0} (x y : A × B) → x.0 ≡ y.0 → x.1 ≡ y.1 → x ≡ y
 pairs x y a b = ap (λ k. (k, x.1)) a ∙ ap (λ v. (y.0, v)) b
 
--- a map of the same entries answers the same
-same_get : {V : Type 0} (x y : map.BTreeMap Falling V) → x.entries ≡ y.entries → (i : Id) → indexed x i ≡ indexed y i
-same_get x y e i = ap (λ l. lookup (λ j. is_eq (compare_falling (falling i) j)) l) e
-
 pub invariant_of-result-2 : goal.invariant_of-result-2
 invariant_of-result-2 c =
     let plan = c.self.inside.groups.entries in
-    let ids = same_get c.self.inside.identities c.in_ok-clone.field-0 (cloned _ (λ x y z. pairs x y (ap falling (sym z.0)) (sym z.1)) c.self.inside.identities.entries c.in_ok-clone.field-0.entries c.in_ok-clone.ensures.cases) in
-    let names = same_get c.self.inside.names c.in_ok-clone-2.field-0 (cloned _ (λ x y z. pairs x y (ap falling (sym z.0)) (sym z.1)) c.self.inside.names.entries c.in_ok-clone-2.field-0.entries c.in_ok-clone-2.ensures.cases) in
+    let ids = cloned _ (λ x y z. pairs x y (sym z.0) (sym z.1)) c.self.inside.identities c.in_ok-copy.field-0 c.in_ok-copy.ensures in
+    let names = cloned _ (λ x y z. pairs x y (sym z.0) (sym z.1)) c.self.inside.names c.in_ok-copy-2.field-0 c.in_ok-copy-2.ensures in
     let h = c.self.invariant.held in
     let all : in_order c.groups-2.inside.held.entries c.groups-2.inside.order.items ≡ plan = ap (λ (gs : OrderedGroups). gs.entries) c.groups-2.view_is ∙ c.loop-i.invariant ∙ take_all c.loop-i.i plan (omega (arith, c.loop-i-test.false, c.len-i-end.ensures)) in
-    kept-as c.self.invariant all (subst (IsHeld c.in_ok-clone.field-0 c.in_ok-clone-2.field-0) (sym all) (record {
+    kept-as c.self.invariant all (subst (IsHeld c.in_ok-copy.field-0 c.in_ok-copy-2.field-0) (sym all) (record {
       sound = h.sound;
-      tags = λ i. sym (ids i) ∙ h.tags i;
-      named = λ q w. ap (λ o. in_links o w) (sym (names q)) ∙ h.named q w;
-      full = λ r. subst (λ o. IfSome o (λ s. 0 < set.btree_set_len s)) (names r) (h.full r);
+      tags = λ i. ap (λ m. indexed m i) (sym ids) ∙ h.tags i;
+      named = λ q w. ap (λ m. held m q w) (sym names) ∙ h.named q w;
+      full = subst AreFull names h.full;
     }))

@@ -1,7 +1,6 @@
 -- What setting a field of a header makes of a plan and of its indexes.
 use Rattle.std.proofs.Common.{◌≡◌, ℕ, eqb, Some, None, Ok, Err, sym, ap, subst, ◌∙◌}
 use Rattle.std.specs.Map.{set_value}
-use Rattle.std.specs.BTreeMap as map
 use Rattle.std.specs.BTreeSet as set
 use Rattle.balise_rules.specs.declared.tag.Tag.{Tag}
 use Rattle.balise_rules.specs.declared.refusal.Refusal.{Refusal}

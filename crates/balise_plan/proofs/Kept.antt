@@ -1,6 +1,5 @@
 -- Tags of places: of a plan that was read, and after its changes, which are counted.
 use Rattle.std.proofs.Common.{◌≡◌, ℕ, suc, ◌+◌, [], ◌∷◌, ◌++◌, length, false, None, refl, sym, ap, subst, ◌∙◌, arith}
-use Rattle.std.specs.BTreeMap as map
 use Rattle.std.specs.BTreeSet as set
 use Rattle.std.proofs.lemmas.Bool.{ne_eqb}
 use Rattle.balise_rules.specs.declared.tag.Tag.{Tag}

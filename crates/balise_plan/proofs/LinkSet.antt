@@ -1,8 +1,7 @@
 -- What setting the number of a link makes of a plan and of its indexes.
-use Rattle.std.proofs.Common.{◌≡◌, ◌⊎◌, inl, inr, ℕ, Bool, true, false, cond, eqb, ◌&&◌, List, Option, Some, None, Ok, refl, sym, ap, subst, ◌∙◌}
+use Rattle.std.proofs.Common.{◌≡◌, ◌<◌, ◌^◌, ◌⊎◌, inl, inr, ℕ, Bool, true, false, cond, eqb, ◌&&◌, List, Option, Some, None, Ok, refl, sym, ap, subst, ◌∙◌}
 use Rattle.std.specs.Map.{set_value}
 use Rattle.std.specs.Prelude.{option_and_then, option_map, slice_get, unwrap_or}
-use Rattle.std.specs.BTreeMap as map
 use Rattle.std.specs.BTreeSet as set
 use Rattle.std.proofs.lemmas.Bool.{eqb-true}
 use Rattle.balise_rules.specs.declared.tag.Tag.{Tag}
@@ -17,6 +16,8 @@ use Rattle.balise_rules.specs.Telegram.{Telegram}
 use Rattle.balise_rules.specs.Plan.{Group, telegram_at, country_of}
 use Rattle.balise_rules.specs.Plan as rules
 use Rattle.balise_rules.specs.Accepting.{Accepted}
+use Rattle.balise_rules.specs.Variables.{width_of}
+use borrow.Author.Tests.{ltb-true}
 use Rattle.balise_rules.specs.Doing.{refusal}
 use Rattle.balise_rules.specs.Names.{country_at, is_it, is_real, links_of}
 use Rattle.balise_rules.specs.Notes.{noted}
@@ -99,6 +100,14 @@ module _ (plan : rules.Plan) (ids : IndexOf Tag) (names : IndexOf (set.BTreeSet 
   pub untold : (e : Refusal) → NoLinks t ys e → (e ≡ refusals.OutOfMemory) ⊎ (refusal (SetVar g t p NidBg k n) plan ≡ Some e)
   untold e (inl q) = inl q
   untold e (inr q) = inr (absent-is g t p NidBg k n plan ys here q.1 ∙ ap Some (sym q.0))
+
+  -- a number that was set fits
+  pub narrow : (zs : Group) (was : ℕ) → Within eqb t no_telegram (Passed (SetsField p NidBg k n)) ys (Ok was) zs → n < 2 ^ 14
+  unfolding width_of
+  narrow zs was w =
+      let ok : refusal (SetVar g t p NidBg k n) plan ≡ None = (set g t p NidBg k n plan held_is.sound ys zs here was w).0 in
+      let accepted : Accepted (SetVar g t p NidBg k n) plan = (refused_exactly (SetVar g t p NidBg k n) plan held_is.sound).0 ok in
+      ltb-true n 16384 accepted.0.1
 
   module _ (ls : List Id) (links : LinksIn t p ys ls) where
     abbrev to : Id

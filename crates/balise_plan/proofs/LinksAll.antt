@@ -1,6 +1,5 @@
 -- All links of a packet: how many they may be, and what adding or forgetting them makes of the index.
 use Rattle.std.proofs.Common.{◌≡◌, ◌<◌, ◌≤◌, ℕ, zero, suc, nat_lt, Bool, true, false, cond, eqb, ◌&&◌, List, [], ◌∷◌, length, slice_get, Some, None, refl, inl, inr, sym, ap, subst, ◌∙◌, arith, length-append}
-use Rattle.std.specs.BTreeMap as map
 use Rattle.std.specs.BTreeSet as set
 use Rattle.std.proofs.lemmas.Bool.{and_from}
 use borrow.Author.Tests.{ltb-false}

@@ -1,6 +1,5 @@
 -- What stands under each identity once all links of one are another's.
 use Rattle.std.proofs.Common.{◌≡◌, ◌≢◌, ◌<◌, ◌∙◌, ℕ, zero, suc, arith, Bool, true, false, cond, Option, Some, None, refl, sym, ap, subst}
-use Rattle.std.specs.BTreeMap as map
 use Rattle.std.specs.BTreeSet as set
 use Rattle.std.specs.Option.{IfSome}
 use Rattle.balise_rules.specs.declared.identity.Id.{Id}

@@ -2,7 +2,6 @@
 use Rattle.std.proofs.Common.{◌≡◌, ◌⊎◌, inl, inr, ◌<◌, ℕ, Bool, true, false, not, cond, eqb, ◌&&◌, List, [], ◌∷◌, length, nat_lt, Option, Some, None, Result, Ok, Err, refl, sym, ap, subst, ◌∙◌, arith}
 use Rattle.std.specs.Map.{set_value}
 use Rattle.std.specs.Prelude.{option_and_then, unwrap_or, option_map}
-use Rattle.std.specs.BTreeMap as map
 use Rattle.std.specs.BTreeSet as set
 use borrow.Author.Tests.{ltb-true, ltb-false}
 use Rattle.balise_rules.specs.declared.tag.Tag.{Tag}

@@ -2,7 +2,6 @@
 use Rattle.std.proofs.Common.{◌≡◌, ◌⊎◌, inl, inr, ℕ, eqb, List, length, Option, Some, None, Ok, Err, sym, ap, subst, ◌∙◌}
 use Rattle.std.specs.Map.{set_value}
 use Rattle.std.specs.Prelude.{is_none}
-use Rattle.std.specs.BTreeMap as map
 use Rattle.std.specs.BTreeSet as set
 use Rattle.balise_rules.specs.declared.tag.Tag.{Tag}
 use Rattle.balise_rules.specs.declared.identity.Id.{Id}

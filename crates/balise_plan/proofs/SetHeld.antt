@@ -1,6 +1,5 @@
 -- What setting a field that isn't a number of a link leaves of the indexes.
 use Rattle.std.proofs.Common.{◌≡◌, ℕ, Bool, true, false, cond, eqb, ◌&&◌, None, refl, sym, ap, ◌∙◌}
-use Rattle.std.specs.BTreeMap as map
 use Rattle.std.specs.BTreeSet as set
 use Rattle.std.proofs.lemmas.Bool.{true≢false}
 use Rattle.balise_rules.specs.declared.tag.Tag.{Tag}

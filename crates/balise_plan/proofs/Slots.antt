@@ -1,20 +1,18 @@
 -- Slots and the cells that say where they are: what each call makes of them.
-use Rattle.std.proofs.Common.{◌≡◌, ◌≢◌, ◌∙◌, ℕ, zero, suc, ◌+◌, ◌-◌, ◌<◌, ◌≤◌, ◌⊎◌, inl, inr, Bool, true, false, cond, eqb, ltb, List, [], ◌∷◌, ◌++◌, Option, Some, None, length, take, option_map, slice_get, slice_set, slice_index_or, refl, sym, ap, subst, arith, length-append}
-use Rattle.std.specs.Option.{is_some, IsSome}
+use Rattle.std.proofs.Common.{◌≡◌, ◌≢◌, ◌∙◌, ℕ, zero, suc, ◌-◌, ◌<◌, ◌≤◌, ◌⊎◌, inl, inr, true, false, cond, eqb, List, [], ◌∷◌, ◌++◌, Option, Some, None, length, take, option_map, slice_get, slice_set, slice_index_or, refl, sym, ap, arith, length-append}
+use Rattle.std.specs.Option.{is_some}
 use Rattle.std.specs.List.{swap_remove, AllZip}
 use Rattle.std.specs.Prelude.{option_and_then}
-use Rattle.std.specs.Map.{lookup}
 use Rattle.std.specs.declared.vec.Vec.{Vec}
-use Rattle.std.proofs.lemmas.Bool.{true≢false, eqb-true, eqb-false, eq-eqb, ne_eqb, cases_lt}
-use borrow.Author.Tests.{lt-ltb, ltb-true, ltb-false}
+use Rattle.std.proofs.lemmas.Bool.{true≢false, eqb-true, eqb-false, eq-eqb, cases_lt}
 use Rattle.std.proofs.lemmas.Option.{slice_get_past, slice_get_within, slice_get-get_or}
 use Rattle.std.proofs.lemmas.Map.Entries.{place_from_lookup}
 use Rattle.std.proofs.Math.ListN.{length-set}
 use Rattle.balise_rules.specs.declared.identity.Id.{Id}
 use Rattle.balise_rules.specs.Tags.{same_id}
 use Rattle.balise_rules.proofs.Cases.{unsome}
-use Rattle.balise_rules.proofs.Tests.{id_test, split_on, split_keys, test-sym, other_no}
-use Rattle.balise_plan.specs.Identities.{is_id, indexed, Updates}
+use Rattle.balise_rules.proofs.Tests.{id_test, split_on, split_keys}
+use Rattle.balise_plan.specs.Identities.{indexed, Updates}
 use Rattle.balise_plan.specs.Rows.{cell_of, Grows}
 use Rattle.balise_plan.specs.IdentityMap.{IsPlaced}
 
@@ -218,10 +216,12 @@ module _ {V Z : Type 0} (xs : List (Id × V)) (rows : List (Vec ℕ Z)) (at : Is
 
   stays : (j : ℕ) (t : Id × V) → slice_get fewer j ≡ Some t → (j < end) × (((i ≡ j) × (moved ≡ t)) ⊎ ((i ≢ j) × (slice_get xs j ≡ Some t)))
   stays j t e =
-      let h = take_back end (slice_set xs i moved) j t e in
-      (h.0, split_on (eqb i j)
-      (λ d. let k = eqb-true i j d in inl (k, unsome (sym (set_it xs i moved s here) ∙ ap (slice_get (slice_set xs i moved)) k ∙ h.1)))
-      (λ d. inr (eqb-false i j d, sym (set_other xs i j moved (eqb-false i j d)) ∙ h.1)))
+      let h = take_back end (slice_set xs i moved) j t e in (
+        h.0,
+        split_on (eqb i j)
+            (λ d. let k = eqb-true i j d in inl (k, unsome (sym (set_it xs i moved s here) ∙ ap (slice_get (slice_set xs i moved)) k ∙ h.1)))
+            (λ d. inr (eqb-false i j d, sym (set_other xs i j moved (eqb-false i j d)) ∙ h.1)),
+      )
 
   kept : (j : ℕ) (t : Id × V) → slice_get xs j ≡ Some t → i ≢ j → (k : ℕ) × (slice_get fewer k ≡ Some t)
   kept j t e n = by (cases_lt j end)

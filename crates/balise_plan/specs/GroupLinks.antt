@@ -1,6 +1,5 @@
 -- All links of a group, each identity with the place that names it; elements that name nothing are left out.
 use Rattle.std.specs.Prelude.{◌≡◌, ℕ, suc, ◌&&◌, ◌||◌, Bool, false, cond, List, [], ◌∷◌, ◌++◌}
-use Rattle.std.specs.BTreeMap as map
 use Rattle.std.specs.BTreeSet as set
 use Rattle.balise_rules.specs.declared.identity.Id.{Id}
 use Rattle.balise_rules.specs.declared.tag.Tag.{Tag}

@@ -1,9 +1,10 @@
--- What stands under identities, and where.
-use Rattle.std.specs.Prelude.{◌≡◌, ◌≤◌, ◌^◌, ℕ, Bool, cond, List, length, Option, option_and_then, slice_get, Some}
+-- What stands under identities.
+use Rattle.std.specs.Prelude.{◌≡◌, Bool, cond, List, Option}
 use Rattle.std.specs.Map.{lookup}
 use Rattle.balise_rules.specs.declared.identity.Id.{Id}
 use Rattle.balise_rules.specs.Tags.{same_id}
 
+-- whether two identities are one
 abbrev pub is_id : Id → Id → Bool
 is_id = same_id
 

@@ -1,6 +1,5 @@
 -- One link that names another identity, in the index.
 use Rattle.std.specs.Prelude.{◌≡◌, ℕ, not, ◌&&◌, true, false, cond, List, slice_get, unwrap_or}
-use Rattle.std.specs.BTreeMap as map
 use Rattle.std.specs.BTreeSet as set
 use Rattle.balise_rules.specs.declared.identity.Id.{Id}
 use Rattle.balise_rules.specs.Tags.{same_id}

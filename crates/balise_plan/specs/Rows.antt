@@ -1,8 +1,7 @@
 -- Where identities stand: a row for each country, with a cell for each number.
-use Rattle.std.specs.Prelude.{◌≡◌, ℕ, List, Option, Some, slice_get}
-use Rattle.std.specs.Prelude.{option_and_then}
-use Rattle.balise_rules.specs.declared.identity.Id.{Id}
+use Rattle.std.specs.Prelude.{◌≡◌, ℕ, List, Option, Some, option_and_then, slice_get}
 use Rattle.std.specs.declared.vec.Vec.{Vec}
+use Rattle.balise_rules.specs.declared.identity.Id.{Id}
 
 -- what the cell of an identity says
 abbrev pub cell_of : {Z : Type 0} → List (Vec ℕ Z) → Id → Option ℕ

@@ -82,11 +82,7 @@ fn add_packet(
 }
 
 /// Forgets the first `n` of these links. Takes no memory.
-pub(crate) fn forget_first(
-    names: &mut IdentityMap<Links>,
-    links: &Vec<(Id, LinkPlace)>,
-    n: usize,
-)
+pub(crate) fn forget_first(names: &mut IdentityMap<Links>, links: &Vec<(Id, LinkPlace)>, n: usize)
     requires { n ≤ length links.now.items }
     ensures forgotten { ForgetsAll (take n links.now.items) names.old names.new }
     ensures full { AreFull names.old → AreFull names.new }

@@ -1,6 +1,6 @@
 //! One link that names another identity, in the index of names.
 
-ghost use Rattle.std.specs.Prelude.{◌≡◌, OnOk, OnErr};
+ghost use Rattle.std.specs.Prelude.{◌≡◌, ◌<◌, ◌^◌, OnOk, OnErr};
 ghost use Rattle.balise_plan.specs.Links.{Keeps, AreFull};
 ghost use Rattle.balise_plan.specs.Relinking.{AddsReal, ForgetsOther, element_at};
 
@@ -24,6 +24,15 @@ pub(crate) fn element(links: &Vec<Id>, k: u32) -> Id
     }
 }
 
+/// The number that a link is noted under before it is set: 16383, which isn't noted, in place of one that is too wide. So
+/// no row of the index grows beyond what numbers may be.
+pub(crate) fn fitting(number: u32) -> u32
+    ensures same { number < 2 ^ 14 → result ≡ number }
+    ensures fits { result < 2 ^ 14 }
+{
+    number.min(16383)
+}
+
 /// Notes that a place names an identity, if its number isn't 16383. Leaves all as before where memory is wanting.
 pub(crate) fn add_real(
     alloc: Global,
@@ -42,12 +51,7 @@ pub(crate) fn add_real(
 }
 
 /// Forgets that a place names the one identity, unless that is the other. Takes no memory.
-pub(crate) fn forget_other(
-    names: &mut IdentityMap<Links>,
-    kept: Id,
-    gone: Id,
-    place: LinkPlace,
-)
+pub(crate) fn forget_other(names: &mut IdentityMap<Links>, kept: Id, gone: Id, place: LinkPlace)
     ensures forgotten { ForgetsOther names.old names.new kept gone place }
     ensures full { AreFull names.old → AreFull names.new }
 {

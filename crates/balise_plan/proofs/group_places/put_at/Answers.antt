@@ -2,7 +2,6 @@ use Rattle.std.proofs.Common.{rules, ◌≡◌, ◌∙◌, insert, Some, None, f
 use Rattle.std.specs.Option.{is_some}
 use Rattle.balise_rules.specs.Plan.{group_named}
 use Rattle.balise_plan.proofs.Renamed.{known_id, there_and_back}
-use Rattle.std.specs.BTreeMap as map
 use Rattle.balise_plan.specs.Held.{IsHeld}
 use Rattle.balise_plan.specs.Links.{Updates, indexed, Keeps}
 use Rattle.balise_plan.specs.GroupLinks.{AddsAll}

@@ -1,13 +1,11 @@
-use Rattle.std.proofs.Common.{◌≡◌, ◌∙◌, Some, None, length, option_map, slice_get, sym, ap, arith, rules}
+use Rattle.std.proofs.Common.{◌≡◌, ◌∙◌, Some, None, length, slice_get, sym, ap, arith}
 use Rattle.std.proofs.lemmas.Grind.{common_steps}
-use Rattle.std.proofs.lemmas.Option.{gets, slice_get_past, none-some, slice_get_read}
+use Rattle.std.proofs.lemmas.Option.{gets, slice_get_past, none-some}
 use Rattle.std.proofs.lemmas.Bool.{true≢false}
 use borrow.Author.Tests.{ltb-false}
 use Rattle.balise_rules.specs.declared.identity.Id.{Id}
-use Rattle.balise_rules.specs.Tags.{same_id}
 use Rattle.balise_rules.proofs.Tests.{id_test, equal_yes}
 use Rattle.balise_rules.proofs.Cases.{unsome}
-use Rattle.balise_plan.specs.Identities.{indexed}
 use Rattle.balise_plan.proofs.Slots.{place_end, place_there, no_cell, other_there}
 use Rattle.balise_plan.proofs.identity_map.place.Goals as goal
 

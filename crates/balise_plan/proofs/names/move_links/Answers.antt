@@ -1,5 +1,4 @@
 use Rattle.std.proofs.Common.{rules, Some, None}
-use Rattle.std.specs.BTreeMap as map
 use Rattle.balise_plan.specs.Links.{Updates, compare_place}
 use Rattle.balise_plan.proofs.Indexing.{through}
 use Rattle.balise_plan.proofs.Moving as moving

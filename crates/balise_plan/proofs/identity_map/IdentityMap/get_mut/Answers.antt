@@ -1,4 +1,4 @@
-use Rattle.std.proofs.Common.{◌≡◌, ◌∙◌, Some, None, cond, option_map, slice_get, slice_set, refl, sym, ap, arith, rules, subst}
+use Rattle.std.proofs.Common.{◌≡◌, ◌∙◌, Some, None, cond, slice_get, slice_set, refl, sym, ap, arith, subst}
 use Rattle.std.specs.Option.{is_some}
 use Rattle.std.proofs.lemmas.Bool.{true≢false}
 use Rattle.std.proofs.lemmas.Grind.{common_steps}
@@ -24,7 +24,7 @@ returns-in-Some g c =
       (
         refl,
         (λ w h q. subst (λ (k : Id). Updates xs (slice_set xs i (s.0, w)) k (Some w)) a.0 (updates_set xs c.self.inside.rows.items c.self.invariant i s e w) q
-        ∙ ap (λ l. cond (is_id c.args.id q) (Some w) (indexed l q)) c.self.view_is),
+            ∙ ap (λ l. cond (is_id c.args.id q) (Some w) (indexed l q)) c.self.view_is),
         refl,
       ),
       record { writes_back = tt; value = sym a.1 ∙ ap (λ l. indexed l c.args.id) c.self.view_is },

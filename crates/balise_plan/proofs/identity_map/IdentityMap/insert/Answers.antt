@@ -3,7 +3,7 @@ use Rattle.std.specs.Result.{is_ok}
 use Rattle.std.proofs.lemmas.Bool.{true≢false}
 use Rattle.balise_rules.specs.declared.identity.Id.{Id}
 use Rattle.balise_rules.specs.Tags.{same_id}
-use Rattle.balise_plan.specs.Identities.{indexed, is_id, Updates}
+use Rattle.balise_plan.specs.Identities.{indexed, is_id}
 use Rattle.balise_plan.specs.IdentityMap.{IsPlaced}
 use Rattle.balise_plan.specs.Rows.{cell_of}
 use Rattle.balise_plan.proofs.Slots.{placed_grown, placed_push, updates_push}

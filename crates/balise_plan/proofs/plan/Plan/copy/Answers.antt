@@ -1,10 +1,4 @@
-use Rattle.std.proofs.Common.{◌≡◌, ◌∙◌, ◌<◌, insert, length, take, ap, sym, subst, arith}
-use Rattle.std.specs.BTreeMap as map
-use Rattle.std.specs.BTreeSet as set
-use Rattle.balise_rules.specs.declared.identity.Id.{Id}
-use Rattle.std.specs.Map.{lookup}
-use Rattle.std.specs.Ordering.{is_eq}
-use Rattle.std.specs.Option.{IfSome}
+use Rattle.std.proofs.Common.{◌≡◌, ◌∙◌, insert, length, take, ap, sym, subst, arith}
 use Rattle.std.proofs.lemmas.List.{length-take-le, take_all}
 use Rattle.balise_plan.proofs.Kept.{kept-as}
 use Rattle.balise_plan.specs.Held.{IsHeld}

@@ -1,4 +1,4 @@
-use Rattle.std.proofs.Common.{rules, ◌≡◌, ◌∙◌, ◌+◌, ◌⊎◌, inl, inr, sym, ap, subst, refl, Some, None}
+use Rattle.std.proofs.Common.{rules, ℕ, ◌≡◌, ◌∙◌, ◌+◌, ◌⊎◌, inl, inr, sym, ap, subst, refl, Some, None}
 use Rattle.std.specs.Map.{set_value}
 use Rattle.std.proofs.lemmas.Map.Steps.{set_value_same}
 use Rattle.balise_rules.specs.declared.identity.Id.{Id}
@@ -12,7 +12,7 @@ use Rattle.balise_plan.proofs.Kept.{changed, kept-as}
 use Rattle.balise_plan.specs.Held.{edited, IsHeld}
 use Rattle.balise_plan.specs.Links.{Keeps}
 use Rattle.balise_plan.specs.Relinking.{AddsReal, ForgetsOther, element_at}
-use Rattle.balise_plan.proofs.LinkSet.{untold, kept, linked}
+use Rattle.balise_plan.proofs.LinkSet.{untold, kept, linked, narrow}
 use Rattle.balise_plan.proofs.PacketPut.{held-keeps}
 use Rattle.balise_plan.proofs.Placing.{left}
 use Rattle.balise_plan.proofs.Walking.{place}
@@ -53,10 +53,10 @@ invariant_of-self-in-Err-set_field c =
     let plan = c.self.inside.groups.entries in
     let n : find same_tag c.args.g plan ≡ Some c.in-Some.group.now = sym c.in-Some.ensures.value in
     let v = c.get_mut.follows.holds c.set_field.new.self in
-    let adds : AddsReal c.self.inside.names c.add_real.new.names (record { country = c.element-from.result.country; number = c.args.value }) (place c.args.g c.args.t c.args.p c.args.k) = search rules in
-    let added : AddsReal c.self.inside.names c.add_real.new.names (record { country = (element_at c.in-Ok.links.items c.args.k).country; number = c.args.value }) (place c.args.g c.args.t c.args.p c.args.k) = subst (λ (i : Id). AddsReal c.self.inside.names c.add_real.new.names (record { country = i.country; number = c.args.value }) (place c.args.g c.args.t c.args.p c.args.k)) c.element-from.ensures adds in
-    let f : ForgetsOther c.add_real.new.names c.forget_other.new.names (element_at c.in-Ok.links.items c.args.k) (record { country = (element_at c.in-Ok.links.items c.args.k).country; number = c.args.value }) (place c.args.g c.args.t c.args.p c.args.k) = subst (λ (i : Id). ForgetsOther c.add_real.new.names c.forget_other.new.names i (record { country = i.country; number = c.args.value }) (place c.args.g c.args.t c.args.p c.args.k)) c.element-from.ensures c.forget_other.ensures.forgotten in
-    let same = kept plan c.self.inside.identities c.self.inside.names c.self.invariant.held c.args.g c.args.t c.args.p c.args.k c.args.value c.in-Some.group.now n c.in-Ok.links.items c.in-Ok.ensures.ok c.add_real.new.names c.forget_other.new.names added f in
+    let adds : AddsReal c.self.inside.names c.add_real.new.names (record { country = c.element-from.result.country; number = c.fitting.result }) (place c.args.g c.args.t c.args.p c.args.k) = search rules in
+    let added : AddsReal c.self.inside.names c.add_real.new.names (record { country = (element_at c.in-Ok.links.items c.args.k).country; number = c.fitting.result }) (place c.args.g c.args.t c.args.p c.args.k) = subst (λ (i : Id). AddsReal c.self.inside.names c.add_real.new.names (record { country = i.country; number = c.fitting.result }) (place c.args.g c.args.t c.args.p c.args.k)) c.element-from.ensures adds in
+    let f : ForgetsOther c.add_real.new.names c.forget_other.new.names (element_at c.in-Ok.links.items c.args.k) (record { country = (element_at c.in-Ok.links.items c.args.k).country; number = c.fitting.result }) (place c.args.g c.args.t c.args.p c.args.k) = subst (λ (i : Id). ForgetsOther c.add_real.new.names c.forget_other.new.names i (record { country = i.country; number = c.fitting.result }) (place c.args.g c.args.t c.args.p c.args.k)) c.element-from.ensures c.forget_other.ensures.forgotten in
+    let same = kept plan c.self.inside.identities c.self.inside.names c.self.invariant.held c.args.g c.args.t c.args.p c.args.k c.fitting.result c.in-Some.group.now n c.in-Ok.links.items c.in-Ok.ensures.ok c.add_real.new.names c.forget_other.new.names added f in
     let r = left c.args.g c.args.t c.args.p NidBg c.args.k c.args.value plan c.self.invariant.held.sound c.in-Some.group.now c.set_field.new.self n c.in-Err-set_field.fault c.in-Err-set_field.ensures in
     let e = v ∙ ap (set_value (same_tag c.args.g) plan) r.1 ∙ set_value_same (same_tag c.args.g) plan c.in-Some.group.now n in
     let full = c.forget_other.ensures.full (c.add_real.ensures.full c.self.invariant.held.full) in
@@ -76,9 +76,12 @@ invariant_of-self-2 c =
     let plan = c.self.inside.groups.entries in
     let n : find same_tag c.args.g plan ≡ Some c.in-Some.group.now = sym c.in-Some.ensures.value in
     let v = c.get_mut.follows.holds c.set_field.new.self in
-    let adds : AddsReal c.self.inside.names c.add_real.new.names (record { country = c.element-from.result.country; number = c.args.value }) (place c.args.g c.args.t c.args.p c.args.k) = search rules in
+    let same : c.fitting.result ≡ c.args.value = c.fitting.ensures.same (narrow plan c.self.inside.identities c.self.inside.names c.self.invariant.held c.args.g c.args.t c.args.p c.args.k c.args.value c.in-Some.group.now n c.set_field.new.self c.in-Ok-set_field.old c.in-Ok-set_field.ensures) in
+    let noted : AddsReal c.self.inside.names c.add_real.new.names (record { country = c.element-from.result.country; number = c.fitting.result }) (place c.args.g c.args.t c.args.p c.args.k) = search rules in
+    let adds : AddsReal c.self.inside.names c.add_real.new.names (record { country = c.element-from.result.country; number = c.args.value }) (place c.args.g c.args.t c.args.p c.args.k) = subst (λ (k : ℕ). AddsReal c.self.inside.names c.add_real.new.names (record { country = c.element-from.result.country; number = k }) (place c.args.g c.args.t c.args.p c.args.k)) same noted in
+    let forgets : ForgetsOther c.add_real.new.names c.forget_other-2.new.names (record { country = c.element-from.result.country; number = c.args.value }) c.element-from.result (place c.args.g c.args.t c.args.p c.args.k) = subst (λ (k : ℕ). ForgetsOther c.add_real.new.names c.forget_other-2.new.names (record { country = c.element-from.result.country; number = k }) c.element-from.result (place c.args.g c.args.t c.args.p c.args.k)) same c.forget_other-2.ensures.forgotten in
     let added : AddsReal c.self.inside.names c.add_real.new.names (record { country = (element_at c.in-Ok.links.items c.args.k).country; number = c.args.value }) (place c.args.g c.args.t c.args.p c.args.k) = subst (λ (i : Id). AddsReal c.self.inside.names c.add_real.new.names (record { country = i.country; number = c.args.value }) (place c.args.g c.args.t c.args.p c.args.k)) c.element-from.ensures adds in
-    let f : ForgetsOther c.add_real.new.names c.forget_other-2.new.names (record { country = (element_at c.in-Ok.links.items c.args.k).country; number = c.args.value }) (element_at c.in-Ok.links.items c.args.k) (place c.args.g c.args.t c.args.p c.args.k) = subst (λ (i : Id). ForgetsOther c.add_real.new.names c.forget_other-2.new.names (record { country = i.country; number = c.args.value }) i (place c.args.g c.args.t c.args.p c.args.k)) c.element-from.ensures c.forget_other-2.ensures.forgotten in
+    let f : ForgetsOther c.add_real.new.names c.forget_other-2.new.names (record { country = (element_at c.in-Ok.links.items c.args.k).country; number = c.args.value }) (element_at c.in-Ok.links.items c.args.k) (place c.args.g c.args.t c.args.p c.args.k) = subst (λ (i : Id). ForgetsOther c.add_real.new.names c.forget_other-2.new.names (record { country = i.country; number = c.args.value }) i (place c.args.g c.args.t c.args.p c.args.k)) c.element-from.ensures forgets in
     let full = c.forget_other-2.ensures.full (c.add_real.ensures.full c.self.invariant.held.full) in
     let r = linked plan c.self.inside.identities c.self.inside.names c.self.invariant.held c.args.g c.args.t c.args.p c.args.k c.args.value c.in-Some.group.now n c.in-Ok.links.items c.in-Ok.ensures.ok c.add_real.new.names c.forget_other-2.new.names added c.set_field.new.self c.in-Ok-set_field.old c.in-Ok-set_field.ensures full f in
     changed c.self.inside.changes (subst (IsHeld c.self.inside.identities c.forget_other-2.new.names) (sym v) r.held)
@@ -88,9 +91,12 @@ returns-clause-does c =
     let plan = c.self.inside.groups.entries in
     let n : find same_tag c.args.g plan ≡ Some c.in-Some.group.now = sym c.in-Some.ensures.value in
     let v = c.get_mut.follows.holds c.set_field.new.self in
-    let adds : AddsReal c.self.inside.names c.add_real.new.names (record { country = c.element-from.result.country; number = c.args.value }) (place c.args.g c.args.t c.args.p c.args.k) = search rules in
+    let same : c.fitting.result ≡ c.args.value = c.fitting.ensures.same (narrow plan c.self.inside.identities c.self.inside.names c.self.invariant.held c.args.g c.args.t c.args.p c.args.k c.args.value c.in-Some.group.now n c.set_field.new.self c.in-Ok-set_field.old c.in-Ok-set_field.ensures) in
+    let noted : AddsReal c.self.inside.names c.add_real.new.names (record { country = c.element-from.result.country; number = c.fitting.result }) (place c.args.g c.args.t c.args.p c.args.k) = search rules in
+    let adds : AddsReal c.self.inside.names c.add_real.new.names (record { country = c.element-from.result.country; number = c.args.value }) (place c.args.g c.args.t c.args.p c.args.k) = subst (λ (k : ℕ). AddsReal c.self.inside.names c.add_real.new.names (record { country = c.element-from.result.country; number = k }) (place c.args.g c.args.t c.args.p c.args.k)) same noted in
+    let forgets : ForgetsOther c.add_real.new.names c.forget_other-2.new.names (record { country = c.element-from.result.country; number = c.args.value }) c.element-from.result (place c.args.g c.args.t c.args.p c.args.k) = subst (λ (k : ℕ). ForgetsOther c.add_real.new.names c.forget_other-2.new.names (record { country = c.element-from.result.country; number = k }) c.element-from.result (place c.args.g c.args.t c.args.p c.args.k)) same c.forget_other-2.ensures.forgotten in
     let added : AddsReal c.self.inside.names c.add_real.new.names (record { country = (element_at c.in-Ok.links.items c.args.k).country; number = c.args.value }) (place c.args.g c.args.t c.args.p c.args.k) = subst (λ (i : Id). AddsReal c.self.inside.names c.add_real.new.names (record { country = i.country; number = c.args.value }) (place c.args.g c.args.t c.args.p c.args.k)) c.element-from.ensures adds in
-    let f : ForgetsOther c.add_real.new.names c.forget_other-2.new.names (record { country = (element_at c.in-Ok.links.items c.args.k).country; number = c.args.value }) (element_at c.in-Ok.links.items c.args.k) (place c.args.g c.args.t c.args.p c.args.k) = subst (λ (i : Id). ForgetsOther c.add_real.new.names c.forget_other-2.new.names (record { country = i.country; number = c.args.value }) i (place c.args.g c.args.t c.args.p c.args.k)) c.element-from.ensures c.forget_other-2.ensures.forgotten in
+    let f : ForgetsOther c.add_real.new.names c.forget_other-2.new.names (record { country = (element_at c.in-Ok.links.items c.args.k).country; number = c.args.value }) (element_at c.in-Ok.links.items c.args.k) (place c.args.g c.args.t c.args.p c.args.k) = subst (λ (i : Id). ForgetsOther c.add_real.new.names c.forget_other-2.new.names (record { country = i.country; number = c.args.value }) i (place c.args.g c.args.t c.args.p c.args.k)) c.element-from.ensures forgets in
     let full = c.forget_other-2.ensures.full (c.add_real.ensures.full c.self.invariant.held.full) in
     let r = linked plan c.self.inside.identities c.self.inside.names c.self.invariant.held c.args.g c.args.t c.args.p c.args.k c.args.value c.in-Some.group.now n c.in-Ok.links.items c.in-Ok.ensures.ok c.add_real.new.names c.forget_other-2.new.names added c.set_field.new.self c.in-Ok-set_field.old c.in-Ok-set_field.ensures full f in
     (subst (λ q. refusal (SetVar c.args.g c.args.t c.args.p NidBg c.args.k c.args.value) q.groups ≡ None) c.self.view_is r.accepted, ap (λ gs. record { groups = gs; changes = c.self.inside.changes + 1 }) (v ∙ r.is) ∙ ap (edited (SetVar c.args.g c.args.t c.args.p NidBg c.args.k c.args.value)) c.self.view_is)

@@ -1,5 +1,4 @@
 use Rattle.std.proofs.Common.{rules, ◌≡◌, ◌∙◌, ◌+◌, position, option_map, slice_get, sym, ap, subst, Some, None, arith}
-use Rattle.std.specs.BTreeMap as map
 use Rattle.std.specs.Map.{keys_of, remove_entry}
 use Rattle.std.proofs.lemmas.List.{take_all}
 use Rattle.balise_rules.specs.declared.tag.Tag.{Tag}

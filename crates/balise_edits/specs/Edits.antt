@@ -6,7 +6,7 @@ use Rattle.balise_edits.specs.declared.edit.Edit.TheVariants.{SetVar, SetHead, I
 abbrev pub edit_of : Edit → rules.Edit
 edit_of (SetVar g t p v k n) = rules.SetVar g t p v k n
 edit_of (SetHead g t v n) = rules.SetHead g t v n
-edit_of (InsertPacket g t a x) = rules.InsertPacket g t a x
+edit_of (InsertPacket g t a x) = rules.InsertPacket g t a x.value
 edit_of (DeletePacket g t p) = rules.DeletePacket g t p
 edit_of (MovePacket g t p a) = rules.MovePacket g t p a
 edit_of (AddGroup a bs) = rules.AddGroup a bs.items

@@ -25,10 +25,10 @@ abbrev pub note_of : Note → notes.Note
 note_of (Field n is) = record nothing { old = n; names = names_in is }
 note_of (Header n) = record nothing { old = n }
 note_of (Inserted is) = record nothing { names = is.items }
-note_of (Deleted b is x) = record nothing { before = b; names = is.items; packet = x }
+note_of (Deleted b x) = record nothing { before = b; names = x.value.names.items; packet = x.value.packet }
 note_of (Moved b) = record nothing { before = b }
 note_of (Added i is) = record nothing { own = i; names = is.items }
-note_of (Dropped b i is ys) = record nothing { before = b; own = i; names = is.items; group = ys }
+note_of (Dropped b i x) = record nothing { before = b; own = i; names = x.value.names.items; group = x.value.group }
 note_of (Own i) = of_group i
 
 -- the kinds of notes
@@ -59,10 +59,10 @@ abbrev pub kind_in : Note → Kind
 kind_in (Field n is) = OfField
 kind_in (Header n) = OfHeader
 kind_in (Inserted is) = OfInsertion
-kind_in (Deleted b is x) = OfDeletion
+kind_in (Deleted b x) = OfDeletion
 kind_in (Moved b) = OfMove
 kind_in (Added i is) = OfAddition
-kind_in (Dropped b i is ys) = OfRemoval
+kind_in (Dropped b i x) = OfRemoval
 kind_in (Own i) = OfGroup
 
 -- the note is of the kind that the edit has

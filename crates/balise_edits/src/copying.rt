@@ -17,6 +17,15 @@ pub(crate) fn copy_packet(packet: &Packet) -> Result<Packet, Refusal>
     }
 }
 
+/// A packet that has a place of its own once more.
+pub(crate) fn copy_placed_packet(packet: &Box<Packet>) -> Result<Box<Packet>, Refusal>
+    ensures ok { IfOk result (λ copied. copied.value ≡ packet.now.value) }
+    ensures fault { IsOkUnless result Refusal.OutOfMemory }
+{
+    let copied = copy_packet(packet)?;
+    Ok(Box::new(*Box::allocator(packet), copied)?)
+}
+
 /// The telegrams of a group once more.
 pub(crate) fn copy_telegrams(telegrams: &Vec<Bits>) -> Result<Vec<Bits>, Refusal>
     ensures ok { IfOk result (λ copies. copies.items ≡ telegrams.now.items) }

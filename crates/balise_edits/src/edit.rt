@@ -4,7 +4,7 @@ ghost use Rattle.std.specs.Prelude.{◌≡◌, IfOk, IsOkUnless};
 ghost use Rattle.balise_rules.specs.Behind.{anchor_of, anchored};
 ghost use Rattle.balise_edits.specs.Edits.{edit_of};
 
-use crate::copying::{copy_packet, copy_telegrams};
+use crate::copying::{copy_placed_packet, copy_telegrams};
 use balise_bits::Bits;
 use balise_layout::Packet;
 use balise_rules::{Refusal, Tag, Var};
@@ -29,12 +29,13 @@ pub enum Edit {
         var: Var,
         value: u32,
     },
-    /// Puts a packet in; its tag is `Fresh` with the edit's serial.
+    /// Puts a packet in; its tag is `Fresh` with the edit's serial. The packet has a place of its own, so that other
+    /// edits take less memory.
     InsertPacket {
         g: Tag,
         t: u32,
         after: Option<Tag>,
-        packet: Packet,
+        packet: Box<Packet>,
     },
     /// Takes a packet out.
     DeletePacket {
@@ -101,7 +102,7 @@ impl Edit {
                 g,
                 t,
                 after,
-                packet: copy_packet(packet)?,
+                packet: copy_placed_packet(packet)?,
             }),
             Edit::DeletePacket { g, t, p } => Ok(Edit::DeletePacket { g, t, p }),
             Edit::MovePacket { g, t, p, after } => Ok(Edit::MovePacket { g, t, p, after }),

@@ -29,6 +29,20 @@ impl Names {
     }
 }
 
+/// A packet that was taken out of the plan, while it isn't there, and the identities that it names.
+#[derive(Debug, Drop)]
+pub(crate) struct TakenPacket {
+    pub(crate) names: Vec<Id>,
+    pub(crate) packet: Option<Packet>,
+}
+
+/// A group that was taken out of the plan, while it isn't there, and the identities that it names.
+#[derive(Debug, Drop)]
+pub(crate) struct TakenGroup {
+    pub(crate) names: Vec<Id>,
+    pub(crate) group: Option<Group>,
+}
+
 /// What an edit notes of the plan before it is done, by the kind of the edit. `before` is the old next neighbour, or
 /// none for the end. What was taken out of the plan is here while the edit stands, and in the plan once it is taken back.
 #[derive(Debug, Drop)]
@@ -46,11 +60,10 @@ pub(crate) enum Note {
     Inserted {
         names: Vec<Id>,
     },
-    /// A packet taken out, which names these identities.
+    /// A packet taken out. It has a place of its own, as few notes have one.
     Deleted {
         before: Option<Tag>,
-        names: Vec<Id>,
-        packet: Option<Packet>,
+        taken: Box<TakenPacket>,
     },
     /// A packet moved.
     Moved {
@@ -61,12 +74,11 @@ pub(crate) enum Note {
         own: Id,
         names: Vec<Id>,
     },
-    /// A group taken out: its identity, and those that it names.
+    /// A group taken out, and its identity.
     Dropped {
         before: Option<Tag>,
         own: Id,
-        names: Vec<Id>,
-        group: Option<Group>,
+        taken: Box<TakenGroup>,
     },
     /// A group renumbered or turned: its old identity.
     Own(Id),
@@ -85,14 +97,9 @@ impl Note {
             Note::Inserted { ref names } => Ok(Note::Inserted {
                 names: copy_names(names)?,
             }),
-            Note::Deleted {
+            Note::Deleted { before, ref taken } => Ok(Note::Deleted {
                 before,
-                ref names,
-                ref packet,
-            } => Ok(Note::Deleted {
-                before,
-                names: copy_names(names)?,
-                packet: copy_taken(packet)?,
+                taken: copy_packet_taken(taken)?,
             }),
             Note::Moved { before } => Ok(Note::Moved { before }),
             Note::Added { own, ref names } => Ok(Note::Added {
@@ -102,13 +109,11 @@ impl Note {
             Note::Dropped {
                 before,
                 own,
-                ref names,
-                ref group,
+                ref taken,
             } => Ok(Note::Dropped {
                 before,
                 own,
-                names: copy_names(names)?,
-                group: copy_group(group)?,
+                taken: copy_group_taken(taken)?,
             }),
             Note::Own(own) => Ok(Note::Own(own)),
         }
@@ -160,16 +165,38 @@ impl Note {
         match self {
             Note::Field { names, .. } => names.as_slice(),
             Note::Inserted { names } => names,
-            Note::Deleted { names, .. } => names,
+            Note::Deleted { taken, .. } => &taken.names,
             Note::Added { names, .. } => names,
-            Note::Dropped { names, .. } => names,
+            Note::Dropped { taken, .. } => &taken.names,
             _ => &[],
         }
     }
 }
 
+// A packet that was taken out once more.
+fn copy_packet_taken(taken: &Box<TakenPacket>) -> Result<Box<TakenPacket>, Refusal>
+    ensures names { IfOk result (λ copied. copied.value.names.items ≡ taken.now.value.names.items) }
+    ensures packet { IfOk result (λ copied. copied.value.packet ≡ taken.now.value.packet) }
+    ensures fault { IsOkUnless result Refusal.OutOfMemory }
+{
+    let names = copy_names(&taken.names)?;
+    let packet = copy_packet_or_none(&taken.packet)?;
+    Ok(Box::new(*Box::allocator(taken), TakenPacket { names, packet })?)
+}
+
+// A group that was taken out once more.
+fn copy_group_taken(taken: &Box<TakenGroup>) -> Result<Box<TakenGroup>, Refusal>
+    ensures names { IfOk result (λ copied. copied.value.names.items ≡ taken.now.value.names.items) }
+    ensures group { IfOk result (λ copied. copied.value.group ≡ taken.now.value.group) }
+    ensures fault { IsOkUnless result Refusal.OutOfMemory }
+{
+    let names = copy_names(&taken.names)?;
+    let group = copy_group_or_none(&taken.group)?;
+    Ok(Box::new(*Box::allocator(taken), TakenGroup { names, group })?)
+}
+
 // A packet once more, if there is one.
-fn copy_taken(packet: &Option<Packet>) -> Result<Option<Packet>, Refusal>
+fn copy_packet_or_none(packet: &Option<Packet>) -> Result<Option<Packet>, Refusal>
     ensures ok { IfOk result (λ copied. copied ≡ packet.now) }
     ensures fault { IsOkUnless result Refusal.OutOfMemory }
 {
@@ -180,7 +207,7 @@ fn copy_taken(packet: &Option<Packet>) -> Result<Option<Packet>, Refusal>
 }
 
 // A group once more, if there is one.
-fn copy_group(group: &Option<Group>) -> Result<Option<Group>, Refusal>
+fn copy_group_or_none(group: &Option<Group>) -> Result<Option<Group>, Refusal>
     ensures ok { IfOk result (λ copied. copied ≡ group.now) }
     ensures fault { IsOkUnless result Refusal.OutOfMemory }
 {

@@ -62,7 +62,7 @@ pub(crate) fn insert(
         g,
         t: 0,
         after,
-        packet: packet_of(rt, alloc, digits),
+        packet: Box::new(alloc, packet_of(rt, alloc, digits)).expect(rt, "memory"),
     }
 }
 

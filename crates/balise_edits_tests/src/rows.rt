@@ -188,7 +188,7 @@ fn an_unknown_profile(rt: HostRuntime) {
         g: FIRST,
         t: 0,
         after: None,
-        packet,
+        packet: Box::new(alloc, packet).expect(&rt, "memory"),
     };
     follow(&rt, alloc, &mut plan, 1, edit, Ok(()), &[put]);
     let edit = set(FIRST, Tag::Fresh(1), Var::VDiff, 0, 1);

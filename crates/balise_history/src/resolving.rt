@@ -168,6 +168,7 @@ fn insert(plan: &Plan, id: Id, pig: u32, at: u32, digits: &Bits) -> Result<Edit,
     let (g, t, balise) = find_telegram(plan, id, pig)?;
     let after = packet_before(balise, at as usize)?;
     let packet = packet_in(digits, balise.version())?;
+    let packet = Box::new(plan.allocator(), packet)?;
     Ok(Edit::InsertPacket {
         g,
         t,

@@ -15,18 +15,18 @@ impl Entry {
         ensures left { self.new ≡ (self.old.0, with_packet None self.old.1) }
     {
         match &mut self.done.note {
-            Note::Deleted { packet, .. } => packet.take(),
+            Note::Deleted { taken, .. } => taken.packet.take(),
             _ => None,
         }
     }
 
     /// Has the packet that a deletion took out.
-    pub(crate) fn keep_packet(&mut self, taken: Packet)
+    pub(crate) fn keep_packet(&mut self, packet: Packet)
         requires { kind_of self.old.0.1 ≡ OfDeletion }
-        ensures { self.new ≡ (self.old.0, with_packet (Some taken) self.old.1) }
+        ensures { self.new ≡ (self.old.0, with_packet (Some packet) self.old.1) }
     {
-        if let Note::Deleted { packet, .. } = &mut self.done.note {
-            *packet = Some(taken);
+        if let Note::Deleted { taken, .. } = &mut self.done.note {
+            taken.packet = Some(packet);
         }
     }
 
@@ -36,18 +36,18 @@ impl Entry {
         ensures left { self.new ≡ (self.old.0, with_group None self.old.1) }
     {
         match &mut self.done.note {
-            Note::Dropped { group, .. } => group.take(),
+            Note::Dropped { taken, .. } => taken.group.take(),
             _ => None,
         }
     }
 
     /// Has the group that a removal took out.
-    pub(crate) fn keep_group(&mut self, taken: Group)
+    pub(crate) fn keep_group(&mut self, group: Group)
         requires { kind_of self.old.0.1 ≡ OfRemoval }
-        ensures { self.new ≡ (self.old.0, with_group (Some taken) self.old.1) }
+        ensures { self.new ≡ (self.old.0, with_group (Some group) self.old.1) }
     {
-        if let Note::Dropped { group, .. } = &mut self.done.note {
-            *group = Some(taken);
+        if let Note::Dropped { taken, .. } = &mut self.done.note {
+            taken.group = Some(group);
         }
     }
 }

@@ -14,7 +14,7 @@ use crate::copying::copy_telegrams;
 use crate::edit::Edit;
 use crate::entry::Entry;
 use crate::naming::names_of_group;
-use crate::note::Note;
+use crate::note::{Note, TakenGroup};
 use balise_plan::{Bits, Group, Plan, Spot};
 use balise_rules::{Refusal, Tag};
 use std::alloc::Global;
@@ -116,13 +116,13 @@ pub(crate) fn drop_group(alloc: Global, plan: &mut Plan, g: Tag) -> Result<Note,
         Some(group) => (group.identity(), names_of_group(alloc, group)?),
         None => return Err(Refusal::NoSuchGroup),
     };
+    let group = None;
+    let mut taken = Box::new(alloc, TakenGroup { names, group })?;
     match plan.take_group(g) {
-        Ok((group, before)) => Ok(Note::Dropped {
-            before,
-            own,
-            names,
-            group: Some(group),
-        }),
+        Ok((group, before)) => {
+            taken.group = Some(group);
+            Ok(Note::Dropped { before, own, taken })
+        }
         Err(fault) => Err(fault),
     }
 }

@@ -14,7 +14,7 @@ use crate::copying::copy_packet;
 use crate::edit::Edit;
 use crate::entry::Entry;
 use crate::naming::add_real;
-use crate::note::Note;
+use crate::note::{Note, TakenPacket};
 use balise_layout::Packet;
 use balise_plan::{Plan, Spot};
 use balise_rules::{Refusal, Tag};
@@ -128,12 +128,13 @@ pub(crate) fn delete(
         };
         add_real(&mut names, &links)?;
     }
+    let packet = None;
+    let mut taken = Box::new(alloc, TakenPacket { names, packet })?;
     match plan.take_packet(g, t, p) {
-        Ok((packet, before)) => Ok(Note::Deleted {
-            before,
-            names,
-            packet: Some(packet),
-        }),
+        Ok((packet, before)) => {
+            taken.packet = Some(packet);
+            Ok(Note::Deleted { before, taken })
+        }
         Err(fault) => Err(fault),
     }
 }

@@ -69,7 +69,7 @@ fn edit_in(plan: &Plan, edit: LineEdit) -> Result<Edit, Refusal>
                     g,
                     t,
                     after,
-                    packet,
+                    packet: Box::new(plan.allocator(), packet)?,
                 }),
                 Err(Refusal::OutOfMemory) => Err(Refusal::OutOfMemory),
                 Err(_) => Err(Refusal::JournalMismatch),

@@ -1,13 +1,16 @@
 use Rattle.std.proofs.Common.{refl, subst, sym}
 use Rattle.balise_rules.specs.Accepting.{Spelt}
-use Rattle.balise_rules.specs.Edits.{Renumber, TurnGroup}
+use Rattle.balise_rules.specs.Edits.{InsertPacket, Renumber, TurnGroup}
 use Rattle.balise_edits.specs.Edits.{edit_of}
 use Rattle.balise_edits.specs.Standing.{DoesItem}
 use Rattle.balise_edits.proofs.Items.{always_item, does_item}
 use Rattle.balise_edits.proofs.doing.noted.Goals as goal
 
 pub insert-requires-clause-spelt : goal.insert-requires-clause-spelt
-insert-requires-clause-spelt c = subst (λ e. Spelt (edit_of e) c.args.plan.now.groups) c.in-InsertPacket.is c.requires.spelt
+insert-requires-clause-spelt c =
+    let own = c.in-InsertPacket in
+    subst (λ x. Spelt (InsertPacket own.g own.t own.after x) c.args.plan.now.groups) (sym c.deref.ensures)
+    (subst (λ e. Spelt (edit_of e) c.args.plan.now.groups) own.is c.requires.spelt)
 
 pub returns-in-Renumber-clause-does : goal.returns-in-Renumber-clause-does
 returns-in-Renumber-clause-does c =

@@ -50,4 +50,5 @@ load neighbours 2000
 load renumber 200000
 load turn 400000
 load drops 20000
+load scattered 20000
 load journal 1000000 --journal

@@ -66,6 +66,21 @@ def mixed(count, groups, out, rng):
             out.append("undo")
 
 
+def scattered(count, groups, out, rng):
+    """Groups added all over a plan, and in between groups of it dropped, old and new."""
+    plan(groups, out)
+    out.append("edits")
+    held = [name(n) for n in range(groups)]
+    for i in range(count):
+        country, number = 500 + i // 16000, i % 16000
+        out.append(f"add {rng.randrange(len(held) + 1)} {telegram(header(country, number), revocation(i % 256))}")
+        held.append(f"{country}.{number}")
+        if i % 2 == 1:
+            k = rng.randrange(len(held))
+            held[k], held[-1] = held[-1], held[k]
+            out.append(f"drop {held.pop()}")
+
+
 def main(load, count):
     out, rng = [], random.Random(7)
     if load == "plan":
@@ -130,6 +145,8 @@ def main(load, count):
         out.append("edits")
         for i in range(count):
             out += [f"drop {name(5000)}", f"add 5000 {group(5000)}"]
+    elif load == "scattered":
+        scattered(count, 100000, out, rng)
     print("\n".join(out))
 
 

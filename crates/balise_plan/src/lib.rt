@@ -6,6 +6,7 @@ mod group;
 mod group_links;
 mod group_places;
 mod group_reader;
+mod homes;
 mod identity_map;
 mod link_list;
 mod link_set;

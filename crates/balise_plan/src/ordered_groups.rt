@@ -10,6 +10,7 @@ ghost use Rattle.balise_plan.specs.InOrder.{HasRoom};
 ghost use Rattle.balise_plan.specs.Lent.{lends_group};
 
 use crate::group::Group;
+use crate::homes::Homes;
 use crate::order::{place_near, stands_at};
 use crate::tag_list::TagList;
 use balise_rules::Tag;
@@ -25,6 +26,7 @@ pub(crate) struct OrderedGroups {
     held: IndexMap<Tag, Group>,
     // Where a group was put in or taken out last.
     near: usize,
+    homes: Homes,
 }
 
 impl Model for OrderedGroups {
@@ -47,6 +49,7 @@ impl OrderedGroups {
             order: TagList::new(alloc),
             held: IndexMap::new(alloc),
             near: 0,
+            homes: Homes::new(alloc),
         }
     }
 
@@ -97,7 +100,7 @@ impl OrderedGroups {
     pub(crate) fn place_of(&self, g: Tag) -> Option<usize>
         ensures { result ≡ position (same_tag g) (keys_of self.now.entries) }
     {
-        place_near(&self.order, g, expected(&self.order, g, self.near))
+        place_near(&self.order, g, self.expected(g))
     }
 
     /// Takes memory for more groups, such that one of them may be put in without any.
@@ -106,6 +109,7 @@ impl OrderedGroups {
         ensures room { OnOk result (1 ≤ more → HasRoom self.new) }
     {
         self.order.reserve()?;
+        self.homes.reserve(more)?;
         self.held.reserve(more)
     }
 
@@ -116,9 +120,11 @@ impl OrderedGroups {
         requires room { HasRoom self.old }
         ensures { self.new.entries ≡ insert self.old.entries i (g, group) }
     {
+        let blocks = self.order.count_blocks();
         self.order.insert(i, g);
         let _ = self.held.insert(g, group);
         self.near = i;
+        self.homes.put(&self.order, &self.held, i, blocks);
     }
 
     /// Takes a group out. Answers it and its place.
@@ -130,12 +136,28 @@ impl OrderedGroups {
         let Some(i) = self.place_of(g) else {
             return None;
         };
+        let k = held_at(&self.held, g);
         let Some(group) = self.held.swap_remove(&g) else {
             return None;
         };
         self.order.remove(i);
         self.near = i;
+        self.homes.swap_remove(k);
         Some((i, group))
+    }
+
+    // Where to look for a tag first: where the last group was put in or taken out, where the tag stood when the plan was
+    // read, or in the block in which it was seen last.
+    fn expected(&self, g: Tag) -> usize {
+        if stands_at(&self.order, g, self.near) {
+            return self.near;
+        }
+        if let Tag::Base(n) = g {
+            if stands_at(&self.order, g, n as usize) {
+                return n as usize;
+            }
+        }
+        self.homes.place_of(&self.order, held_at(&self.held, g), g)
     }
 }
 
@@ -167,14 +189,10 @@ fn found(held: &IndexMap<Tag, Group>, g: Tag) -> Option<&Group>
     held.get(&g)
 }
 
-// Where to look for a tag first: where the last group was put in or taken out, or where the tag stood when the plan was
-// read.
-fn expected(order: &TagList, g: Tag, near: usize) -> usize {
-    if stands_at(order, g, near) {
-        return near;
+// The place of a group in the map, or the end where none has the tag.
+fn held_at(held: &IndexMap<Tag, Group>, g: Tag) -> usize {
+    if let Some(i) = own_place(held, g) {
+        return i;
     }
-    match g {
-        Tag::Base(n) => n as usize,
-        Tag::Fresh(_) => near,
-    }
+    held.get_index_of(&g).unwrap_or(held.len())
 }

@@ -1,10 +1,12 @@
 //! Tags in order, in blocks, so that one put in or taken out moves few others.
 
+mod block_names;
 mod blocks;
 
 ghost use Rattle.std.specs.Prelude.{◌≡◌, ◌≤◌, ◌<◌, ◌+◌, ◌^◌, length, insert, remove, slice_get, [], OnOk};
 
 use balise_rules::Tag;
+use block_names::BlockNames;
 use blocks::{block_of, put_in, split, take_out};
 use std::alloc::{AllocError, Global};
 use std::marker::Model;
@@ -30,6 +32,7 @@ pub(crate) struct TagList {
     // Room for the tags of one more block.
     spare: Vec<Tag>,
     len: usize,
+    names: BlockNames,
 }
 
 impl Model for TagList {
@@ -52,6 +55,7 @@ impl TagList {
             blocks: Vec::new(alloc),
             spare: Vec::new(alloc),
             len: 0,
+            names: BlockNames::new(alloc),
         }
     }
 
@@ -83,6 +87,7 @@ impl TagList {
             return Err(AllocError);
         }
         self.blocks.reserve(1)?;
+        self.names.reserve()?;
         if self.spare.capacity() < MOST {
             self.spare = Vec::with_capacity(*self.blocks.allocator(), MOST)?;
         }
@@ -99,16 +104,49 @@ impl TagList {
             let mut tags = mem::replace(&mut self.spare, Vec::new(*self.blocks.allocator()));
             let _ = tags.push(g);
             let _ = self.blocks.push(Block { start: 0, tags });
+            self.names.begin_behind(0);
             self.len = 1;
             return;
         }
         let mut b = block_of(&self.blocks, i);
         if self.blocks[b].tags.len() >= MOST {
             let tags = mem::replace(&mut self.spare, Vec::new(*self.blocks.allocator()));
+            self.names.begin_behind(b);
             b = split(&mut self.blocks, tags, b, i);
         }
         put_in(&mut self.blocks, b, i, g);
         self.len += 1;
+    }
+
+    /// How many blocks they stand in.
+    pub(crate) fn count_blocks(&self) -> usize {
+        self.blocks.len()
+    }
+
+    /// The name of the block that a place is in.
+    pub(crate) fn block_at(&self, i: usize) -> u32 {
+        if self.blocks.is_empty() {
+            return 0;
+        }
+        self.names.name_of(block_of(&self.blocks, i))
+    }
+
+    /// The name and the tags of the block that was begun last.
+    pub(crate) fn begun_last(&self) -> (u32, &[Tag]) {
+        let name = self.names.last();
+        match self.blocks.get(self.names.place_of(name)) {
+            Some(block) => (name, block.tags.as_slice()),
+            None => (name, &[]),
+        }
+    }
+
+    /// Where a tag stands, if the block with a name has it: a guess.
+    pub(crate) fn place_in(&self, name: u32, g: Tag) -> usize {
+        let Some(block) = self.blocks.get(self.names.place_of(name)) else {
+            return 0;
+        };
+        let within = block.tags.iter().position(|tag| *tag == g);
+        block.start.saturating_add(within.unwrap_or(0))
     }
 
     /// Takes out the tag at a place. Takes no memory.

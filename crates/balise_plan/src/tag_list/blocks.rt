@@ -3,23 +3,24 @@
 ghost use Rattle.std.specs.Prelude.{◌≡◌, ◌≤◌, ◌<◌, ◌+◌, ◌-◌, ◌^◌, length, take, drop, insert, remove, [], vec_capacity, vec_len};
 ghost use Rattle.balise_plan.specs.Blocks.{flat, before, Laid, IsAt, IsIn, IsCut, RoomIn};
 
-use crate::tag_list::{Block, MOST};
+use crate::tag_list::Block;
 use balise_rules::Tag;
 
-/// The last block that begins at a place or before it. Blocks that were never split or cut are full, so it is mostly seen
-/// first.
+/// The last block that begins at a place or before it.
 pub(super) fn block_of(blocks: &Vec<Block>, i: usize) -> usize
     requires some { 0 < length blocks.now.items }
     requires laid { Laid 0 blocks.now.items }
     ensures { IsAt i result blocks.now.items }
 {
-    let count = blocks.len();
-    let mut b = (i / MOST).min(count - 1);
-    while b > 0 && blocks[b].start > i {
-        b -= 1;
-    }
-    while b + 1 < count && blocks[b + 1].start <= i {
-        b += 1;
+    let mut b = 0;
+    let mut end = blocks.len();
+    'halves: while end - b > 1 {
+        let middle = b + (end - b) / 2;
+        if blocks[middle].start <= i {
+            b = middle;
+        } else {
+            end = middle;
+        }
     }
     b
 }

@@ -43,7 +43,18 @@ def on_groups(kind, count, rng):
     return [f"turn {there}", "undo"]
 
 
-ON_GROUPS = ("set a field", "set a header's field", "insert a packet", "delete a packet", "move a packet", "add a group", "drop a group", "renumber a group", "turn a group")
+ELSEWHERE = "drop a group and add another elsewhere"
+ON_GROUPS = ("set a field", "set a header's field", "insert a packet", "delete a packet", "move a packet", "add a group", "drop a group", "renumber a group", "turn a group", ELSEWHERE)
+
+
+def elsewhere(count, rng):
+    """Groups dropped all over the plan, new ones too, each followed by another added at any place."""
+    held, lines = [name(n) for n in range(count)], []
+    for n in range(1_000_000, 1_000_000 + PAIRS):
+        k = rng.randrange(count)
+        lines += [f"drop {held[k]}", f"add {rng.randrange(count)} {group(n)}"]
+        held[k] = name(n)
+    return lines
 
 
 def behind_edits(kind, count, i):
@@ -108,7 +119,8 @@ def main(program, other, picture=None):
         plan(count, before)
         before.append("edits")
         rng = random.Random(7)
-        return both(("groups", count), before, [line for _ in range(PAIRS) for line in on_groups(kind, count, rng)])
+        lines = elsewhere(count, rng) if kind == ELSEWHERE else [line for _ in range(PAIRS) for line in on_groups(kind, count, rng)]
+        return both(("groups", count), before, lines)
 
     def of_edits(kind, count):
         count = min(count, 950_000)

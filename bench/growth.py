@@ -4,8 +4,8 @@
 Usage: growth.py PROGRAM OTHER [PICTURE]
 
 Prints two tables, microseconds of processor time for each command as PROGRAM / OTHER, and draws both as an SVG picture.
-A time is that of a run with 40,000 commands less that of the same input without them, the least of three runs each: let
-nothing else run.
+A time is that of a run with 200,000 commands (50,000 behind 950,000 edits, fewer of strikes that ask many) less that of
+the same input without them, the least of five runs each, all in turn: let nothing else run.
 """
 import os
 import random
@@ -17,7 +17,8 @@ from make_load import group, name, plan
 
 GROUPS = (1_000, 10_000, 100_000, 500_000)
 EDITS = (100, 10_000, 950_000)
-PAIRS = 20_000
+PAIRS = 100_000
+RUNS = 5
 
 
 def on_groups(kind, count, rng):
@@ -71,24 +72,26 @@ def behind_edits(kind, count, i):
 BEHIND = ("undo and redo", "set and undo", "strike the last but ten, and redo", "strike the first, and redo")
 
 
-def seconds(program, folder, lines, flags=()):
-    with open(f"{folder}/input", "w") as text:
-        text.write("\n".join(lines) + "\n")
-    least = None
-    for _ in range(3):
-        with open(f"{folder}/input", "rb") as text:
-            run = subprocess.Popen([program, *flags], stdin=text, stdout=subprocess.DEVNULL)
-            _, status, usage = os.wait4(run.pid, 0)
-        took = usage.ru_utime + usage.ru_stime
-        least = took if least is None else min(least, took)
+def seconds(program, path):
+    with open(path, "rb") as text:
+        run = subprocess.Popen([program], stdin=text, stdout=subprocess.DEVNULL)
+        _, status, usage = os.wait4(run.pid, 0)
     if os.waitstatus_to_exitcode(status) != 0:
-        sys.exit(f"status {os.waitstatus_to_exitcode(status)}: {lines[-2:]}")
-    return least
+        sys.exit(f"status {os.waitstatus_to_exitcode(status)}: {path}")
+    return usage.ru_utime + usage.ru_stime
 
 
-def each(program, folder, before, lines, bare):
-    """Microseconds for one of the commands."""
-    return max(seconds(program, folder, before + lines) - bare, 0) / len(lines) * 1e6
+def each(programs, folder, before, lines):
+    """Microseconds for one of the commands, of each program."""
+    inputs = f"{folder}/before", f"{folder}/whole"
+    for path, all in zip(inputs, (before, before + lines)):
+        with open(path, "w") as text:
+            text.write("\n".join(all) + "\n")
+    least = {}
+    for _ in range(RUNS):
+        for run in ((program, path) for program in programs for path in inputs):
+            least[run] = min(seconds(*run), least.get(run, 1e9))
+    return [max(least[it, inputs[1]] - least[it, inputs[0]], 0) / len(lines) * 1e6 for it in programs]
 
 
 def table(title, sizes, kinds, measure):
@@ -104,15 +107,6 @@ def table(title, sizes, kinds, measure):
 
 def main(program, other, picture=None):
     folder = tempfile.mkdtemp()
-    bare = {}
-
-    def both(key, before, lines):
-        answer = []
-        for path in (program, other):
-            if (path, key) not in bare:
-                bare[path, key] = seconds(path, folder, before)
-            answer.append(each(path, folder, before, lines, bare[path, key]))
-        return answer
 
     def of_groups(kind, count):
         before = []
@@ -120,16 +114,17 @@ def main(program, other, picture=None):
         before.append("edits")
         rng = random.Random(7)
         lines = elsewhere(count, rng) if kind == ELSEWHERE else [line for _ in range(PAIRS) for line in on_groups(kind, count, rng)]
-        return both(("groups", count), before, lines)
+        return each((program, other), folder, before, lines)
 
     def of_edits(kind, count):
-        count = min(count, 950_000)
         before = []
         plan(10000, before)
         before += ["edits", "seth 0.0 0 M_MCOUNT 1"]
         before += [f"seth {name(1 + i % 9999)} 0 M_MCOUNT {i % 250}" for i in range(count - 1)]
-        pairs = max(20, min(PAIRS, 2_000_000 // count)) if kind == BEHIND[-1] else PAIRS
-        return both(("edits", count), before, [line for i in range(pairs) for line in behind_edits(kind, count, i)])
+        pairs = min(PAIRS, (1_000_000 - count) // 2)
+        if kind == BEHIND[-1]:
+            pairs = max(20, min(pairs, 2_000_000 // count))
+        return each((program, other), folder, before, [line for i in range(pairs) for line in behind_edits(kind, count, i)])
 
     tables = [
         ("groups in the plan", GROUPS, table("a command and its undo, at groups", GROUPS, ON_GROUPS, of_groups)),

@@ -2,6 +2,8 @@
 use Rattle.std.proofs.Common.{◌≡◌, ℕ, [], Bool, true, false, cond, ◌||◌, ◌&&◌, Option, Some, None, Result, Ok, Err, IfOk, OnErr, refl, sym, ap, subst, ◌∙◌}
 use Rattle.std.specs.Io.KnownBytes.{Appends}
 use Rattle.std.proofs.KnownBytes.{Appends-trans}
+use Rattle.balise_rules.specs.declared.refusal.Refusal.{Refusal}
+use Rattle.balise_rules.specs.Plan.{Plan}
 use Rattle.balise_rules.specs.Session.{State}
 use Rattle.balise_lines.specs.Writing.{AppendsSome}
 use Rattle.balise_lines.proofs.WrittenTexts.{some_after, some_front, some_nothing}
@@ -9,19 +11,19 @@ use Rattle.balise_arguments.specs.declared.options.Flags.{Flags}
 use Rattle.balise_text.specs.Answers.{reply_of}
 use Rattle.balise_text.specs.Replies.{bad_line, is_refused}
 use Rattle.balise_text.specs.Texts.{Text}
-use Rattle.balise_cli.specs.Output.{Bad, Between, Commands, Good, Header, InGroup, InJournal, IsStep, Next, On, Over, Phase, Read, after_command, after_read, read_line, reply_text}
+use Rattle.balise_text.specs.declared.plan_line.PlanLine.{PlanLine}
+use Rattle.balise_cli.specs.Output.{Bad, Between, Commands, Good, Header, InGroup, InJournal, IsStep, Next, On, Over, Phase, Read, after_command, after_read, between, read_line, reply_text}
 use Rattle.balise_cli.specs.PlanTexts.{end_text}
 use Rattle.balise_cli.specs.Private.{DidAnswer, answer_text}
-use Rattle.balise_cli.specs.Machine.{DidRead, DidSome, DidStep, DidTake, DidTakeSome, last_text, phase_of}
+use Rattle.balise_cli.specs.Machine.{DidRead, DidSee, DidSome, DidStep, DidTake, DidTakeSome, IsReading, last_text}
 use Rattle.balise_cli.specs.declared.commands.Answer.{Answer}
-use Rattle.balise_cli.specs.declared.machine.Machine.{Machine}
-use Rattle.balise_cli.specs.declared.machine.Machine.TheVariants as machine
 use Rattle.balise_cli.specs.declared.machine.Taken.{Taken}
 use Rattle.balise_cli.specs.declared.machine.Taken.TheVariants as taken
+use Rattle.balise_cli.specs.declared.plan_reader.Seen.{Seen}
+use Rattle.balise_cli.specs.declared.plan_reader.Seen.TheVariants as seen
 use Rattle.balise_cli.specs.declared.fault.RunFault.{RunFault}
 use Rattle.balise_cli.specs.declared.status.Status.{Status}
 use Rattle.balise_cli.specs.declared.status.Status.TheVariants.{SomeRefused}
-use Rattle.balise_history.specs.declared.session.Session.{Session}
 
 -- A command.
 
@@ -53,18 +55,6 @@ module _ (flags : Flags) (s t : State) (refused : Bool) (n : ℕ) (line : Text) 
 
 -- A line of the plan or the journal.
 
-abbrev pub IsReading : Phase → Type 0
-IsReading (Commands s refused) = ⊥
-IsReading _ = Unit {0}
-
--- a machine that isn't at the commands
-pub is_reading : (m : Machine) → ((s : Session) (refused : Bool) → m ≡ machine.Commands s refused → ⊥) → IsReading (phase_of m)
-is_reading machine.Header h = tt
-is_reading (machine.Between plan) h = tt
-is_reading (machine.InGroup plan g ys) h = tt
-is_reading (machine.InJournal part opening) h = tt
-is_reading (machine.Commands s refused) h = absurd (h s refused refl)
-
 read_step : (flags : Flags) (p : Phase) (n : ℕ) (line : Text) → IsReading p → IsStep flags true p n line [] (after_read (read_line p n line))
 read_step flags Header n line h = (refl, refl)
 read_step flags (Between plan) n line h = (refl, refl)
@@ -72,34 +62,40 @@ read_step flags (InGroup plan g ys) n line h = (refl, refl)
 read_step flags (InJournal part s) n line h = (refl, refl)
 read_step flags (Commands s refused) n line h = absurd h
 
-taken_so : (flags : Flags) (p now q : Phase) (n : ℕ) (line : Text) (old new : Option Text) (rd : Read) (t : Taken) (r : Option Status) → DidRead rd now t → DidTake t now old new q r → IsStep flags true p n line [] (after_read rd) → DidStep flags p n line old new q r
-taken_so flags p now q n line old new (Good k) taken.Here None read d is = ([], (subst (λ x. IsStep flags true p n line [] (On x)) (sym read ∙ sym d.0) is, d.1))
-taken_so flags p now q n line old new (Good k) taken.Here (Some status) read d is = absurd d
-taken_so flags p now q n line old new (Good k) (taken.Good m) None read d is = ([], (subst (λ x. IsStep flags true p n line [] (On x)) (sym read ∙ sym d.0) is, d.1))
-taken_so flags p now q n line old new (Good k) (taken.Good m) (Some status) read d is = absurd d
-taken_so flags p now q n line old new (Good k) (taken.Bad l f) r read d is = absurd read
-taken_so flags p now q n line old new (Bad k f) taken.Here r read d is = absurd read
-taken_so flags p now q n line old new (Bad k f) (taken.Good m) r read d is = absurd read
-taken_so flags p now q n line old new (Bad k f) (taken.Bad l e) None read d is = absurd d
-taken_so flags p now q n line old new (Bad k f) (taken.Bad l e) (Some status) read d is =
+taken_so : (flags : Flags) (p q : Phase) (n : ℕ) (line : Text) (old new : Option Text) (rd : Read) (t : Taken) (r : Option Status) → DidRead rd t → DidTake t old new q r → IsStep flags true p n line [] (after_read rd) → DidStep flags p n line old new q r
+taken_so flags p q n line old new (Good k) (taken.Good m) None read d is = ([], (subst (λ x. IsStep flags true p n line [] (On x)) (sym read ∙ sym d.0) is, d.1))
+taken_so flags p q n line old new (Good k) (taken.Good m) (Some status) read d is = absurd d
+taken_so flags p q n line old new (Good k) (taken.Bad l f) r read d is = absurd read
+taken_so flags p q n line old new (Bad k f) (taken.Good m) r read d is = absurd read
+taken_so flags p q n line old new (Bad k f) (taken.Bad l e) None read d is = absurd d
+taken_so flags p q n line old new (Bad k f) (taken.Bad l e) (Some status) read d is =
     ([], (bad_line k f, (subst (λ x. IsStep flags true p n line [] (Over (bad_line k f) x)) (sym d.0) is, subst (λ (x : Text). Appends old new x) (ap (λ (x : ℕ). bad_line x e) read.0 ∙ ap (bad_line k) read.1) d.1)))
 
 -- it was taken, or its refusal written
-pub did_read : (flags : Flags) (p now q : Phase) (n : ℕ) (line : Text) (old new : Option Text) (t : Taken) (r : Result (Option Status) RunFault) → IsReading p → DidRead (read_line p n line) now t → IfOk r (DidTake t now old new q) → IfOk r (DidStep flags p n line old new q)
-did_read flags p now q n line old new t (Err e) h read d = tt
-did_read flags p now q n line old new t (Ok r) h read d = taken_so flags p now q n line old new (read_line p n line) t r read d (read_step flags p n line h)
+pub did_read : (flags : Flags) (p q : Phase) (n : ℕ) (line : Text) (old new : Option Text) (t : Taken) (r : Result (Option Status) RunFault) → IsReading p → DidRead (read_line p n line) t → IfOk r (DidTake t old new q) → IfOk r (DidStep flags p n line old new q)
+did_read flags p q n line old new t (Err e) h read d = tt
+did_read flags p q n line old new t (Ok r) h read d = taken_so flags p q n line old new (read_line p n line) t r read d (read_step flags p n line h)
 
-taken_some : (flags : Flags) (p now : Phase) (n : ℕ) (line : Text) (old new : Option Text) (rd : Read) (t : Taken) → DidRead rd now t → DidTakeSome t old new → IsStep flags true p n line [] (after_read rd) → DidSome flags p n line old new
-taken_some flags p now n line old new rd taken.Here read d is = absurd d
-taken_some flags p now n line old new rd (taken.Good m) read d is = absurd d
-taken_some flags p now n line old new (Good q) (taken.Bad l e) read d is = absurd read
-taken_some flags p now n line old new (Bad k f) (taken.Bad l e) read d is = ([], (after_read (Bad k f), (is, subst (λ (x : Text). AppendsSome old new x) (ap (λ (x : ℕ). bad_line x e) read.0 ∙ ap (bad_line k) read.1) d)))
+taken_some : (flags : Flags) (p : Phase) (n : ℕ) (line : Text) (old new : Option Text) (rd : Read) (t : Taken) → DidRead rd t → DidTakeSome t old new → IsStep flags true p n line [] (after_read rd) → DidSome flags p n line old new
+taken_some flags p n line old new rd (taken.Good m) read d is = absurd d
+taken_some flags p n line old new (Good q) (taken.Bad l e) read d is = absurd read
+taken_some flags p n line old new (Bad k f) (taken.Bad l e) read d is = ([], (after_read (Bad k f), (is, subst (λ (x : Text). AppendsSome old new x) (ap (λ (x : ℕ). bad_line x e) read.0 ∙ ap (bad_line k) read.1) d)))
 
 -- a beginning of its refusal was written
-pub some_read : {A : Type 0} (flags : Flags) (p now : Phase) (n : ℕ) (line : Text) (old new : Option Text) (t : Taken) (r : Result A RunFault) → IsReading p → DidRead (read_line p n line) now t → OnErr r (DidTakeSome t old new) → OnErr r (DidSome flags p n line old new)
-some_read flags p now n line old new t (Ok r) h read d = tt
-some_read flags p now n line old new t (Err e) h read d = taken_some flags p now n line old new (read_line p n line) t read d (read_step flags p n line h)
+pub some_read : {A : Type 0} (flags : Flags) (p : Phase) (n : ℕ) (line : Text) (old new : Option Text) (t : Taken) (r : Result A RunFault) → IsReading p → DidRead (read_line p n line) t → OnErr r (DidTakeSome t old new) → OnErr r (DidSome flags p n line old new)
+some_read flags p n line old new t (Ok r) h read d = tt
+some_read flags p n line old new t (Err e) h read d = taken_some flags p n line old new (read_line p n line) t read d (read_step flags p n line h)
 
 -- no memory was had for it: nothing was written
 pub none_read : (flags : Flags) (p : Phase) (n : ℕ) (line : Text) (old : Option Text) → IsReading p → DidSome flags p n line old old
 none_read flags p n line old h = ([], (after_read (read_line p n line), (read_step flags p n line h, some_nothing old (last_text (after_read (read_line p n line))))))
+
+-- A line in a group.
+
+pub seen_bad : (p was after : Phase) (n k : ℕ) (line : Text) (q : Refusal) (plan : Plan) (s : Seen) → p ≡ was → DidSee n line (read_line was n line) plan after s → s ≡ seen.Bad k q → DidRead (read_line p n line) (taken.Bad k q)
+seen_bad p was after n k line q plan s e d h =
+    subst (λ r. DidRead r (taken.Bad k q)) (sym (ap (λ x. read_line x n line) e ∙ subst (DidSee n line (read_line was n line) plan after) h d)) (refl, refl)
+
+pub seen_behind : (p was after : Phase) (n : ℕ) (line : Text) (plan : Plan) (kind : PlanLine) (s : Seen) (t : Taken) → p ≡ was → DidSee n line (read_line was n line) plan after s → s ≡ seen.Behind kind → DidRead (between plan n kind line) t → DidRead (read_line p n line) t
+seen_behind p was after n line plan kind s t e d h b =
+    subst (λ r. DidRead r t) (sym (ap (λ x. read_line x n line) e ∙ subst (DidSee n line (read_line was n line) plan after) h d)) b

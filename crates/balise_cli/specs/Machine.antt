@@ -1,15 +1,18 @@
 -- A run between two lines as the definitions have it, and what one line or the end does.
 use Rattle.std.specs.Prelude.{◌≡◌, ℕ, true, [], ◌++◌, Option, Some, None}
 use Rattle.std.specs.Io.KnownBytes.{Appends}
+use Rattle.balise_rules.specs.Plan.{Plan}
 use Rattle.balise_lines.specs.Writing.{AppendsSome}
 use Rattle.balise_arguments.specs.declared.options.Flags.{Flags}
 use Rattle.balise_text.specs.Replies.{bad_line}
 use Rattle.balise_text.specs.Texts.{Text}
-use Rattle.balise_cli.specs.Output.{Phase, Header, Between, InGroup, InJournal, Commands, Read, Good, Bad, Next, On, Over, IsStep, at_end}
+use Rattle.balise_cli.specs.Output.{Phase, Header, Between, InGroup, InJournal, Commands, Read, Good, Bad, Next, On, Over, IsStep, at_end, between}
 use Rattle.balise_cli.specs.declared.machine.Machine.{Machine}
 use Rattle.balise_cli.specs.declared.machine.Machine.TheVariants as machine
 use Rattle.balise_cli.specs.declared.machine.Taken.{Taken}
 use Rattle.balise_cli.specs.declared.machine.Taken.TheVariants as taken
+use Rattle.balise_cli.specs.declared.plan_reader.Seen.{Seen}
+use Rattle.balise_cli.specs.declared.plan_reader.Seen.TheVariants as seen
 use Rattle.balise_cli.specs.declared.status.Status.{Status}
 use Rattle.balise_cli.specs.declared.status.Status.TheVariants.{BadInput}
 
@@ -20,12 +23,28 @@ phase_of (machine.InGroup plan g ys) = InGroup plan g ys
 phase_of (machine.InJournal part opening) = InJournal part opening.state
 phase_of (machine.Commands session refused) = Commands session.state refused
 
--- the line was taken, or refused, as it is defined, by a machine that stands in a phase behind it
-abbrev pub DidRead : Read → Phase → Taken → Type 0
-DidRead (Good p) now taken.Here = now ≡ p
-DidRead (Good p) now (taken.Good m) = phase_of m ≡ p
-DidRead (Bad n r) now (taken.Bad k q) = (k ≡ n) × (q ≡ r)
-DidRead _ _ _ = ⊥
+-- the line was taken, or refused, as it is defined
+abbrev pub DidRead : Read → Taken → Type 0
+DidRead (Good p) (taken.Good m) = phase_of m ≡ p
+DidRead (Bad n r) (taken.Bad k q) = (k ≡ n) × (q ≡ r)
+DidRead _ _ = ⊥
+
+-- The run isn't at the commands.
+abbrev pub IsReading : Phase → Type 0
+IsReading (Commands s refused) = ⊥
+IsReading _ = Unit {0}
+
+-- Nor is it in a group.
+abbrev pub IsBeside : Phase → Type 0
+IsBeside (InGroup plan g ys) = ⊥
+IsBeside (Commands s refused) = ⊥
+IsBeside _ = Unit {0}
+
+-- a line in a group was taken or refused, as it is defined, in a phase behind it; or it stands between groups, behind a plan
+abbrev pub DidSee : ℕ → Text → Read → Plan → Phase → Seen → Type 0
+DidSee n line read plan now seen.Here = read ≡ Good now
+DidSee n line read plan now (seen.Bad k q) = read ≡ Bad k q
+DidSee n line read plan now (seen.Behind kind) = read ≡ between plan n kind line
 
 abbrev pub last_text : Next → Text
 last_text (On p) = []
@@ -41,14 +60,12 @@ abbrev pub DidSome : Flags → Phase → ℕ → Text → Option Text → Option
 DidSome flags p n line old new = (out : Text) × ((next : Next) × (IsStep flags true p n line out next × AppendsSome old new (out ++ last_text next)))
 
 -- a line of the plan or the journal was taken, or its refusal written
-abbrev pub DidTake : Taken → Phase → Option Text → Option Text → Phase → Option Status → Type 0
-DidTake taken.Here now old new q None = (q ≡ now) × Appends old new []
-DidTake (taken.Good m) now old new q None = (q ≡ phase_of m) × Appends old new []
-DidTake (taken.Bad n r) now old new q (Some status) = (status ≡ BadInput) × Appends old new (bad_line n r)
-DidTake _ _ old new q status = ⊥
+abbrev pub DidTake : Taken → Option Text → Option Text → Phase → Option Status → Type 0
+DidTake (taken.Good m) old new q None = (q ≡ phase_of m) × Appends old new []
+DidTake (taken.Bad n r) old new q (Some status) = (status ≡ BadInput) × Appends old new (bad_line n r)
+DidTake _ old new q status = ⊥
 
 abbrev pub DidTakeSome : Taken → Option Text → Option Text → Type 0
-DidTakeSome taken.Here old new = ⊥
 DidTakeSome (taken.Good m) old new = ⊥
 DidTakeSome (taken.Bad n r) old new = AppendsSome old new (bad_line n r)
 

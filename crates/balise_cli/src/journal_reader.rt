@@ -15,7 +15,7 @@ use std::alloc::Global;
 
 /// The journal's first line.
 pub(crate) fn begin_journal(alloc: Global, plan: BasePlan, number: u64, line: &[u8]) -> Taken
-    ensures { (q : Phase) → DidRead (journal_begun plan number (heads.read_head line.now)) q result }
+    ensures { DidRead (journal_begun plan number (heads.read_head line.now)) result }
 {
     let head = match read_head(line) {
         Ok(head) => head,
@@ -35,7 +35,7 @@ pub(crate) fn read_in_journal(
     number: u64,
     line: &[u8],
 ) -> Result<Taken, RunFault>
-    ensures ok { IfOk result (λ taken. (q : Phase) → DidRead (in_journal part opening.state number (journal_line_of part line.now)) q taken) }
+    ensures ok { IfOk result (λ taken. DidRead (in_journal part opening.state number (journal_line_of part line.now)) taken) }
     ensures fault { IfErr result (λ e. e ≡ RunFault.OutOfMemory) }
 {
     match read_journal_line(alloc, part, line) {

@@ -3,7 +3,7 @@
 ghost use Rattle.std.specs.Prelude.{◌≡◌, IfErr, IfOk, OnErr, OnOk};
 ghost use Rattle.std.specs.Io.KnownBytes.{Appends};
 ghost use Rattle.balise_cli.specs.Faults.{IsCause, Prints};
-ghost use Rattle.balise_cli.specs.Machine.{DidEnd, DidRead, DidSome, DidStep, DidTake, DidTakeSome, last_text, phase_of};
+ghost use Rattle.balise_cli.specs.Machine.{DidEnd, DidRead, DidSome, DidStep, DidTake, DidTakeSome, IsBeside, IsReading, last_text, phase_of};
 ghost use Rattle.balise_cli.specs.Output.{Commands, Header, at_end, read_line};
 ghost use Rattle.balise_lines.specs.Writing.{AppendsSome};
 ghost use Rattle.balise_text.specs.Replies.{bad_line};
@@ -12,7 +12,7 @@ use crate::base_plan::BasePlan;
 use crate::commands::{answer_line, put_answer};
 use crate::fault::RunFault;
 use crate::journal_reader::read_in_journal;
-use crate::plan_reader::{read_between, read_first_line, read_in_group};
+use crate::plan_reader::{Seen, read_between, read_first_line, read_in_group};
 use crate::printing::put_end;
 use crate::status::Status;
 use balise_arguments::Flags;
@@ -35,11 +35,10 @@ pub(crate) enum Machine {
     Commands(Session, bool),
 }
 
-/// A line of the plan or the journal was taken, and the run goes on where it stands or elsewhere; or it is refused, with
-/// the number of the line that it is said of.
+/// A line of the plan or the journal was taken, and how the run goes on; or it is refused, with the number of the line
+/// that it is said of.
 #[derive(Drop)]
 pub(crate) enum Taken {
-    Here,
     Good(Machine),
     Bad(u64, Refusal),
 }
@@ -96,9 +95,10 @@ impl Machine {
         Machine::Header
     }
 
-    // Reads a line of the plan or the journal.
+    // Reads a line of the plan, but for one in a group, or of the journal.
     fn read_line(&mut self, alloc: Global, number: u64, line: &[u8]) -> Result<Taken, RunFault>
-        ensures ok { IfOk result (DidRead (read_line (phase_of self.old) number line.now) (phase_of self.new)) }
+        requires { IsBeside (phase_of self.old) }
+        ensures ok { IfOk result (DidRead (read_line (phase_of self.old) number line.now)) }
         ensures fault { IfErr result (λ e. e ≡ RunFault.OutOfMemory) }
     {
         match self {
@@ -106,16 +106,14 @@ impl Machine {
             Machine::Between(plan) => {
                 Ok(read_between(alloc, plan, number, read_plan_line(line), line))
             }
-            Machine::InGroup(plan, group_number, group) => {
-                read_in_group(alloc, plan, group_number, group, number, line)
-            }
+            Machine::InGroup(_, _, _) => unreachable!(),
             Machine::InJournal(_, _) => match mem::replace(self, Machine::Header) {
                 Machine::InJournal(part, opening) => {
                     read_in_journal(alloc, part, opening, number, line)
                 }
                 _ => unreachable!(),
             },
-            Machine::Commands(_, _) => Ok(Taken::Here),
+            Machine::Commands(_, _) => unreachable!(),
         }
     }
 
@@ -125,13 +123,12 @@ impl Machine {
         taken: Taken,
         writer: &mut Counted<W>,
     ) -> Result<Option<Status>, RunFault>
-        ensures ok { IfOk result (DidTake taken (phase_of self.old) (W.contents writer.old.inner) (W.contents writer.new.inner) (phase_of self.new)) }
+        ensures ok { IfOk result (DidTake taken (W.contents writer.old.inner) (W.contents writer.new.inner) (phase_of self.new)) }
         ensures unfailed { OnOk result (writer.new.failed ≡ writer.old.failed) }
         ensures cause { IfErr result (IsCause writer.old.failed writer.new.failed) }
         ensures written { OnErr result (DidTakeSome taken (W.contents writer.old.inner) (W.contents writer.new.inner)) }
     {
         match taken {
-            Taken::Here => Ok(None),
             Taken::Good(next) => {
                 *self = next;
                 Ok(None)
@@ -140,6 +137,39 @@ impl Machine {
                 Ok(status) => Ok(Some(status)),
                 Err(fault) => Err(fault),
             },
+        }
+    }
+
+    // Does one line of the plan or the journal. It stands by itself, so that a command doesn't clear the room that it takes.
+    #[inline(never)]
+    fn read<W: Write>(
+        &mut self,
+        alloc: Global,
+        flags: Flags,
+        number: u64,
+        line: &[u8],
+        writer: &mut Counted<W>,
+    ) -> Result<Option<Status>, RunFault>
+        requires { IsReading (phase_of self.old) }
+        ensures ok { IfOk result (DidStep flags (phase_of self.old) number line.now (W.contents writer.old.inner) (W.contents writer.new.inner) (phase_of self.new)) }
+        ensures unfailed { OnOk result (writer.new.failed ≡ writer.old.failed) }
+        ensures cause { IfErr result (IsCause writer.old.failed writer.new.failed) }
+        ensures written { OnErr result (DidSome flags (phase_of self.old) number line.now (W.contents writer.old.inner) (W.contents writer.new.inner)) }
+    {
+        if let Machine::InGroup(plan, group_number, group) = self {
+            return match read_in_group(alloc, plan, group_number, group, number, line) {
+                Err(fault) => Err(fault),
+                Ok(Seen::Here) => Ok(None),
+                Ok(Seen::Bad(at, refusal)) => self.go_on(Taken::Bad(at, refusal), writer),
+                Ok(Seen::Behind(kind)) => {
+                    let taken = read_between(alloc, plan, number, kind, line);
+                    self.go_on(taken, writer)
+                }
+            };
+        }
+        match self.read_line(alloc, number, line) {
+            Err(fault) => Err(fault),
+            Ok(taken) => self.go_on(taken, writer),
         }
     }
 
@@ -160,10 +190,7 @@ impl Machine {
         if let Machine::Commands(session, refused) = self {
             return command(alloc, flags, session, refused, line, writer);
         }
-        match self.read_line(alloc, number, line) {
-            Err(fault) => Err(fault),
-            Ok(taken) => self.go_on(taken, writer),
-        }
+        self.read(alloc, flags, number, line, writer)
     }
 
     /// Writes what the input's end gives.

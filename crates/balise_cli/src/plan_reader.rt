@@ -1,8 +1,8 @@
 //! The lines of the plan.
 
 ghost use Rattle.std.specs.Prelude.{ℕ, ◌≡◌, ◌≢◌, IfErr, IfOk, Ok, Err, OnErr, OnOk};
-ghost use Rattle.balise_cli.specs.Machine.{DidRead};
-ghost use Rattle.balise_cli.specs.Output.{between, closed, first_line, in_group, telegram, InGroup, Phase};
+ghost use Rattle.balise_cli.specs.Machine.{DidRead, DidSee};
+ghost use Rattle.balise_cli.specs.Output.{between, closed, first_line, in_group, telegram, InGroup};
 ghost use Rattle.balise_cli.specs.PlanRead.{with_line};
 ghost use Rattle.balise_rules.specs.Plan.{Plan};
 ghost use Rattle.balise_text.specs.PlanLines.{plan_line_of};
@@ -19,12 +19,20 @@ use std::mem;
 
 /// The plan's first line.
 pub(crate) fn read_first_line(alloc: Global, number: u64, line: &[u8]) -> Taken
-    ensures { (q : Phase) → DidRead (first_line number (plan_line_of line.now)) q result }
+    ensures { DidRead (first_line number (plan_line_of line.now)) result }
 {
     match read_plan_line(line) {
         PlanLine::FirstLine => Taken::Good(Machine::Between(BasePlan::new(alloc))),
         _ => Taken::Bad(number, Refusal::BadLine),
     }
+}
+
+/// What a line in a group is: it was taken, and the run goes on in a group; it is refused, with the number of the line
+/// that it is said of; or the group ended, and it stands between groups.
+pub(crate) enum Seen {
+    Here,
+    Bad(u64, Refusal),
+    Behind(PlanLine),
 }
 
 /// A line between groups. Takes the plan out where the run goes on elsewhere.
@@ -35,7 +43,7 @@ pub(crate) fn read_between(
     kind: PlanLine,
     line: &[u8],
 ) -> Taken
-    ensures { (q : Phase) → DidRead (between plan.old number kind line.now) q result }
+    ensures { DidRead (between plan.old number kind line.now) result }
 {
     match kind {
         PlanLine::GroupLine => Taken::Good(Machine::InGroup(
@@ -60,20 +68,20 @@ fn close(
     number: u64,
     kind: PlanLine,
     line: &[u8],
-) -> Result<Taken, RunFault>
-    ensures ok { IfOk result (DidRead (closed plan.old group_number.old group.old (λ p. between p number kind line.now)) (InGroup plan.new group_number.new group.new)) }
+) -> Result<Seen, RunFault>
+    ensures ok { IfOk result (DidSee number line.now (closed plan.old group_number.old group.old (λ p. between p number kind line.now)) plan.new (InGroup plan.new group_number.new group.new)) }
     ensures fault { IfErr result (λ e. e ≡ RunFault.OutOfMemory) }
 {
     match plan.push(mem::replace(group, GroupReader::new(alloc))) {
         Ok(()) => Ok(match kind {
             PlanLine::GroupLine => {
                 *group_number = number;
-                Taken::Here
+                Seen::Here
             }
-            _ => read_between(alloc, plan, number, kind, line),
+            _ => Seen::Behind(kind),
         }),
         Err(Refusal::OutOfMemory) => Err(RunFault::OutOfMemory),
-        Err(refusal) => Ok(Taken::Bad(*group_number, refusal)),
+        Err(refusal) => Ok(Seen::Bad(*group_number, refusal)),
     }
 }
 
@@ -99,14 +107,14 @@ fn read_telegram(
     group: &mut GroupReader,
     number: u64,
     line: &[u8],
-) -> Result<Taken, RunFault>
-    ensures ok { IfOk result (λ taken. (plan : Plan) (g : ℕ) → DidRead (telegram plan g group.old number line.now) (InGroup plan g group.new) taken) }
+) -> Result<Seen, RunFault>
+    ensures ok { IfOk result (λ seen. (plan : Plan) (g : ℕ) → DidSee number line.now (telegram plan g group.old number line.now) plan (InGroup plan g group.new) seen) }
     ensures fault { IfErr result (λ e. e ≡ RunFault.OutOfMemory) }
 {
     match add_telegram(alloc, group, line) {
-        Ok(()) => Ok(Taken::Here),
+        Ok(()) => Ok(Seen::Here),
         Err(Refusal::OutOfMemory) => Err(RunFault::OutOfMemory),
-        Err(refusal) => Ok(Taken::Bad(number, refusal)),
+        Err(refusal) => Ok(Seen::Bad(number, refusal)),
     }
 }
 
@@ -118,8 +126,8 @@ pub(crate) fn read_in_group(
     group: &mut GroupReader,
     number: u64,
     line: &[u8],
-) -> Result<Taken, RunFault>
-    ensures ok { IfOk result (DidRead (in_group plan.old group_number.old group.old number (plan_line_of line.now) line.now) (InGroup plan.new group_number.new group.new)) }
+) -> Result<Seen, RunFault>
+    ensures ok { IfOk result (DidSee number line.now (in_group plan.old group_number.old group.old number (plan_line_of line.now) line.now) plan.new (InGroup plan.new group_number.new group.new)) }
     ensures fault { IfErr result (λ e. e ≡ RunFault.OutOfMemory) }
 {
     let kind = read_plan_line(line);

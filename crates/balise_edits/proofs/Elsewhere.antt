@@ -1,18 +1,40 @@
 -- Edits of different telegrams are apart, and those of a telegram and of another group where no identity is named.
-use Rattle.std.proofs.Common.{◌≡◌, ◌∙◌, ℕ, refl, ap, Bool, true, false, cond, ◌&&◌, ◌||◌, not, List, [], ◌∷◌, ◌++◌, eqb, length, Option, Some, None, arith}
-use Rattle.std.proofs.lemmas.Bool.{eqb-true}
+use Rattle.std.proofs.Common.{◌≡◌, ◌∙◌, ◌%◌, ℕ, refl, sym, ap, Bool, true, false, cond, ◌&&◌, ◌||◌, not, List, [], ◌∷◌, ◌++◌, eqb, length, Option, Some, None, arith}
+use Rattle.std.proofs.lemmas.Bool.{eqb-true, true≢false}
 use Rattle.balise_rules.specs.declared.variable.Var.TheVariants.{NidBg, QLinkorientation, QDir, MDup}
 use Rattle.balise_rules.specs.declared.identity.Id.{Id}
 use Rattle.balise_rules.specs.declared.tag.Tag.{Tag}
+use Rattle.balise_rules.specs.declared.tag.Tag.TheVariants.{Fresh}
 use Rattle.balise_rules.specs.Tags.{same_tag, same_var}
 use Rattle.balise_rules.specs.Edits.{Edit, SetVar, SetHead, InsertPacket, DeletePacket, MovePacket, AddGroup, DropGroup, Renumber, TurnGroup}
 use Rattle.balise_rules.specs.Paths.{Path, Entry, At, Nth, Of, Turn, After, Front, Whose, anchor, neighbour, changes, needs, ids, meet, meets_any, any_meets, room_apart, apart}
 use Rattle.balise_rules.specs.Behind.{anchored}
-use Rattle.balise_rules.proofs.Tests.{test-sym, tag_test, nat_test}
+use Rattle.balise_rules.proofs.Tests.{equal_yes, flip_no, split_keys, test-sym, tag_test, nat_test}
 use Rattle.balise_strike_laws.proofs.Symmetry.{symmetric}
 use Rattle.balise_edits.specs.declared.home.Home.{Home}
-use Rattle.balise_edits.specs.declared.home.Home.TheVariants.{Telegram, Group}
-use Rattle.balise_edits.specs.Homes.{home_of, elsewhere, are_named}
+use Rattle.balise_edits.specs.Homes.{are_named, at_group, home_of, elsewhere, in_telegram, low}
+
+-- where an edit lies, by whole tags
+data Lying : Type 0 where
+  Telegram : Tag → ℕ → Bool → Lying
+  Group : Tag → Lying
+
+abbrev lying : ℕ → Edit → List Id → Lying
+lying s (SetVar g t p v k n) is = Telegram g t (are_named is)
+lying s (SetHead g t v n) is = Telegram g t (are_named is)
+lying s (InsertPacket g t a x) is = Telegram g t (are_named is)
+lying s (DeletePacket g t p) is = Telegram g t (are_named is)
+lying s (MovePacket g t p a) is = Telegram g t (are_named is)
+lying s (AddGroup a bs) is = Group (Fresh s)
+lying s (DropGroup g) is = Group g
+lying s (Renumber g n) is = Group g
+lying s (TurnGroup g) is = Group g
+
+abbrev far : Lying → Lying → Bool
+far (Telegram g t m) (Telegram h u n) = not (same_tag g h && eqb t u)
+far (Telegram g t m) (Group h) = not m && not (same_tag g h)
+far (Group h) (Telegram g t m) = not m && not (same_tag g h)
+far (Group g) (Group h) = false
 
 abbrev Each : (Path → Type 0) → List Path → Type 0
 Each P [] = Unit {0}
@@ -139,12 +161,12 @@ alone-head g t true = (turn, tt)
 alone-head g t false = tt
 
 -- where the places of an entry lie
-abbrev Lies : Home → Entry → Type 0
+abbrev Lies : Lying → Entry → Type 0
 Lies (Telegram g t n) e = Each (Inside g t) (changes e) × Each (Beside g t) (needs e) × (n ≡ false → Each (Alone g t) (needs e))
 Lies (Group h) e = Each (Round h) (changes e) × Each (Round h) (needs e)
 
-abbrev pub lies_at : Entry → Home
-lies_at e = home_of e.0.0 e.0.1 e.1.names
+abbrev lies_at : Entry → Lying
+lies_at e = lying e.0.0 e.0.1 e.1.names
 
 lies : (e : Entry) → Lies (lies_at e) e
 lies ((s, SetVar g t p v k n), m) = ((inside _, tt), needs-var g t (same_var QDir v) (same_var QLinkorientation v) (same_var NidBg v) (At p ∷ Of NidBg ∷ Nth k ∷ []) m.names, alone-var g t (same_var QDir v) (same_var QLinkorientation v) (same_var NidBg v) (At p ∷ Of NidBg ∷ Nth k ∷ []) m.names)
@@ -169,7 +191,7 @@ neither true b h = absurd (cc)
 neither false true h = absurd (cc)
 neither false false h = (refl, refl)
 
-room-elsewhere : (s r : ℕ) → (e f : Edit) → (is js : List Id) → elsewhere (home_of s e is) (home_of r f js) ≡ true → room_apart e f ≡ true
+room-elsewhere : (s r : ℕ) → (e f : Edit) → (is js : List Id) → far (lying s e is) (lying r f js) ≡ true → room_apart e f ≡ true
 room-elsewhere s r (InsertPacket g t a x) (DeletePacket g1 t1 p) is js h = h
 room-elsewhere s r (DeletePacket g1 t1 p) (InsertPacket g t a x) is js h = ap not (other-way g1 g t1 t) ∙ h
 room-elsewhere s r e f is js h = refl
@@ -185,7 +207,7 @@ beside-group g h t n e f a b none other r = clears e f
     (none-meet (far-alone other) (changes e) (changes f ++ needs f) (each-alone g t (changes e) a.0) (each-both (Round h) (changes f) (needs f) b.0 b.1))
     (none-meet (far-alone other) (needs e) (changes f) (a.2 none) b.0) r
 
-from-lies : (h k : Home) → (e f : Entry) → Lies h e → Lies k f → elsewhere h k ≡ true → room_apart e.0.1 f.0.1 ≡ true → room_apart f.0.1 e.0.1 ≡ true → apart e f ≡ true
+from-lies : (h k : Lying) → (e f : Entry) → Lies h e → Lies k f → far h k ≡ true → room_apart e.0.1 f.0.1 ≡ true → room_apart f.0.1 e.0.1 ≡ true → apart e f ≡ true
 from-lies (Telegram g t m) (Telegram g1 t1 n) e f a b d r q =
     let no : (same_tag g g1 && eqb t t1) ≡ false = not-true _ d in
     clears e f
@@ -195,16 +217,68 @@ from-lies (Telegram g t m) (Group h) e f a b d r q = let w = neither m (same_tag
 from-lies (Group h) (Telegram g t m) e f a b d r q = let w = neither m (same_tag g h) d in symmetric e f ∙ beside-group g h t m f e b a w.0 w.1 q
 from-lies (Group g) (Group h) e f a b d r q = absurd (cc)
 
-turned-round : (h k : Home) → elsewhere h k ≡ true → elsewhere k h ≡ true
+turned-round : (h k : Lying) → far h k ≡ true → far k h ≡ true
 turned-round (Telegram g t m) (Telegram g1 t1 n) d = ap not (other-way g g1 t t1) ∙ d
 turned-round (Telegram g t m) (Group h) d = d
 turned-round (Group h) (Telegram g t m) d = d
 turned-round (Group g) (Group h) d = d
 
-pub apart_elsewhere : (e f : Entry) → elsewhere (lies_at e) (lies_at f) ≡ true → apart e f ≡ true
-apart_elsewhere e f d = from-lies (lies_at e) (lies_at f) e f (lies e) (lies f) d
+apart-far : (e f : Entry) → far (lies_at e) (lies_at f) ≡ true → apart e f ≡ true
+apart-far e f d = from-lies (lies_at e) (lies_at f) e f (lies e) (lies f) d
     (room-elsewhere e.0.0 f.0.0 e.0.1 f.0.1 e.1.names f.1.names d)
     (room-elsewhere f.0.0 e.0.0 f.0.1 e.0.1 f.1.names e.1.names (turned-round (lies_at e) (lies_at f) d))
+
+-- ---- the same by homes, which have less of the tags
+
+abbrev home_lying : Lying → Home
+home_lying (Telegram g t n) = in_telegram g t n
+home_lying (Group g) = at_group g
+
+homes : (s : ℕ) → (e : Edit) → (is : List Id) → home_of s e is ≡ home_lying (lying s e is)
+homes s (SetVar g t p v k n) is = refl
+homes s (SetHead g t v n) is = refl
+homes s (InsertPacket g t a x) is = refl
+homes s (DeletePacket g t p) is = refl
+homes s (MovePacket g t p a) is = refl
+homes s (AddGroup a bs) is = refl
+homes s (DropGroup g) is = refl
+homes s (Renumber g n) is = refl
+homes s (TurnGroup g) is = refl
+
+-- two tags that are one have one number
+low-same : (g h : Tag) → eqb (low g) (low h) ≡ false → same_tag g h ≡ false
+low-same g h n = split_keys tag_test g h (λ _ q. absurd (true≢false (sym (equal_yes nat_test (low g) (low h) (ap low q)) ∙ n))) (λ e. e)
+
+last-same : (t u : ℕ) → eqb (t % 256) (u % 256) ≡ false → eqb t u ≡ false
+last-same t u n = split_keys nat_test t u (λ _ q. absurd (true≢false (sym (equal_yes nat_test (t % 256) (u % 256) (ap (λ (k : ℕ). k % 256) q)) ∙ n))) (λ e. e)
+
+both-same : (a b c d : Bool) → (a ≡ false → c ≡ false) → (b ≡ false → d ≡ false) → not (a && b) ≡ true → not (c && d) ≡ true
+both-same true true c d f g h = absurd (cc)
+both-same true false c d f g h = ap (λ x. not (c && x)) (g refl) ∙ ap not (and-no c)
+both-same false b c d f g h = ap (λ x. not (x && d)) (f refl)
+
+one-same : (a c : Bool) → (a ≡ false → c ≡ false) → not a ≡ true → not c ≡ true
+one-same true c f h = absurd (cc)
+one-same false c f h = ap not (f refl)
+
+far-lying : (h k : Lying) → elsewhere (home_lying h) (home_lying k) ≡ true → far h k ≡ true
+far-lying (Telegram g t true) (Telegram g1 t1 true) d = both-same (eqb (low g) (low g1)) (eqb (t % 256) (t1 % 256)) (same_tag g g1) (eqb t t1) (low-same g g1) (last-same t t1) d
+far-lying (Telegram g t true) (Telegram g1 t1 false) d = both-same (eqb (low g) (low g1)) (eqb (t % 256) (t1 % 256)) (same_tag g g1) (eqb t t1) (low-same g g1) (last-same t t1) d
+far-lying (Telegram g t false) (Telegram g1 t1 true) d = both-same (eqb (low g) (low g1)) (eqb (t % 256) (t1 % 256)) (same_tag g g1) (eqb t t1) (low-same g g1) (last-same t t1) d
+far-lying (Telegram g t false) (Telegram g1 t1 false) d = both-same (eqb (low g) (low g1)) (eqb (t % 256) (t1 % 256)) (same_tag g g1) (eqb t t1) (low-same g g1) (last-same t t1) d
+far-lying (Telegram g t true) (Group h) d = absurd (cc)
+far-lying (Telegram g t false) (Group h) d = one-same (eqb (low g) (low h)) (same_tag g h) (low-same g h) d
+far-lying (Group h) (Telegram g t true) d = absurd (cc)
+far-lying (Group h) (Telegram g t false) d = one-same (eqb (low h) (low g)) (same_tag g h) (λ n. low-same g h (flip_no nat_test (low h) (low g) n)) d
+far-lying (Group g) (Group h) d = absurd (cc)
+
+abbrev pub home_at : Entry → Home
+home_at e = home_of e.0.0 e.0.1 e.1.names
+
+pub apart_elsewhere : (e f : Entry) → elsewhere (home_at e) (home_at f) ≡ true → apart e f ≡ true
+apart_elsewhere e f d = apart-far e f (far-lying (lies_at e) (lies_at f)
+    (sym (ap (λ h. elsewhere h (home_lying (lies_at f))) (homes e.0.0 e.0.1 e.1.names)
+    ) ∙ (sym (ap (elsewhere (home_at e)) (homes f.0.0 f.0.1 f.1.names)) ∙ d)))
 
 -- another anchor leaves an edit where it lies
 pub home_anchored : (s : ℕ) → (a : Option Tag) → (e : Edit) → (is : List Id) → home_of s (anchored a e) is ≡ home_of s e is

@@ -1,32 +1,54 @@
 -- Where an edit lies.
-use Rattle.std.specs.Prelude.{ℕ, Bool, false, ◌&&◌, not, eqb, length, List}
+use Rattle.std.specs.Prelude.{ℕ, Bool, true, false, ◌&&◌, ◌%◌, not, cond, eqb, length, List}
 use Rattle.balise_rules.specs.declared.tag.Tag.{Tag}
-use Rattle.balise_rules.specs.declared.tag.Tag.TheVariants.{Fresh}
+use Rattle.balise_rules.specs.declared.tag.Tag.TheVariants.{Base, Fresh}
 use Rattle.balise_rules.specs.declared.identity.Id.{Id}
-use Rattle.balise_rules.specs.Tags.{same_tag}
 use Rattle.balise_rules.specs.Edits.{Edit, SetVar, SetHead, InsertPacket, DeletePacket, MovePacket, AddGroup, DropGroup, Renumber, TurnGroup}
 use Rattle.balise_edits.specs.declared.home.Home.{Home}
-use Rattle.balise_edits.specs.declared.home.Home.TheVariants.{Telegram, Group}
+use Rattle.balise_edits.specs.declared.home.Extent.{Extent}
+use Rattle.balise_edits.specs.declared.home.Extent.TheVariants.{Unnamed, Named, Group}
 
 -- whether there are identities
 abbrev pub are_named : List Id → Bool
 are_named is = not (eqb (length is) 0)
 
+-- the last 16 bits of the number in a tag
+abbrev pub low : Tag → ℕ
+low (Base n) = n % 65536
+low (Fresh n) = n % 65536
+
+-- in a telegram, with identities or without
+abbrev pub in_telegram : Tag → ℕ → Bool → Home
+in_telegram g t named = record { group = low g; telegram = t % 256; extent = cond named Named Unnamed }
+
+-- at a group
+abbrev pub at_group : Tag → Home
+at_group g = record { group = low g; telegram = 0; extent = Group }
+
 -- where an edit under a serial lies, which noted that these identities are named
 abbrev pub home_of : ℕ → Edit → List Id → Home
-home_of s (SetVar g t p v k n) is = Telegram g t (are_named is)
-home_of s (SetHead g t v n) is = Telegram g t (are_named is)
-home_of s (InsertPacket g t a x) is = Telegram g t (are_named is)
-home_of s (DeletePacket g t p) is = Telegram g t (are_named is)
-home_of s (MovePacket g t p a) is = Telegram g t (are_named is)
-home_of s (AddGroup a bs) is = Group (Fresh s)
-home_of s (DropGroup g) is = Group g
-home_of s (Renumber g n) is = Group g
-home_of s (TurnGroup g) is = Group g
+home_of s (SetVar g t p v k n) is = in_telegram g t (are_named is)
+home_of s (SetHead g t v n) is = in_telegram g t (are_named is)
+home_of s (InsertPacket g t a x) is = in_telegram g t (are_named is)
+home_of s (DeletePacket g t p) is = in_telegram g t (are_named is)
+home_of s (MovePacket g t p a) is = in_telegram g t (are_named is)
+home_of s (AddGroup a bs) is = at_group (Fresh s)
+home_of s (DropGroup g) is = at_group g
+home_of s (Renumber g n) is = at_group g
+home_of s (TurnGroup g) is = at_group g
 
--- whether edits are in two telegrams, or one in a telegram of a group and without identities and the other at another group
+-- the same by what they are of, whether the group may be one, and whether the telegram may be one
+abbrev pub apart_by : Extent → Extent → Bool → Bool → Bool
+apart_by Group Group group telegram = false
+apart_by Group Unnamed group telegram = not group
+apart_by Unnamed Group group telegram = not group
+apart_by Group Named group telegram = false
+apart_by Named Group group telegram = false
+apart_by Unnamed Unnamed group telegram = not (group && telegram)
+apart_by Unnamed Named group telegram = not (group && telegram)
+apart_by Named Unnamed group telegram = not (group && telegram)
+apart_by Named Named group telegram = not (group && telegram)
+
+-- whether edits are seen to be in two telegrams, or one in a telegram of a group and without identities and the other at another group
 abbrev pub elsewhere : Home → Home → Bool
-elsewhere (Telegram g t m) (Telegram h u n) = not (same_tag g h && eqb t u)
-elsewhere (Telegram g t m) (Group h) = not m && not (same_tag g h)
-elsewhere (Group h) (Telegram g t m) = not m && not (same_tag g h)
-elsewhere (Group g) (Group h) = false
+elsewhere h k = apart_by h.extent k.extent (eqb h.group k.group) (eqb h.telegram k.telegram)

@@ -1,20 +1,29 @@
 //! Where an edit lies: what is looked at first to tell that two edits are apart.
 
-ghost use Rattle.std.specs.Prelude.{◌≡◌};
+ghost use Rattle.std.specs.Prelude.{◌≡◌, cond};
 ghost use Rattle.balise_edits.specs.Edits.{edit_of};
-ghost use Rattle.balise_edits.specs.Homes.{elsewhere, home_of};
+ghost use Rattle.balise_edits.specs.Homes.{at_group, elsewhere, home_of, in_telegram, low};
 ghost use Rattle.balise_edits.specs.Notes.{note_of};
 
 use crate::edit::Edit;
 use crate::note::Note;
 use balise_rules::Tag;
 
-/// Where an edit lies: in a telegram, by the tags of group and telegram, and whether it noted identities that are
-/// named; or else at a group.
+/// What an edit is of: a telegram, where it noted no identity or some, or a group.
 #[derive(Clone, Copy, Debug)]
-pub(crate) enum Home {
-    Telegram { g: Tag, t: u32, named: bool },
-    Group { g: Tag },
+pub(crate) enum Extent {
+    Unnamed,
+    Named,
+    Group,
+}
+
+/// Where an edit lies: its group by the last 16 bits of the number in its tag, and its telegram by the last 8 bits of
+/// its own. It takes four bytes; two groups may share one.
+#[derive(Clone, Copy, Debug)]
+pub(crate) struct Home {
+    group: u16,
+    telegram: u8,
+    extent: Extent,
 }
 
 impl Home {
@@ -24,17 +33,41 @@ impl Home {
     {
         let named = note.names().len() != 0;
         match *edit {
-            Edit::SetVar { g, t, .. } => Home::Telegram { g, t, named },
-            Edit::SetHead { g, t, .. } => Home::Telegram { g, t, named },
-            Edit::InsertPacket { g, t, .. } => Home::Telegram { g, t, named },
-            Edit::DeletePacket { g, t, .. } => Home::Telegram { g, t, named },
-            Edit::MovePacket { g, t, .. } => Home::Telegram { g, t, named },
-            Edit::AddGroup { .. } => Home::Group {
-                g: Tag::Fresh(serial),
+            Edit::SetVar { g, t, .. } => Home::in_telegram(g, t, named),
+            Edit::SetHead { g, t, .. } => Home::in_telegram(g, t, named),
+            Edit::InsertPacket { g, t, .. } => Home::in_telegram(g, t, named),
+            Edit::DeletePacket { g, t, .. } => Home::in_telegram(g, t, named),
+            Edit::MovePacket { g, t, .. } => Home::in_telegram(g, t, named),
+            Edit::AddGroup { .. } => Home::at_group(Tag::Fresh(serial)),
+            Edit::DropGroup { g } => Home::at_group(g),
+            Edit::Renumber { g, .. } => Home::at_group(g),
+            Edit::TurnGroup { g } => Home::at_group(g),
+        }
+    }
+
+    // In a telegram, with identities or without.
+    fn in_telegram(g: Tag, t: u32, named: bool) -> Home
+        ensures { result ≡ in_telegram g t named }
+    {
+        Home {
+            group: low(g),
+            telegram: (t % 256) as u8,
+            extent: if named {
+                Extent::Named
+            } else {
+                Extent::Unnamed
             },
-            Edit::DropGroup { g } => Home::Group { g },
-            Edit::Renumber { g, .. } => Home::Group { g },
-            Edit::TurnGroup { g } => Home::Group { g },
+        }
+    }
+
+    // At a group.
+    fn at_group(g: Tag) -> Home
+        ensures { result ≡ at_group g }
+    {
+        Home {
+            group: low(g),
+            telegram: 0,
+            extent: Extent::Group,
         }
     }
 
@@ -44,11 +77,24 @@ impl Home {
     pub(crate) fn is_elsewhere(&self, other: &Home) -> bool
         ensures { result ≡ elsewhere self.now other.now }
     {
-        match (self, other) {
-            (Home::Telegram { g, t, .. }, Home::Telegram { g: h, t: u, .. }) => !(g == h && t == u),
-            (Home::Telegram { g, named, .. }, Home::Group { g: h }) => !*named && !(g == h),
-            (Home::Group { g: h }, Home::Telegram { g, named, .. }) => !*named && !(g == h),
-            (Home::Group { .. }, Home::Group { .. }) => false,
+        let same_group = self.group == other.group;
+        match (self.extent, other.extent) {
+            (Extent::Group, Extent::Group) => false,
+            (Extent::Group, Extent::Unnamed) => !same_group,
+            (Extent::Unnamed, Extent::Group) => !same_group,
+            (Extent::Group, Extent::Named) => false,
+            (Extent::Named, Extent::Group) => false,
+            _ => !(same_group && self.telegram == other.telegram),
         }
+    }
+}
+
+// The last 16 bits of the number in a tag.
+fn low(g: Tag) -> u16
+    ensures { result ≡ low g }
+{
+    match g {
+        Tag::Base(n) => (n % 65536) as u16,
+        Tag::Fresh(n) => (n % 65536) as u16,
     }
 }

@@ -4,6 +4,7 @@ use Rattle.balise_rules.specs.declared.refusal.Refusal.{Refusal}
 use Rattle.balise_rules.specs.Bits.{num}
 use Rattle.balise_rules.specs.Tags.{Key}
 use Rattle.balise_rules.specs.declared.identity.Id.{Id}
+use Rattle.balise_rules.specs.Forms.{Fields}
 use Rattle.balise_rules.specs.Names.{links_of}
 use Rattle.balise_rules.specs.Packet.{Packet, IsSpelt, length_said, read_first, width}
 use Rattle.balise_layout.specs.declared.fault.LayoutFault.{LayoutFault}
@@ -44,3 +45,8 @@ field_place at key (Ok r) = further at (before key r.0.fields)
 abbrev pub links_read : ℕ → Result (Packet × List Bool) Refusal → List Id
 links_read c (Err e) = []
 links_read c (Ok r) = links_of c r.0
+
+-- the fields of the packet that is read
+abbrev pub fields_read : Result (Packet × List Bool) Refusal → Fields
+fields_read (Err e) = []
+fields_read (Ok r) = r.0.fields

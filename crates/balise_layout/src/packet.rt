@@ -10,7 +10,7 @@ ghost use Rattle.balise_rules.specs.Names.{links_of};
 ghost use Rattle.balise_layout.specs.Walks.{kept};
 ghost use Rattle.balise_layout.specs.Reading.{Sure};
 ghost use Rattle.balise_layout.specs.Collected.{all_keyed};
-ghost use Rattle.balise_layout.specs.First.{field_place, links_read, LiesAt, ReadsFirst, StandsAt};
+ghost use Rattle.balise_layout.specs.First.{field_place, fields_read, links_read, LiesAt, ReadsFirst, StandsAt};
 ghost use Rattle.balise_layout.specs.Held.{before, with_field, Holds};
 ghost use Rattle.balise_layout.specs.Layouts.{next_of};
 ghost use Rattle.balise_layout.specs.Kinds.{number_of, Begins, Finds, GoesOver};
@@ -106,6 +106,27 @@ impl Packet {
         }
         match Packet::go_over(kind, bits, at, end, Links::new(alloc, country)) {
             Ok(links) => Ok(links.into_identities()),
+            Err(LayoutFault::OutOfMemory) => Err(LayoutFault::OutOfMemory),
+            Err(_) => Ok(Vec::new(alloc)),
+        }
+    }
+
+    /// The fields of the packet at the place `at` in bit order, as `fields` has them, in a telegram of this M_VERSION:
+    /// none where no packet is read there.
+    pub fn fields_in(
+        bits: &Bits,
+        at: usize,
+        version: u32,
+    ) -> Result<Vec<(Var, u32, u32)>, LayoutFault>
+        ensures ok { IfOk result (λ fields. all_keyed fields.items ≡ fields_read (read_first version (drop at bits.now))) }
+        ensures fault { IsOkUnless result LayoutFault.OutOfMemory }
+    {
+        let alloc = bits.allocator();
+        let Ok((kind, end)) = Packet::begin(bits, at, version) else {
+            return Ok(Vec::new(alloc));
+        };
+        match Packet::go_over(kind, bits, at, end, Collect::new(alloc)) {
+            Ok(fields) => Ok(fields.into_fields()),
             Err(LayoutFault::OutOfMemory) => Err(LayoutFault::OutOfMemory),
             Err(_) => Ok(Vec::new(alloc)),
         }

@@ -1,9 +1,8 @@
 -- The fields of a packet of a telegram that is held as its bits: where they stand, and what is read there.
-use Rattle.std.proofs.Common.{◌≡◌, ◌≢◌, ◌∙◌, ℕ, ◌+◌, ◌*◌, ◌≤◌, Bool, true, false, cond, List, [], ◌∷◌, length, drop, Some, None, Result, Ok, Err, option_and_then, refl, sym, ap, length-append, arith}
+use Rattle.std.proofs.Common.{◌≡◌, ◌∙◌, ℕ, ◌+◌, ◌*◌, ◌≤◌, Bool, true, false, cond, List, [], ◌∷◌, length, drop, Some, None, Ok, option_and_then, refl, sym, ap, length-append, arith}
 use Rattle.std.specs.Prelude.{All}
 use Rattle.std.proofs.lemmas.List.{length-drop}
 use Rattle.std.proofs.lemmas.List.Elements.{All-head, All-tail}
-use Rattle.balise_rules.specs.declared.refusal.Refusal.{Refusal}
 use Rattle.balise_rules.specs.declared.tag.Tag.{Tag}
 use Rattle.balise_rules.specs.declared.variable.Var.{Var}
 use Rattle.balise_rules.specs.declared.variable.Var.TheVariants.{NidPacket, QDir}
@@ -16,9 +15,6 @@ use Rattle.balise_rules.specs.Telegram.{Telegram, used, version_of, IsRead}
 use Rattle.balise_rules.proofs.Each.{each-absent}
 use Rattle.balise_rules.proofs.PacketAgain.{first_again, front_of}
 use Rattle.balise_rules.proofs.TaggedFrom.{tagged_distinct}
-use Rattle.balise_layout.specs.declared.fault.LayoutFault.{LayoutFault}
-use Rattle.balise_layout.specs.declared.fault.LayoutFault.TheVariants.{PacketCut, LayoutMismatch, PacketZero, NoSuchVariable, Steering, ValueTooWide, OutOfMemory}
-use Rattle.balise_layout.specs.Faults.{refusal_of}
 use Rattle.balise_layout.specs.First.{field_place}
 use Rattle.balise_layout.specs.Held.{before, further}
 use Rattle.balise_layout.proofs.First.{spells_holds}
@@ -39,16 +35,6 @@ pub read_there : (b : List Bool) (y : Telegram) (tag : Tag) (place version : ℕ
 read_there b y tag place version r e same =
     let l = there b y tag place r e in
     (l.packet, l.behind, l.is, ap (λ (v : ℕ). read_first v (drop place b)) same ∙ ap (read_first (version_of y)) l.shows ∙ first_again (version_of y) l.packet l.behind l.spelt)
-
--- reading fails there only for want of memory
-pub memory_alone : (r : Result (Packet × List Bool) Refusal) (q : Packet × List Bool) (fault : LayoutFault) → r ≡ Ok q → (fault ≢ OutOfMemory → r ≡ Err (refusal_of fault)) → fault ≡ OutOfMemory
-memory_alone r q PacketCut e f = let g = sym e ∙ f (λ h. absurd cc) in absurd cc
-memory_alone r q LayoutMismatch e f = let g = sym e ∙ f (λ h. absurd cc) in absurd cc
-memory_alone r q PacketZero e f = let g = sym e ∙ f (λ h. absurd cc) in absurd cc
-memory_alone r q NoSuchVariable e f = let g = sym e ∙ f (λ h. absurd cc) in absurd cc
-memory_alone r q Steering e f = let g = sym e ∙ f (λ h. absurd cc) in absurd cc
-memory_alone r q ValueTooWide e f = let g = sym e ∙ f (λ h. absurd cc) in absurd cc
-memory_alone r q OutOfMemory e f = refl
 
 -- what is looked for in the packet that is read there
 pub place_known : (b : List Bool) (y : Telegram) (tag : Tag) (v : Var) (k place : ℕ) → IsRead b y → packet_place 50 tag y.packets ≡ Some place → field_place place (v, k) (read_first (version_of y) (drop place b)) ≡ place_from 50 tag (v, k) y.packets

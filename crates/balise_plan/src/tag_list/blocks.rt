@@ -1,13 +1,43 @@
 //! Blocks of tags one after another.
 
-ghost use Rattle.std.specs.Prelude.{◌≡◌, ◌≤◌, ◌<◌, ◌+◌, ◌-◌, ◌^◌, length, take, drop, insert, remove, [], vec_capacity, vec_len};
+ghost use Rattle.std.specs.Prelude.{◌≡◌, ◌≤◌, ◌<◌, ◌+◌, ◌-◌, ◌^◌, IsTrue, length, take, drop, insert, remove, [], vec_capacity, vec_len};
 ghost use Rattle.balise_plan.specs.Blocks.{flat, before, Laid, IsAt, IsIn, IsCut, RoomIn};
 
-use crate::tag_list::Block;
+use crate::tag_list::{Block, MOST};
 use balise_rules::Tag;
 
-/// The last block that begins at a place or before it.
+/// The last block that begins at a place or before it. Where each block was filled before the next was begun, it is seen
+/// at once.
 pub(super) fn block_of(blocks: &Vec<Block>, i: usize) -> usize
+    requires some { 0 < length blocks.now.items }
+    requires laid { Laid 0 blocks.now.items }
+    ensures { IsAt i result blocks.now.items }
+{
+    let filled = i / MOST;
+    if is_at(blocks, filled, i) {
+        return filled;
+    }
+    halved(blocks, i)
+}
+
+// Whether a block is the last that begins at a place or before it.
+fn is_at(blocks: &Vec<Block>, b: usize, i: usize) -> bool
+    requires laid { Laid 0 blocks.now.items }
+    requires few { b < 2 ^ 63 }
+    ensures { IsTrue result → IsAt i b blocks.now.items }
+{
+    let count = blocks.len();
+    if b >= count || i < blocks[b].start {
+        return false;
+    }
+    if b + 1 >= count {
+        return true;
+    }
+    i < blocks[b + 1].start
+}
+
+// The same by halving.
+fn halved(blocks: &Vec<Block>, i: usize) -> usize
     requires some { 0 < length blocks.now.items }
     requires laid { Laid 0 blocks.now.items }
     ensures { IsAt i result blocks.now.items }

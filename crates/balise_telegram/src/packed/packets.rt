@@ -70,8 +70,7 @@ impl PackedTelegram {
         let Some(at) = self.place_of(PacketTag::Base(place)) else {
             return Ok(None);
         };
-        let (packet, _) = Packet::read(bits, at, self.version())?;
-        Ok(Some(packet.fields()?))
+        Ok(Some(Packet::fields_in(bits, at, self.version())?))
     }
 
     /// The value of occurrence `k`, from 0, of a variable of the packet with this tag, where both are there.

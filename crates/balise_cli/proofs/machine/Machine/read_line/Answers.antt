@@ -6,4 +6,4 @@ use Rattle.balise_cli.proofs.machine.Machine.read_line.Goals as goal
 
 pub returns-in-Header-clause-ok : goal.returns-in-Header-clause-ok
 returns-in-Header-clause-ok c =
-    subst (λ (m : Machine). DidRead (read_line (phase_of m) c.args.number c.args.line.now) (phase_of c.args.self.now) c.read_first_line.result) (sym c.in-Header.is) (c.read_first_line.ensures (phase_of c.args.self.now))
+    subst (λ (m : Machine). DidRead (read_line (phase_of m) c.args.number c.args.line.now) c.read_first_line.result) (sym c.in-Header.is) c.read_first_line.ensures

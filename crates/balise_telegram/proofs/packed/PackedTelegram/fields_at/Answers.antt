@@ -1,15 +1,14 @@
-use Rattle.std.proofs.Common.{◌≡◌, ◌∙◌, ◌≤◌, List, Bool, Some, length, option_map, ap, sym, subst, arith, rules}
+use Rattle.std.proofs.Common.{◌≡◌, ◌∙◌, ◌≤◌, Some, length, option_map, ap, sym, subst, arith}
 use Rattle.std.proofs.lemmas.Option.{slice_get_past}
 use Rattle.balise_rules.specs.declared.tag.Tag.{Tag}
 use Rattle.balise_rules.specs.declared.tag.Tag.TheVariants.{Base}
 use Rattle.balise_rules.specs.Forms.{Fields}
 use Rattle.balise_rules.specs.Packet.{Packet}
 use Rattle.balise_rules.specs.Telegram.{Telegram, IsRead}
-use Rattle.balise_rules.proofs.Cases.{unok}
 use Rattle.balise_rules.proofs.TaggedFrom.{tagged_at}
-use Rattle.balise_layout.specs.declared.fault.LayoutFault.TheVariants.{OutOfMemory}
+use Rattle.balise_layout.specs.First.{fields_read}
 use Rattle.balise_telegram.proofs.PackedPlaces.{held_read, not_located}
-use Rattle.balise_telegram.proofs.PackedFields.{few_packets, memory_alone, read_there}
+use Rattle.balise_telegram.proofs.PackedFields.{few_packets, read_there}
 use Rattle.balise_telegram.proofs.packed.PackedTelegram.fields_at.Goals as goal
 
 abbrev fields_of : Tag × Packet → Fields
@@ -32,15 +31,6 @@ returns-in_default-place_of-clause-ok c =
     let none = not_located tag 50 y.packets (sym c.in_default-place_of.ensures.place) in
     sym (ap (option_map fields_of) (tagged_at 0 c.args.i c.in-Ok.place y.packets (omega (arith, c.in-Ok.ensures)) r.tags ∙ ap (option_map (λ (x : Packet). (tag, x))) none))
 
-pub returns-in_err-packet-clause-fault : goal.returns-in_err-packet-clause-fault
-returns-in_err-packet-clause-fault c =
-    let b = c.self.inside.packed in
-    let y = c.args.self.now in
-    let r : IsRead b y = subst (λ (x : Telegram). IsRead b x) c.self.view_is (held_read b c.self.invariant) in
-    let l = read_there b y (Base c.in-Ok.place) c.in-Some.at c.version.result r (sym c.in-Some.ensures.place) c.version.ensures in
-    let memory : c.in_err-packet.field-0.0 ≡ OutOfMemory = memory_alone _ (l.0, l.1) c.in_err-packet.field-0.0 l.3 c.in_err-packet.ensures.first in
-    search rules
-
 pub returns-clause-ok : goal.returns-clause-ok
 returns-clause-ok c =
     let b = c.self.inside.packed in
@@ -48,6 +38,5 @@ returns-clause-ok c =
     let tag = Base c.in-Ok.place in
     let r : IsRead b y = subst (λ (x : Telegram). IsRead b x) c.self.view_is (held_read b c.self.invariant) in
     let l = read_there b y tag c.in-Some.at c.version.result r (sym c.in-Some.ensures.place) c.version.ensures in
-    let same : c.in_ok-packet.packet ≡ l.0 = ap (λ (q : Packet × List Bool). q.0) (unok (sym c.in_ok-packet.ensures.first ∙ l.3)) in
-    ap Some (c.in_ok-fields.ensures.ok ∙ ap (λ (p : Packet). p.fields) same)
+    ap Some (c.in_ok-fields_in.ensures.ok ∙ ap fields_read l.3)
     ∙ sym (ap (option_map fields_of) (tagged_at 0 c.args.i c.in-Ok.place y.packets (omega (arith, c.in-Ok.ensures)) r.tags ∙ ap (option_map (λ (x : Packet). (tag, x))) l.2))

@@ -35,7 +35,7 @@ use Rattle.balise_cli.specs.declared.status.Status.{Status}
 use Rattle.balise_cli.specs.declared.status.Status.TheVariants.{BadInput, SomeRefused}
 use Rattle.balise_cli.proofs.BasePlans.{added_read, read_last}
 use Rattle.balise_cli.proofs.JournalTexts.{IsOpened, journal_read_back, opened_base, opened_over}
-use Rattle.balise_cli.specs.Machine.{IsReading}
+use Rattle.balise_cli.proofs.OneLine.{IsReading}
 
 -- Each phase keeps what was read, or a session.
 

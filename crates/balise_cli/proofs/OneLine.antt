@@ -15,7 +15,7 @@ use Rattle.balise_text.specs.declared.plan_line.PlanLine.{PlanLine}
 use Rattle.balise_cli.specs.Output.{Bad, Between, Commands, Good, Header, InGroup, InJournal, IsStep, Next, On, Over, Phase, Read, after_command, after_read, between, read_line, reply_text}
 use Rattle.balise_cli.specs.PlanTexts.{end_text}
 use Rattle.balise_cli.specs.Private.{DidAnswer, answer_text}
-use Rattle.balise_cli.specs.Machine.{DidRead, DidSee, DidSome, DidStep, DidTake, DidTakeSome, IsReading, last_text}
+use Rattle.balise_cli.specs.Machine.{DidRead, DidSee, DidSome, DidStep, DidTake, DidTakeSome, IsBeside, IsInGroup, last_text}
 use Rattle.balise_cli.specs.declared.commands.Answer.{Answer}
 use Rattle.balise_cli.specs.declared.machine.Taken.{Taken}
 use Rattle.balise_cli.specs.declared.machine.Taken.TheVariants as taken
@@ -54,6 +54,25 @@ module _ (flags : Flags) (s t : State) (refused : Bool) (n : ℕ) (line : Text) 
   command_end_some old now new e w v = (answer_text flags.quiet a, (Over (end_text flags t) SomeRefused, (is_step _ (stops e), some_after old now new (answer_text flags.quiet a) (end_text flags t) w v)))
 
 -- A line of the plan or the journal.
+
+abbrev pub IsReading : Phase → Type 0
+IsReading (Commands s refused) = ⊥
+IsReading _ = Unit {0}
+
+-- in a group, or beside one, it isn't at the commands
+pub reading_group : (p : Phase) → IsInGroup p → IsReading p
+reading_group Header h = tt
+reading_group (Between plan) h = tt
+reading_group (InGroup plan g ys) h = tt
+reading_group (InJournal part s) h = tt
+reading_group (Commands s refused) h = h
+
+pub reading_beside : (p : Phase) → IsBeside p → IsReading p
+reading_beside Header h = tt
+reading_beside (Between plan) h = tt
+reading_beside (InGroup plan g ys) h = absurd h
+reading_beside (InJournal part s) h = tt
+reading_beside (Commands s refused) h = absurd h
 
 read_step : (flags : Flags) (p : Phase) (n : ℕ) (line : Text) → IsReading p → IsStep flags true p n line [] (after_read (read_line p n line))
 read_step flags Header n line h = (refl, refl)

@@ -29,12 +29,12 @@ DidRead (Good p) (taken.Good m) = phase_of m ≡ p
 DidRead (Bad n r) (taken.Bad k q) = (k ≡ n) × (q ≡ r)
 DidRead _ _ = ⊥
 
--- The run isn't at the commands.
-abbrev pub IsReading : Phase → Type 0
-IsReading (Commands s refused) = ⊥
-IsReading _ = Unit {0}
+-- The run is in a group.
+abbrev pub IsInGroup : Phase → Type 0
+IsInGroup (InGroup plan g ys) = Unit {0}
+IsInGroup _ = ⊥
 
--- Nor is it in a group.
+-- The run is neither in a group nor at the commands.
 abbrev pub IsBeside : Phase → Type 0
 IsBeside (InGroup plan g ys) = ⊥
 IsBeside (Commands s refused) = ⊥

@@ -3,7 +3,7 @@
 ghost use Rattle.std.specs.Prelude.{◌≡◌, IfErr, IfOk, OnErr, OnOk};
 ghost use Rattle.std.specs.Io.KnownBytes.{Appends};
 ghost use Rattle.balise_cli.specs.Faults.{IsCause, Prints};
-ghost use Rattle.balise_cli.specs.Machine.{DidEnd, DidRead, DidSome, DidStep, DidTake, DidTakeSome, IsBeside, IsReading, last_text, phase_of};
+ghost use Rattle.balise_cli.specs.Machine.{DidEnd, DidRead, DidSome, DidStep, DidTake, DidTakeSome, IsBeside, IsInGroup, last_text, phase_of};
 ghost use Rattle.balise_cli.specs.Output.{Commands, Header, at_end, read_line};
 ghost use Rattle.balise_lines.specs.Writing.{AppendsSome};
 ghost use Rattle.balise_text.specs.Replies.{bad_line};
@@ -140,9 +140,9 @@ impl Machine {
         }
     }
 
-    // Does one line of the plan or the journal. It stands by itself, so that a command doesn't clear the room that it takes.
+    // Does a line in a group. This and the next stand by themselves, so that no other line clears the room that they take.
     #[inline(never)]
-    fn read<W: Write>(
+    fn read_group<W: Write>(
         &mut self,
         alloc: Global,
         flags: Flags,
@@ -150,23 +150,42 @@ impl Machine {
         line: &[u8],
         writer: &mut Counted<W>,
     ) -> Result<Option<Status>, RunFault>
-        requires { IsReading (phase_of self.old) }
+        requires { IsInGroup (phase_of self.old) }
         ensures ok { IfOk result (DidStep flags (phase_of self.old) number line.now (W.contents writer.old.inner) (W.contents writer.new.inner) (phase_of self.new)) }
         ensures unfailed { OnOk result (writer.new.failed ≡ writer.old.failed) }
         ensures cause { IfErr result (IsCause writer.old.failed writer.new.failed) }
         ensures written { OnErr result (DidSome flags (phase_of self.old) number line.now (W.contents writer.old.inner) (W.contents writer.new.inner)) }
     {
-        if let Machine::InGroup(plan, group_number, group) = self {
-            return match read_in_group(alloc, plan, group_number, group, number, line) {
-                Err(fault) => Err(fault),
-                Ok(Seen::Here) => Ok(None),
-                Ok(Seen::Bad(at, refusal)) => self.go_on(Taken::Bad(at, refusal), writer),
-                Ok(Seen::Behind(kind)) => {
-                    let taken = read_between(alloc, plan, number, kind, line);
-                    self.go_on(taken, writer)
-                }
-            };
+        let Machine::InGroup(plan, group_number, group) = self else {
+            unreachable!()
+        };
+        match read_in_group(alloc, plan, group_number, group, number, line) {
+            Err(fault) => Err(fault),
+            Ok(Seen::Here) => Ok(None),
+            Ok(Seen::Bad(at, refusal)) => self.go_on(Taken::Bad(at, refusal), writer),
+            Ok(Seen::Behind(kind)) => {
+                let taken = read_between(alloc, plan, number, kind, line);
+                self.go_on(taken, writer)
+            }
         }
+    }
+
+    // Does another line of the plan, or one of the journal.
+    #[inline(never)]
+    fn read_other<W: Write>(
+        &mut self,
+        alloc: Global,
+        flags: Flags,
+        number: u64,
+        line: &[u8],
+        writer: &mut Counted<W>,
+    ) -> Result<Option<Status>, RunFault>
+        requires { IsBeside (phase_of self.old) }
+        ensures ok { IfOk result (DidStep flags (phase_of self.old) number line.now (W.contents writer.old.inner) (W.contents writer.new.inner) (phase_of self.new)) }
+        ensures unfailed { OnOk result (writer.new.failed ≡ writer.old.failed) }
+        ensures cause { IfErr result (IsCause writer.old.failed writer.new.failed) }
+        ensures written { OnErr result (DidSome flags (phase_of self.old) number line.now (W.contents writer.old.inner) (W.contents writer.new.inner)) }
+    {
         match self.read_line(alloc, number, line) {
             Err(fault) => Err(fault),
             Ok(taken) => self.go_on(taken, writer),
@@ -190,7 +209,10 @@ impl Machine {
         if let Machine::Commands(session, refused) = self {
             return command(alloc, flags, session, refused, line, writer);
         }
-        self.read(alloc, flags, number, line, writer)
+        if let Machine::InGroup(_, _, _) = self {
+            return self.read_group(alloc, flags, number, line, writer);
+        }
+        self.read_other(alloc, flags, number, line, writer)
     }
 
     /// Writes what the input's end gives.

@@ -37,7 +37,7 @@ home_of s (DropGroup g) is = at_group g
 home_of s (Renumber g n) is = at_group g
 home_of s (TurnGroup g) is = at_group g
 
--- the same by what they are of, whether the group may be one, and whether the telegram may be one
+-- whether edits are seen to be apart by what they are of, and whether their groups and telegrams may be one
 abbrev pub apart_by : Extent → Extent → Bool → Bool → Bool
 apart_by Group Group group telegram = false
 apart_by Group Unnamed group telegram = not group
@@ -49,6 +49,6 @@ apart_by Unnamed Named group telegram = not (group && telegram)
 apart_by Named Unnamed group telegram = not (group && telegram)
 apart_by Named Named group telegram = not (group && telegram)
 
--- whether edits are seen to be in two telegrams, or one in a telegram of a group and without identities and the other at another group
+-- the same of two homes: in two telegrams, or one in a telegram of a group and without identities and the other at another group
 abbrev pub elsewhere : Home → Home → Bool
 elsewhere h k = apart_by h.extent k.extent (eqb h.group k.group) (eqb h.telegram k.telegram)

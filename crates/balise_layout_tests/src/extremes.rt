@@ -1,6 +1,6 @@
 //! The longest packets of a long telegram: read, with all their fields and elements.
 
-use crate::packets::{check_digits, packet_of};
+use crate::packets::{check_digits, check_fields_in, packet_of};
 use balise_bits::Bits;
 use balise_layout::{Id, Packet, Var};
 use std::alloc::Global;
@@ -109,5 +109,12 @@ fn a_packet_5_of_19_elements_is_read(rt: HostRuntime) {
     for (k, id) in links.into_iter().enumerate() {
         let number = 100 * k as u32 + 1;
         assert!(rt; id == Id { country: 5, number });
+    }
+}
+
+#[test]
+fn fields_of_the_longest_packets_are_listed_where_they_stand(rt: HostRuntime) {
+    for digits in [MOST_DIFFERENCES, FULL_LINKS, MOST_ELEMENTS] {
+        check_fields_in(&rt, rt.alloc(), digits, 33);
     }
 }

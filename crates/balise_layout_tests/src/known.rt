@@ -2,7 +2,7 @@
 
 use crate::packets::{
     GRADIENTS, INFILL, INFILL_ABROAD, LEVELS, LINK, LINKS, OPAQUE, RESTRICTION, REVOCATION, SPEEDS,
-    check_digits, packet_of,
+    check_digits, check_fields_in, packet_of,
 };
 use balise_bits::Bits;
 use balise_layout::{Id, Packet, Var};
@@ -46,20 +46,10 @@ fn packets_are_read_and_written(rt: HostRuntime) {
     }
 }
 
-fn check_fields_in(rt: &impl Abort, alloc: Global, row: &Row) {
-    let bits = Bits::digits(alloc, row.0).expect(rt, "memory");
-    let fields = Packet::fields_in(&bits, 0, row.1).expect(rt, "memory");
-    let packet = packet_of(rt, alloc, row.0, row.1);
-    let own = packet.fields().expect(rt, "memory");
-    assert!(rt; fields.as_slice() == own.as_slice());
-    let none = Packet::fields_in(&bits, bits.len(), row.1).expect(rt, "memory");
-    assert!(rt; none.is_empty())
-}
-
 #[test]
 fn fields_are_listed_where_a_packet_stands(rt: HostRuntime) {
     for row in &ROWS {
-        check_fields_in(&rt, rt.alloc(), row);
+        check_fields_in(&rt, rt.alloc(), row.0, row.1);
     }
 }
 

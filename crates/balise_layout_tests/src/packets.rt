@@ -49,3 +49,14 @@ pub(crate) fn check_digits(rt: &impl Abort, alloc: Global, packet: &Packet, digi
     packet.put_over(&mut over, 3);
     assert!(rt; over.slice(3, packet.width()).expect(rt, "memory") == bits);
 }
+
+// That the fields listed where the packet stands are those of the packet that is read.
+pub(crate) fn check_fields_in(rt: &impl Abort, alloc: Global, digits: &str, version: u32) {
+    let bits = Bits::digits(alloc, digits).expect(rt, "memory");
+    let fields = Packet::fields_in(&bits, 0, version).expect(rt, "memory");
+    let packet = packet_of(rt, alloc, digits, version);
+    let own = packet.fields().expect(rt, "memory");
+    assert!(rt; fields.as_slice() == own.as_slice());
+    let none = Packet::fields_in(&bits, bits.len(), version).expect(rt, "memory");
+    assert!(rt; none.is_empty())
+}

@@ -1,7 +1,7 @@
 -- What one line does.
 use Rattle.std.proofs.Common.{◌≡◌, ℕ, [], Bool, true, false, cond, ◌||◌, ◌&&◌, Option, Some, None, Result, Ok, Err, IfOk, OnErr, refl, sym, ap, subst, ◌∙◌}
 use Rattle.std.specs.Io.KnownBytes.{Appends}
-use Rattle.std.proofs.KnownBytes.{Appends-trans}
+use Rattle.std.proofs.KnownBytes.{Appends-nil, Appends-trans}
 use Rattle.balise_rules.specs.declared.refusal.Refusal.{Refusal}
 use Rattle.balise_rules.specs.Plan.{Plan}
 use Rattle.balise_rules.specs.Session.{State}
@@ -11,12 +11,15 @@ use Rattle.balise_arguments.specs.declared.options.Flags.{Flags}
 use Rattle.balise_text.specs.Answers.{reply_of}
 use Rattle.balise_text.specs.Replies.{bad_line, is_refused}
 use Rattle.balise_text.specs.Texts.{Text}
+use Rattle.balise_text.specs.declared.part.Part.{Part}
 use Rattle.balise_text.specs.declared.plan_line.PlanLine.{PlanLine}
 use Rattle.balise_cli.specs.Output.{Bad, Between, Commands, Good, Header, InGroup, InJournal, IsStep, Next, On, Over, Phase, Read, after_command, after_read, between, read_line, reply_text}
 use Rattle.balise_cli.specs.PlanTexts.{end_text}
 use Rattle.balise_cli.specs.Private.{DidAnswer, answer_text}
-use Rattle.balise_cli.specs.Machine.{DidRead, DidSee, DidSome, DidStep, DidTake, DidTakeSome, IsBeside, IsInGroup, last_text}
+use Rattle.balise_cli.specs.Machine.{DidRead, DidSee, DidSome, DidStep, DidTake, DidTakeSome, DidSeeJournal, IsBeside, IsInGroup, IsInJournal, last_text}
 use Rattle.balise_cli.specs.declared.commands.Answer.{Answer}
+use Rattle.balise_cli.specs.declared.journal_reader.JournalSeen.{JournalSeen}
+use Rattle.balise_cli.specs.declared.journal_reader.JournalSeen.TheVariants as journal
 use Rattle.balise_cli.specs.declared.machine.Taken.{Taken}
 use Rattle.balise_cli.specs.declared.machine.Taken.TheVariants as taken
 use Rattle.balise_cli.specs.declared.plan_reader.Seen.{Seen}
@@ -59,7 +62,7 @@ abbrev pub IsReading : Phase → Type 0
 IsReading (Commands s refused) = ⊥
 IsReading _ = Unit {0}
 
--- in a group, or beside one, it isn't at the commands
+-- in a group, in the journal or beside both, it isn't at the commands
 pub reading_group : (p : Phase) → IsInGroup p → IsReading p
 reading_group Header h = tt
 reading_group (Between plan) h = tt
@@ -67,11 +70,18 @@ reading_group (InGroup plan g ys) h = tt
 reading_group (InJournal part s) h = tt
 reading_group (Commands s refused) h = h
 
+pub reading_journal : (p : Phase) → IsInJournal p → IsReading p
+reading_journal Header h = tt
+reading_journal (Between plan) h = tt
+reading_journal (InGroup plan g ys) h = tt
+reading_journal (InJournal part s) h = tt
+reading_journal (Commands s refused) h = h
+
 pub reading_beside : (p : Phase) → IsBeside p → IsReading p
 reading_beside Header h = tt
 reading_beside (Between plan) h = tt
 reading_beside (InGroup plan g ys) h = absurd h
-reading_beside (InJournal part s) h = tt
+reading_beside (InJournal part s) h = absurd h
 reading_beside (Commands s refused) h = absurd h
 
 read_step : (flags : Flags) (p : Phase) (n : ℕ) (line : Text) → IsReading p → IsStep flags true p n line [] (after_read (read_line p n line))
@@ -115,6 +125,29 @@ pub seen_bad : (p was after : Phase) (n k : ℕ) (line : Text) (q : Refusal) (pl
 seen_bad p was after n k line q plan s e d h =
     subst (λ r. DidRead r (taken.Bad k q)) (sym (ap (λ x. read_line x n line) e ∙ subst (DidSee n line (read_line was n line) plan after) h d)) (refl, refl)
 
-pub seen_behind : (p was after : Phase) (n : ℕ) (line : Text) (plan : Plan) (kind : PlanLine) (s : Seen) (t : Taken) → p ≡ was → DidSee n line (read_line was n line) plan after s → s ≡ seen.Behind kind → DidRead (between plan n kind line) t → DidRead (read_line p n line) t
-seen_behind p was after n line plan kind s t e d h b =
-    subst (λ r. DidRead r t) (sym (ap (λ x. read_line x n line) e ∙ subst (DidSee n line (read_line was n line) plan after) h d)) b
+pub seen_behind : (p was after : Phase) (n : ℕ) (line : Text) (plan : Plan) (kind : PlanLine) (s : Seen) → p ≡ was → DidSee n line (read_line was n line) plan after s → s ≡ seen.Behind kind → read_line p n line ≡ between plan n kind line
+seen_behind p was after n line plan kind s e d h = ap (λ x. read_line x n line) e ∙ subst (DidSee n line (read_line was n line) plan after) h d
+
+-- something was taken as what is read, or its refusal written
+pub did_behind : (flags : Flags) (p q : Phase) (n : ℕ) (line : Text) (old new : Option Text) (read : Read) (r : Result (Option Status) RunFault) → IsReading p → read_line p n line ≡ read
+    → IfOk r (λ s. (t : Taken) × (DidRead read t × DidTake t old new q s)) → IfOk r (DidStep flags p n line old new q)
+did_behind flags p q n line old new read (Err e) h is d = tt
+did_behind flags p q n line old new read (Ok s) h is d = taken_so flags p q n line old new read d.0 s d.1.0 d.1.1 (subst (λ (x : Read). IsStep flags true p n line [] (after_read x)) is (read_step flags p n line h))
+
+pub some_behind : {A : Type 0} (flags : Flags) (p : Phase) (n : ℕ) (line : Text) (old new : Option Text) (read : Read) (r : Result A RunFault) → IsReading p → read_line p n line ≡ read
+    → OnErr r ((t : Taken) × (DidRead read t × DidTakeSome t old new)) → OnErr r (DidSome flags p n line old new)
+some_behind flags p n line old new read (Ok a) h is d = tt
+some_behind flags p n line old new read (Err e) h is d = taken_some flags p n line old new read d.0 d.1.0 d.1.1 (subst (λ (x : Read). IsStep flags true p n line [] (after_read x)) is (read_step flags p n line h))
+
+-- A line in the journal.
+
+pub journal_bad : (p was : Phase) (n k : ℕ) (line : Text) (q : Refusal) (part : Part) (s : State) (v : JournalSeen) → p ≡ was → DidSeeJournal (read_line was n line) part s v → v ≡ journal.Bad k q → DidRead (read_line p n line) (taken.Bad k q)
+journal_bad p was n k line q part s v e d h =
+    subst (λ r. DidRead r (taken.Bad k q)) (sym (ap (λ x. read_line x n line) e ∙ subst (DidSeeJournal (read_line was n line) part s) h d)) (refl, refl)
+
+pub journal_here : (p was : Phase) (n : ℕ) (line : Text) (part : Part) (s : State) (v : JournalSeen) → p ≡ was → DidSeeJournal (read_line was n line) part s v → v ≡ journal.Here → read_line p n line ≡ Good (InJournal part s)
+journal_here p was n line part s v e d h = ap (λ x. read_line x n line) e ∙ subst (DidSeeJournal (read_line was n line) part s) h d
+
+-- it was taken, and nothing is written
+pub taken_on : (flags : Flags) (p q : Phase) (n : ℕ) (line : Text) (text : Option Text) → IsReading p → read_line p n line ≡ Good q → DidStep flags p n line text text q None
+taken_on flags p q n line text h e = ([], (subst (λ (r : Read). IsStep flags true p n line [] (after_read r)) e (read_step flags p n line h), Appends-nil text))

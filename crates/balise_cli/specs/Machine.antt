@@ -1,12 +1,16 @@
 -- A run between two lines as the definitions have it, and what one line or the end does.
-use Rattle.std.specs.Prelude.{◌≡◌, ℕ, true, [], ◌++◌, Option, Some, None}
+use Rattle.std.specs.Prelude.{◌≡◌, ℕ, true, false, [], ◌++◌, Option, Some, None}
 use Rattle.std.specs.Io.KnownBytes.{Appends}
 use Rattle.balise_rules.specs.Plan.{Plan}
+use Rattle.balise_rules.specs.Session.{State}
 use Rattle.balise_lines.specs.Writing.{AppendsSome}
 use Rattle.balise_arguments.specs.declared.options.Flags.{Flags}
 use Rattle.balise_text.specs.Replies.{bad_line}
 use Rattle.balise_text.specs.Texts.{Text}
+use Rattle.balise_text.specs.declared.part.Part.{Part}
 use Rattle.balise_cli.specs.Output.{Phase, Header, Between, InGroup, InJournal, Commands, Read, Good, Bad, Next, On, Over, IsStep, at_end, between}
+use Rattle.balise_cli.specs.declared.journal_reader.JournalSeen.{JournalSeen}
+use Rattle.balise_cli.specs.declared.journal_reader.JournalSeen.TheVariants as journal
 use Rattle.balise_cli.specs.declared.machine.Machine.{Machine}
 use Rattle.balise_cli.specs.declared.machine.Machine.TheVariants as machine
 use Rattle.balise_cli.specs.declared.machine.Taken.{Taken}
@@ -34,9 +38,15 @@ abbrev pub IsInGroup : Phase → Type 0
 IsInGroup (InGroup plan g ys) = Unit {0}
 IsInGroup _ = ⊥
 
--- The run is neither in a group nor at the commands.
+-- The run is in the journal.
+abbrev pub IsInJournal : Phase → Type 0
+IsInJournal (InJournal part s) = Unit {0}
+IsInJournal _ = ⊥
+
+-- The run is neither in a group nor in the journal nor at the commands.
 abbrev pub IsBeside : Phase → Type 0
 IsBeside (InGroup plan g ys) = ⊥
+IsBeside (InJournal part s) = ⊥
 IsBeside (Commands s refused) = ⊥
 IsBeside _ = Unit {0}
 
@@ -45,6 +55,22 @@ abbrev pub DidSee : ℕ → Text → Read → Plan → Phase → Seen → Type 0
 DidSee n line read plan now seen.Here = read ≡ Good now
 DidSee n line read plan now (seen.Bad k q) = read ≡ Bad k q
 DidSee n line read plan now (seen.Behind kind) = read ≡ between plan n kind line
+
+-- a line of the journal was taken or refused, as it is defined, with what may come behind it and the session so far; or the commands begin
+abbrev pub DidSeeJournal : Read → Part → State → JournalSeen → Type 0
+DidSeeJournal read part s journal.Here = read ≡ Good (InJournal part s)
+DidSeeJournal read part s (journal.Bad k q) = read ≡ Bad k q
+DidSeeJournal read part s journal.Edits = read ≡ Good (Commands s false)
+
+-- the plan so far, in a group
+abbrev pub plan_of : Phase → Plan
+plan_of (InGroup plan g ys) = plan
+plan_of p = []
+
+-- at the commands of the session that a journal gives
+abbrev pub at_commands : Phase → Phase
+at_commands (InJournal part s) = Commands s false
+at_commands p = Header
 
 abbrev pub last_text : Next → Text
 last_text (On p) = []

@@ -1,8 +1,8 @@
 //! The lines of the journal.
 
 ghost use Rattle.std.specs.Prelude.{◌≡◌, IfErr, IfOk};
-ghost use Rattle.balise_cli.specs.Machine.{DidRead};
-ghost use Rattle.balise_cli.specs.Output.{if_fits, in_journal, journal_begun, Phase};
+ghost use Rattle.balise_cli.specs.Machine.{DidRead, DidSeeJournal};
+ghost use Rattle.balise_cli.specs.Output.{in_journal, journal_begun};
 ghost use Rattle.balise_text.specs.Heads as heads;
 ghost use Rattle.balise_text.specs.JournalLines.{journal_line_of};
 
@@ -27,30 +27,41 @@ pub(crate) fn begin_journal(alloc: Global, plan: BasePlan, number: u64, line: &[
     }
 }
 
+/// What a line of the journal is: it was taken, and the run goes on in the journal; it is refused, with its number; or the
+/// commands begin.
+pub(crate) enum JournalSeen {
+    Here,
+    Bad(u64, Refusal),
+    Edits,
+}
+
 /// A further line of it.
 pub(crate) fn read_in_journal(
     alloc: Global,
-    part: Part,
-    opening: Opening,
+    part: &mut Part,
+    opening: &mut Opening,
     number: u64,
     line: &[u8],
-) -> Result<Taken, RunFault>
-    ensures ok { IfOk result (λ taken. DidRead (in_journal part opening.state number (journal_line_of part line.now)) taken) }
+) -> Result<JournalSeen, RunFault>
+    ensures ok { IfOk result (DidSeeJournal (in_journal part.old opening.old.state number (journal_line_of part.old line.now)) part.new opening.new.state) }
     ensures fault { IfErr result (λ e. e ≡ RunFault.OutOfMemory) }
 {
-    match read_journal_line(alloc, part, line) {
+    match read_journal_line(alloc, *part, line) {
         Ok(JournalLine::Entry(entry)) => match opening.entry(entry) {
-            Ok(opening) => Ok(Taken::Good(Machine::InJournal(part, opening))),
+            Ok(()) => Ok(JournalSeen::Here),
             Err(Refusal::OutOfMemory) => Err(RunFault::OutOfMemory),
-            Err(refusal) => Ok(Taken::Bad(number, refusal)),
+            Err(refusal) => Ok(JournalSeen::Bad(number, refusal)),
         },
         Ok(JournalLine::Undone(serial)) => match opening.undone(serial) {
-            Ok(opening) => Ok(Taken::Good(Machine::InJournal(Part::Undone, opening))),
+            Ok(()) => {
+                *part = Part::Undone;
+                Ok(JournalSeen::Here)
+            }
             Err(Refusal::OutOfMemory) => Err(RunFault::OutOfMemory),
-            Err(refusal) => Ok(Taken::Bad(number, refusal)),
+            Err(refusal) => Ok(JournalSeen::Bad(number, refusal)),
         },
-        Ok(JournalLine::Edits) => Ok(Taken::Good(Machine::Commands(opening.done(), false))),
+        Ok(JournalLine::Edits) => Ok(JournalSeen::Edits),
         Err(Refusal::OutOfMemory) => Err(RunFault::OutOfMemory),
-        Err(refusal) => Ok(Taken::Bad(number, refusal)),
+        Err(refusal) => Ok(JournalSeen::Bad(number, refusal)),
     }
 }

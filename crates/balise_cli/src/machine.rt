@@ -3,15 +3,15 @@
 ghost use Rattle.std.specs.Prelude.{◌≡◌, IfErr, IfOk, OnErr, OnOk};
 ghost use Rattle.std.specs.Io.KnownBytes.{Appends};
 ghost use Rattle.balise_cli.specs.Faults.{IsCause, Prints};
-ghost use Rattle.balise_cli.specs.Machine.{DidEnd, DidRead, DidSome, DidStep, DidTake, DidTakeSome, IsBeside, IsInGroup, last_text, phase_of};
-ghost use Rattle.balise_cli.specs.Output.{Commands, Header, at_end, read_line};
+ghost use Rattle.balise_cli.specs.Machine.{DidEnd, DidRead, DidSome, DidStep, DidTake, DidTakeSome, IsBeside, IsInGroup, IsInJournal, at_commands, last_text, phase_of, plan_of};
+ghost use Rattle.balise_cli.specs.Output.{Commands, Header, at_end, between, read_line};
 ghost use Rattle.balise_lines.specs.Writing.{AppendsSome};
 ghost use Rattle.balise_text.specs.Replies.{bad_line};
 
 use crate::base_plan::BasePlan;
 use crate::commands::{answer_line, put_answer};
 use crate::fault::RunFault;
-use crate::journal_reader::read_in_journal;
+use crate::journal_reader::{JournalSeen, read_in_journal};
 use crate::plan_reader::{Seen, read_between, read_first_line, read_in_group};
 use crate::printing::put_end;
 use crate::status::Status;
@@ -19,7 +19,7 @@ use balise_arguments::Flags;
 use balise_history::{Opening, Refusal, Session};
 use balise_lines::Counted;
 use balise_plan::GroupReader;
-use balise_text::{Part, put_bad, read_plan_line};
+use balise_text::{Part, PlanLine, put_bad, read_plan_line};
 use std::alloc::Global;
 use std::io::Write;
 use std::mem;
@@ -95,7 +95,7 @@ impl Machine {
         Machine::Header
     }
 
-    // Reads a line of the plan, but for one in a group, or of the journal.
+    // Reads a line of the plan, but for one in a group.
     fn read_line(&mut self, alloc: Global, number: u64, line: &[u8]) -> Result<Taken, RunFault>
         requires { IsBeside (phase_of self.old) }
         ensures ok { IfOk result (DidRead (read_line (phase_of self.old) number line.now)) }
@@ -107,12 +107,7 @@ impl Machine {
                 Ok(read_between(alloc, plan, number, read_plan_line(line), line))
             }
             Machine::InGroup(_, _, _) => unreachable!(),
-            Machine::InJournal(_, _) => match mem::replace(self, Machine::Header) {
-                Machine::InJournal(part, opening) => {
-                    read_in_journal(alloc, part, opening, number, line)
-                }
-                _ => unreachable!(),
-            },
+            Machine::InJournal(_, _) => unreachable!(),
             Machine::Commands(_, _) => unreachable!(),
         }
     }
@@ -140,7 +135,47 @@ impl Machine {
         }
     }
 
-    // Does a line in a group. This and the next stand by themselves, so that no other line clears the room that they take.
+    // Ends a run with the line of what is refused. This and the next stand by themselves, so that no line that is taken
+    // clears the room that they need.
+    #[inline(never)]
+    fn refuse<W: Write>(
+        &mut self,
+        number: u64,
+        refusal: Refusal,
+        writer: &mut Counted<W>,
+    ) -> Result<Option<Status>, RunFault>
+        ensures ok { IfOk result (DidTake (Taken.Bad number refusal) (W.contents writer.old.inner) (W.contents writer.new.inner) (phase_of self.new)) }
+        ensures unfailed { OnOk result (writer.new.failed ≡ writer.old.failed) }
+        ensures cause { IfErr result (IsCause writer.old.failed writer.new.failed) }
+        ensures written { OnErr result (DidTakeSome (Taken.Bad number refusal) (W.contents writer.old.inner) (W.contents writer.new.inner)) }
+    {
+        self.go_on(Taken::Bad(number, refusal), writer)
+    }
+
+    // Goes on behind the end of a group, at a line that stands between groups.
+    #[inline(never)]
+    fn go_behind<W: Write>(
+        &mut self,
+        alloc: Global,
+        number: u64,
+        kind: PlanLine,
+        line: &[u8],
+        writer: &mut Counted<W>,
+    ) -> Result<Option<Status>, RunFault>
+        requires { IsInGroup (phase_of self.old) }
+        ensures ok { IfOk result (λ status. (taken : Taken) × (DidRead (between (plan_of (phase_of self.old)) number kind line.now) taken × DidTake taken (W.contents writer.old.inner) (W.contents writer.new.inner) (phase_of self.new) status)) }
+        ensures unfailed { OnOk result (writer.new.failed ≡ writer.old.failed) }
+        ensures cause { IfErr result (IsCause writer.old.failed writer.new.failed) }
+        ensures written { OnErr result ((taken : Taken) × (DidRead (between (plan_of (phase_of self.old)) number kind line.now) taken × DidTakeSome taken (W.contents writer.old.inner) (W.contents writer.new.inner))) }
+    {
+        let Machine::InGroup(plan, _, _) = self else {
+            unreachable!()
+        };
+        let taken = read_between(alloc, plan, number, kind, line);
+        self.go_on(taken, writer)
+    }
+
+    // Does a line in a group. This and the next two stand by themselves too.
     #[inline(never)]
     fn read_group<W: Write>(
         &mut self,
@@ -162,15 +197,53 @@ impl Machine {
         match read_in_group(alloc, plan, group_number, group, number, line) {
             Err(fault) => Err(fault),
             Ok(Seen::Here) => Ok(None),
-            Ok(Seen::Bad(at, refusal)) => self.go_on(Taken::Bad(at, refusal), writer),
-            Ok(Seen::Behind(kind)) => {
-                let taken = read_between(alloc, plan, number, kind, line);
-                self.go_on(taken, writer)
+            Ok(Seen::Bad(at, refusal)) => self.refuse(at, refusal, writer),
+            Ok(Seen::Behind(kind)) => self.go_behind(alloc, number, kind, line, writer),
+        }
+    }
+
+    // Does a line in the journal.
+    #[inline(never)]
+    fn read_journal<W: Write>(
+        &mut self,
+        alloc: Global,
+        flags: Flags,
+        number: u64,
+        line: &[u8],
+        writer: &mut Counted<W>,
+    ) -> Result<Option<Status>, RunFault>
+        requires { IsInJournal (phase_of self.old) }
+        ensures ok { IfOk result (DidStep flags (phase_of self.old) number line.now (W.contents writer.old.inner) (W.contents writer.new.inner) (phase_of self.new)) }
+        ensures unfailed { OnOk result (writer.new.failed ≡ writer.old.failed) }
+        ensures cause { IfErr result (IsCause writer.old.failed writer.new.failed) }
+        ensures written { OnErr result (DidSome flags (phase_of self.old) number line.now (W.contents writer.old.inner) (W.contents writer.new.inner)) }
+    {
+        let Machine::InJournal(part, opening) = self else {
+            unreachable!()
+        };
+        match read_in_journal(alloc, part, opening, number, line) {
+            Err(fault) => Err(fault),
+            Ok(JournalSeen::Here) => Ok(None),
+            Ok(JournalSeen::Bad(at, refusal)) => self.refuse(at, refusal, writer),
+            Ok(JournalSeen::Edits) => {
+                self.begin_commands();
+                Ok(None)
             }
         }
     }
 
-    // Does another line of the plan, or one of the journal.
+    // Goes on at the commands of the session that the journal gives.
+    fn begin_commands(&mut self)
+        requires { IsInJournal (phase_of self.old) }
+        ensures { phase_of self.new ≡ at_commands (phase_of self.old) }
+    {
+        match mem::replace(self, Machine::Header) {
+            Machine::InJournal(_, opening) => *self = Machine::Commands(opening.done(), false),
+            _ => unreachable!(),
+        }
+    }
+
+    // Does another line of the plan.
     #[inline(never)]
     fn read_other<W: Write>(
         &mut self,
@@ -211,6 +284,9 @@ impl Machine {
         }
         if let Machine::InGroup(_, _, _) = self {
             return self.read_group(alloc, flags, number, line, writer);
+        }
+        if let Machine::InJournal(_, _) = self {
+            return self.read_journal(alloc, flags, number, line, writer);
         }
         self.read_other(alloc, flags, number, line, writer)
     }

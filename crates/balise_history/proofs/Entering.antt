@@ -1,9 +1,10 @@
 -- What a line of a journal asks, and leaves.
-use Rattle.std.proofs.Common.{◌≡◌, ◌<◌, ◌∙◌, ℕ, Bool, true, false, cond, ◌&&◌, nat_lt, List, [], ◌∷◌, ◌++◌, Option, Some, None, Result, Ok, Err, option_and_then, map, refl, sym, ap, subst, arith}
+use Rattle.std.proofs.Common.{◌≡◌, ◌<◌, ◌∙◌, inl, inr, ⊎_elim, ℕ, Bool, true, false, cond, ◌&&◌, nat_lt, List, [], ◌∷◌, ◌++◌, Option, Some, None, Result, Ok, Err, option_and_then, map, refl, sym, ap, subst, arith}
 use Rattle.std.specs.Prelude.{is_none}
 use Rattle.std.proofs.lemmas.Bool.{and_parts}
 use Rattle.std.proofs.lemmas.Bool.Decides.{nat_tests}
 use Rattle.balise_rules.specs.declared.refusal.Refusal.{Refusal}
+use Rattle.balise_rules.specs.declared.refusal.Refusal.TheVariants.{JournalMismatch}
 use Rattle.balise_rules.specs.declared.tag.Tag.{Tag}
 use Rattle.balise_rules.specs.declared.tag.Tag.TheVariants.{Base}
 use Rattle.balise_rules.specs.Packet.{Packet, IsSpelt}
@@ -26,13 +27,15 @@ use Rattle.balise_edit_laws.proofs.ReadyCommands.{word_spelt}
 use Rattle.balise_edits.specs.Standing.{changed_to}
 use Rattle.balise_plan.specs.Held.{Plan}
 use Rattle.balise_strike_laws.specs.Sessions.{IsSession}
+use Rattle.balise_strike_laws.proofs.Journals.{same_itself}
 use Rattle.balise_strike_laws.proofs.Rising.{between-more, between-before, others-above}
 use Rattle.balise_strike_laws.proofs.SessionsKept.{standing_within, openings_kept}
-use Rattle.balise_history.specs.Held.{state_at}
-use Rattle.balise_history.specs.Lists.{History, items_of, removed_of}
-use Rattle.balise_history.specs.Openings.{comes_next, EntersIn}
+use Rattle.balise_history.specs.Held.{state_at, seen, IsHeld}
+use Rattle.balise_history.specs.Lists.{History, Gone, items_of, removed_of}
+use Rattle.balise_history.specs.Openings.{comes_next, Enters, EntersIn}
 use Rattle.balise_history.proofs.Adding.{added}
 use Rattle.balise_history.proofs.Entries.{items-append}
+use Rattle.balise_history.proofs.Few.{few-held}
 use Rattle.balise_history.proofs.Taking.{held_state}
 use Rattle.balise_history.proofs.Answering.{view, HeldIn, leaves, state-is}
 
@@ -134,3 +137,35 @@ module _ (p : Plan) (h : History) (next : ℕ) (l : Line) (o : HeldIn p h next) 
       no-top : (rs : List Removed) → is_none (top rs) ≡ true → rs ≡ []
       no-top [] h = refl
       no-top (r ∷ rs) h = absurd cc
+
+-- the edit is done, and notes something else than the line says
+pub is-noted-else : (p : Plan) (h : History) (next : ℕ) (l : Line) → HeldIn p h next → comes_next h next l.serial ≡ true → (e : Edit) → edit_in l.edit p.groups ≡ Some e → refusal e p.groups ≡ None →
+    same_noted (noted_of e (noted e p.groups)) l.noted ≡ false → (f : Entry) (q : Plan) (k : History) → f ≡ ((l.serial, e), noted e p.groups) → q ≡ changed_to (done (l.serial, e) p.groups) p → k.standing ≡ h.standing ++ f ∷ [] → k.stack ≡ [] →
+    EntersIn {A = Unit {0}} l next p h (Err JournalMismatch) q k
+is-noted-else p h next l o c e g r n f q k x a b d =
+    let m = noted_of e (noted e p.groups) in
+    let w = is-entered p h next (record l { noted = m }) o c e g r (same_itself m) f q k x a b d in
+    (inr (refl, not-noted p h next l o c e g r n), inr (m, w))
+
+-- what stays is held
+pub enters-held : {A : Type 0} (l : Line) (next : ℕ) (p : Plan) (h : History) (r : Result A Refusal) (q : Plan) (k : History) → HeldIn p h next → EntersIn l next p h r q k → HeldIn q k next
+enters-held l next p h (Ok u) q k o w = w.0
+enters-held l next p h (Err r) q k o w = ⊎_elim (λ s. stays s.0 s.1 s.2) (λ n. n.1.0) w.1
+  where
+    stays : q ≡ p → k.standing ≡ h.standing → k.stack ≡ h.stack → HeldIn q k next
+    stays a b c =
+        let x = subst (λ (y : Plan). IsHeld y.groups h.standing h.stack next) (sym a) o in
+        let z = subst (λ (y : List Entry). IsHeld q.groups y h.stack next) (sym b) x in
+        subst (λ (y : List Gone). IsHeld q.groups k.standing y next) (sym c) z
+
+-- so it is seen
+pub enters-seen : {A : Type 0} (l : Line) (next : ℕ) (p : Plan) (h : History) (r : Result A Refusal) (q : Plan) (k : History) → EntersIn l next p h r q k → Enters l (view p h next) r (view q k next)
+enters-seen l next p h (Ok u) q k w = (w.1, w.2, few-held q.groups k.standing k.stack next w.0)
+enters-seen l next p h (Err r) q k w =
+    (w.0, ⊎_elim (λ s. inl (stays s.0 s.1 s.2)) (λ n. inr (n.0, (n.1.1, n.1.2, few-held q.groups k.standing k.stack next n.1.0))) w.1)
+  where
+    stays : q ≡ p → k.standing ≡ h.standing → k.stack ≡ h.stack → view q k next ≡ view p h next
+    stays a b c =
+        ap (λ (y : Plan). view y k next) a
+        ∙ ap (λ (y : List Entry). seen p.groups y k.stack next p.changes) b
+        ∙ ap (λ (y : List Gone). seen p.groups h.standing y next p.changes) c

@@ -1,7 +1,8 @@
 -- What stays within its bounds where a journal is read.
-use Rattle.std.proofs.Common.{◌≡◌, ◌<◌, ◌+◌, ◌∙◌, ℕ, suc, eqb, List, [], ◌∷◌, true, Option, Some, None, find, length, refl, sym, ap, arith}
+use Rattle.std.proofs.Common.{◌≡◌, ◌<◌, ◌+◌, ◌∙◌, inl, inr, ⊎_elim, ℕ, suc, eqb, List, [], ◌∷◌, true, Option, Some, None, Result, Ok, Err, OnOk, find, length, refl, sym, ap, subst, arith}
 use Rattle.std.specs.Prelude.{is_none}
 use Rattle.std.proofs.lemmas.List.{length-append}
+use Rattle.balise_rules.specs.declared.refusal.Refusal.{Refusal}
 use Rattle.balise_rules.specs.declared.refusal.Refusal.TheVariants.{DependsOn, NoSuchEdit}
 use Rattle.balise_rules.specs.Edits.{Item}
 use Rattle.balise_rules.specs.Journal.{Line}
@@ -10,8 +11,9 @@ use Rattle.balise_rules.specs.Paths.{Entry}
 use Rattle.balise_rules.specs.Session.{State, Removed, Reply, Strike, Struck, Refused, held, top, later, entries, first_dependent, answer_strike, answer_dependent}
 use Rattle.balise_rules.proofs.Cases.{unsome}
 use Rattle.balise_edit_laws.proofs.LinesReady.{when_some}
-use Rattle.balise_history.specs.Held.{Edited, state_at, Accepts}
-use Rattle.balise_history.specs.Openings.{IsOpening}
+use Rattle.balise_history.specs.Held.{Edited, state_at, Accepts, Answered}
+use Rattle.balise_history.specs.Openings.{Enters, IsOpening, ReadsEntry}
+use Rattle.balise_history.specs.Sessions.{seen_at}
 
 -- one more entry behind those that stand, and nothing undone
 pub record OneMore (s t : State) : Type 0 where
@@ -51,6 +53,15 @@ entry-within s t l o h c f =
     let i = o.serials in
     record { serials = omega arith; few = f; changes = omega arith; entered = λ z. omega arith }
 
+-- what a line leaves, whether it fits or not
+pub enters-within : {A : Type 0} (s t : Edited) (l : Line) (r : Result A Refusal) → IsOpening s → Enters l s r t → IsOpening t
+enters-within s t l (Ok u) o w = entry-within s t l o w.0 w.1 w.2
+enters-within s t l (Err r) o w = ⊎_elim (λ e. subst IsOpening (sym e) o) (λ n. entry-within s t (record l { noted = n.0 }) o n.1.0 n.1.1 n.1.2) w.1
+
+pub entry-read : {A : Type 0} (s t : Edited) (l : Line) (r : Result A Refusal) → Enters l s r t → ReadsEntry l (seen_at 0 s) r (seen_at 0 t)
+entry-read s t l (Ok u) w = (w.0, w.1)
+entry-read s t l (Err r) w = (w.0, ⊎_elim (λ e. inl (ap (seen_at 0) e)) (λ n. inr (n.0, (n.1.0, n.1.1))) w.1)
+
 -- one more struck
 pub record OneStruck (s t : State) : Type 0 where
   pub serial : t.serial ≡ s.serial
@@ -76,3 +87,8 @@ strike-within s t m n o a f =
     let e = o.changes in
     let i = o.serials in
     record { serials = omega arith; few = f; changes = omega arith; entered = λ z. absurd (omega arith) }
+
+-- what a strike leaves, whether it is accepted or not
+pub strikes-within : {A : Type 0} (serial : A → ℕ) (s t : Edited) (m : ℕ) (r : Result A Refusal) → IsOpening s → Answered (Strike m) (λ x. Struck (serial x)) s r t → OnOk r (length t.standing + length t.stack < t.serial) → IsOpening t
+strikes-within serial s t m (Ok x) o a f = strike-within s t m (serial x) o a f
+strikes-within serial s t m (Err r) o a f = subst IsOpening (sym a.1) o

@@ -2,8 +2,8 @@
 use Rattle.std.specs.Prelude.{◌≡◌, ◌⊎◌, ◌+◌, ◌<◌, ◌≤◌, ◌^◌, ◌&&◌, ℕ, nat_lt, Bool, length, map, Option, Some, None, is_none, Result, Ok, Err}
 use Rattle.balise_rules.specs.declared.refusal.Refusal.{Refusal}
 use Rattle.balise_rules.specs.declared.refusal.Refusal.TheVariants.{JournalMismatch, OutOfMemory}
-use Rattle.balise_rules.specs.Journal.{Line}
-use Rattle.balise_rules.specs.Opening.{last_serial, with_entry}
+use Rattle.balise_rules.specs.Journal.{Line, Noted}
+use Rattle.balise_rules.specs.Opening.{last_serial, with_entry, with_undone}
 use Rattle.balise_rules.specs.Session.{State, top}
 use Rattle.balise_history.specs.declared.journal_fault.JournalFault.{JournalFault}
 use Rattle.balise_history.specs.Held.{Edited, state_at, seen, IsHeld}
@@ -20,17 +20,26 @@ abbrev pub comes_next : History → ℕ → ℕ → Bool
 comes_next h next serial = is_none (top (map removed_of h.stack)) && (nat_lt (last_serial (items_of h.standing)) serial && nat_lt serial next)
 
 -- the same of a plan and the entries that made it
-abbrev pub EntersIn : {A : Type 0} → Line → ℕ → Plan → History → Result A Refusal → Plan → History → Type 0
-EntersIn l next p h (Ok u) q k =
+abbrev pub EntersOneIn : Line → ℕ → Plan → History → Plan → History → Type 0
+EntersOneIn l next p h q k =
     IsHeld q.groups k.standing k.stack next
     × (◌≡◌ {A = Option State} (with_entry (state_at 0 (seen p.groups h.standing h.stack next p.changes)) l) (Some (state_at 0 (seen q.groups k.standing k.stack next q.changes))))
     × (q.changes ≡ p.changes + 1)
-EntersIn l next p h (Err r) q k = Mismatches r (with_entry (state_at 0 (seen p.groups h.standing h.stack next p.changes)) l)
+
+-- a refused line leaves all as it was, or its edit was done and noted something else than the line says
+abbrev pub EntersIn : {A : Type 0} → Line → ℕ → Plan → History → Result A Refusal → Plan → History → Type 0
+EntersIn l next p h (Ok u) q k = EntersOneIn l next p h q k
+EntersIn l next p h (Err r) q k =
+    Mismatches r (with_entry (state_at 0 (seen p.groups h.standing h.stack next p.changes)) l)
+    × (((q ≡ p) × (k.standing ≡ h.standing) × (k.stack ≡ h.stack)) ⊎ ((n : Noted) × EntersOneIn (record l { noted = n }) next p h q k))
 
 -- a line's edit is done behind those that stand, by one change
-abbrev pub Enters : Line → Edited → Result Edited Refusal → Type 0
-Enters l s (Ok t) = (◌≡◌ {A = Option State} (with_entry (state_at 0 s) l) (Some (state_at 0 t))) × (t.changes ≡ s.changes + 1) × (length t.standing + length t.stack < t.serial)
-Enters l s (Err r) = Mismatches r (with_entry (state_at 0 s) l)
+abbrev pub EntersOne : Line → Edited → Edited → Type 0
+EntersOne l s t = (◌≡◌ {A = Option State} (with_entry (state_at 0 s) l) (Some (state_at 0 t))) × (t.changes ≡ s.changes + 1) × (length t.standing + length t.stack < t.serial)
+
+abbrev pub Enters : {A : Type 0} → Line → Edited → Result A Refusal → Edited → Type 0
+Enters l s (Ok u) t = EntersOne l s t
+Enters l s (Err r) t = Mismatches r (with_entry (state_at 0 s) l) × ((t ≡ s) ⊎ ((n : Noted) × EntersOne (record l { noted = n }) s t))
 
 -- what a session that is read from a journal stays within
 pub record IsOpening (e : Edited) : Type 0 where
@@ -39,10 +48,19 @@ pub record IsOpening (e : Edited) : Type 0 where
   pub changes : e.changes ≤ 2 ^ 62 + 4000000000 + length e.stack
   pub entered : length e.stack ≡ 0 → e.changes ≤ 2 ^ 62 + length e.standing
 
--- one more line fits, and is one more change
-abbrev pub Reads : Option State → Seen → Result Seen Refusal → Type 0
-Reads o s (Ok t) = (◌≡◌ {A = Option State} o (Some t.state)) × (t.changes ≡ s.changes + 1)
-Reads o s (Err r) = Mismatches r o
+-- one more line was read, and is one more change
+abbrev pub FitsOne : Option State → Seen → Seen → Type 0
+FitsOne o s t = (◌≡◌ {A = Option State} o (Some t.state)) × (t.changes ≡ s.changes + 1)
+
+-- The line fits, and is one more change. Else all stays, or its edit was done and noted something else than the line says.
+abbrev pub ReadsEntry : {A : Type 0} → Line → Seen → Result A Refusal → Seen → Type 0
+ReadsEntry l s (Ok u) t = FitsOne (with_entry s.state l) s t
+ReadsEntry l s (Err r) t = Mismatches r (with_entry s.state l) × ((t ≡ s) ⊎ ((n : Noted) × FitsOne (with_entry s.state (record l { noted = n })) s t))
+
+-- The line fits, and is one more change. Else all stays.
+abbrev pub ReadsUndone : {A : Type 0} → ℕ → Seen → Result A Refusal → Seen → Type 0
+ReadsUndone serial s (Ok u) t = FitsOne (with_undone s.state serial) s t
+ReadsUndone serial s (Err r) t = Mismatches r (with_undone s.state serial) × (t ≡ s)
 
 -- it fails at this place, or memory is wanted there
 abbrev pub FailsAt : Result State (Option ℕ) → JournalFault → Type 0

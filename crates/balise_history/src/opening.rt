@@ -2,9 +2,9 @@
 
 ghost use Rattle.std.specs.Prelude.{◌≡◌, ◌<◌, ◌^◌, ℕ, map, None, Some, Ok, IfErr, IfOk, MatchResult};
 ghost use Rattle.balise_edits.specs.Lines.{line_in};
-ghost use Rattle.balise_history.specs.Openings.{FailsAt, Reads};
+ghost use Rattle.balise_history.specs.Openings.{FailsAt, ReadsEntry, ReadsUndone};
 ghost use Rattle.balise_rules.specs.Accepting.{Unused};
-ghost use Rattle.balise_rules.specs.Opening.{from_entries, opened_at, with_entry, with_undone};
+ghost use Rattle.balise_rules.specs.Opening.{from_entries, opened_at};
 ghost use Rattle.balise_rules.specs.Plan.{IsSound};
 
 use crate::edited::EditedPlan;
@@ -58,16 +58,15 @@ pub fn from_entries(
     };
     let mut place = 0;
     for line in lines {
-        opening = match opening.entry(line) {
-            Ok(opening) => opening,
+        match opening.entry(line) {
+            Ok(()) => place += 1,
             Err(refusal) => {
                 return Err(JournalFault {
                     at: Some(place),
                     refusal,
                 });
             }
-        };
-        place += 1;
+        }
     }
     Ok(opening.done())
 }
@@ -90,23 +89,21 @@ impl Opening {
         })
     }
 
-    /// Does the edit of a line, where it fits. Refused as `JournalMismatch` or `OutOfMemory`, and then all is dropped.
-    pub fn entry(self, line: Line) -> Result<Opening, Refusal>
-        ensures { Reads (with_entry self.state (line_in line)) self result }
+    /// Does the edit of a line, where it fits. Refused as `JournalMismatch` or `OutOfMemory`, and then all stays, but
+    /// that an edit that noted something else than the line says is done.
+    pub fn entry(&mut self, line: Line) -> Result<(), Refusal>
+        ensures { ReadsEntry (line_in line) self.old result self.new }
     {
-        let Opening { edited } = self;
-        let edited = edited.entry(line)?;
-        Ok(Opening { edited })
+        self.edited.entry(line)
     }
 
     /// Strikes the edit of a serial, where all later ones are independent of it. Refused as `JournalMismatch` or
-    /// `OutOfMemory`, and then all is dropped.
-    pub fn undone(self, serial: u32) -> Result<Opening, Refusal>
-        ensures { Reads (with_undone self.state serial) self result }
+    /// `OutOfMemory`, and then all stays.
+    pub fn undone(&mut self, serial: u32) -> Result<(), Refusal>
+        ensures { ReadsUndone serial self.old result self.new }
     {
-        let Opening { mut edited } = self;
-        match edited.strike(serial) {
-            Ok(_) => Ok(Opening { edited }),
+        match self.edited.strike(serial) {
+            Ok(_) => Ok(()),
             Err(Refusal::OutOfMemory) => Err(Refusal::OutOfMemory),
             Err(_) => Err(Refusal::JournalMismatch),
         }

@@ -58,10 +58,7 @@ fn inserted(rt: &impl Abort, alloc: Global, after: Option<Tag>, text: &str) -> L
 /// What a line answers as the first one of a journal.
 fn answer_of(rt: &impl Abort, alloc: Global, text: &str, line: Line) -> Result<(), Refusal> {
     match opening_of(rt, alloc, &[text], 3) {
-        Ok(opening) => match opening.entry(line) {
-            Ok(_) => Ok(()),
-            Err(fault) => Err(fault),
-        },
+        Ok(mut opening) => opening.entry(line),
         Err(fault) => Err(fault),
     }
 }
@@ -75,10 +72,10 @@ pub(crate) fn read_back(
 ) -> Session {
     let mut opening = opened(rt, alloc, texts, session.next_serial());
     for line in session.lines().expect(rt, "memory") {
-        opening = entered(rt, opening, line);
+        enter(rt, &mut opening, line);
     }
     for serial in session.undone().expect(rt, "memory") {
-        opening = struck_out(rt, opening, serial);
+        strike_out(rt, &mut opening, serial);
     }
     opening.done()
 }
@@ -91,20 +88,14 @@ fn opened(rt: &impl Abort, alloc: Global, texts: &[&str], next: u32) -> Opening 
     }
 }
 
-/// The session to be with this line, which is accepted.
-fn entered(rt: &impl Abort, opening: Opening, line: Line) -> Opening {
-    match opening.entry(line) {
-        Ok(opening) => opening,
-        Err(fault) => panic!(rt; "{fault:?}"),
-    }
+/// Reads this line, which is accepted.
+fn enter(rt: &impl Abort, opening: &mut Opening, line: Line) {
+    opening.entry(line).expect(rt, "a line that fits");
 }
 
-/// The session to be where this edit is undone, which stood.
-fn struck_out(rt: &impl Abort, opening: Opening, serial: u32) -> Opening {
-    match opening.undone(serial) {
-        Ok(opening) => opening,
-        Err(fault) => panic!(rt; "{fault:?}"),
-    }
+/// Reads that this edit is undone, which stood.
+fn strike_out(rt: &impl Abort, opening: &mut Opening, serial: u32) {
+    opening.undone(serial).expect(rt, "an edit that stands");
 }
 
 #[test]
@@ -186,9 +177,10 @@ fn places_of_faults(rt: HostRuntime) {
 
 /// A session to be over one group, whose one edit is undone.
 fn one_undone(rt: &impl Abort, alloc: Global, next: u32) -> Opening {
-    let opening = opened(rt, alloc, &[REVOCATION], next);
-    let opening = entered(rt, opening, set(1, Tag::Base(0), 9, 5));
-    struck_out(rt, opening, 1)
+    let mut opening = opened(rt, alloc, &[REVOCATION], next);
+    enter(rt, &mut opening, set(1, Tag::Base(0), 9, 5));
+    strike_out(rt, &mut opening, 1);
+    opening
 }
 
 #[test]
@@ -199,24 +191,19 @@ fn what_was_undone_is_done_again(rt: HostRuntime) {
     follow(&rt, alloc, &mut session, &[(Step::Redo, Ok(1))], &[SET]);
 }
 
-/// That a journal is refused.
-fn check_mismatch(rt: &impl Abort, answer: Result<Opening, Refusal>) {
-    match answer {
-        Ok(_) => panic!(rt; "an opening"),
-        Err(fault) => assert!(rt; fault == Refusal::JournalMismatch),
-    }
-}
-
 #[test]
 fn nothing_is_struck_that_does_not_stand(rt: HostRuntime) {
-    let opening = opened(&rt, rt.alloc(), &[REVOCATION], 2);
-    check_mismatch(&rt, opening.undone(7));
+    let alloc = rt.alloc();
+    let mut opening = opened(&rt, alloc, &[REVOCATION], 2);
+    assert!(rt; opening.undone(7) == Err(Refusal::JournalMismatch));
+    assert!(rt; shows(&rt, alloc, &opening.done(), &[REVOCATION]));
 }
 
 #[test]
 fn no_entry_behind_one_undone(rt: HostRuntime) {
-    let opening = one_undone(&rt, rt.alloc(), 3);
-    check_mismatch(&rt, opening.entry(set(2, Tag::Base(0), 9, 5)));
+    let mut opening = one_undone(&rt, rt.alloc(), 3);
+    let line = set(2, Tag::Base(0), 9, 5);
+    assert!(rt; opening.entry(line) == Err(Refusal::JournalMismatch));
 }
 
 /// Puts two packets in and strikes the first of them.

@@ -1,9 +1,8 @@
 //! In which block each tag was seen last.
 
-use crate::group::Group;
+use crate::tag_hasher::GroupMap;
 use crate::tag_list::TagList;
 use balise_rules::Tag;
-use indexmap::IndexMap;
 use std::alloc::{AllocError, Global};
 
 /// The name of the block in which each tag was seen last, in the order of a map. These are guesses, which are looked at
@@ -27,13 +26,7 @@ impl Homes {
     }
 
     /// Notes the block of the tag that the map had last, which was put in at a place. There were so many blocks before.
-    pub(crate) fn put(
-        &mut self,
-        order: &TagList,
-        held: &IndexMap<Tag, Group>,
-        i: usize,
-        blocks: usize,
-    ) {
+    pub(crate) fn put(&mut self, order: &TagList, held: &GroupMap, i: usize, blocks: usize) {
         let _ = self.blocks.push(order.block_at(i));
         if order.count_blocks() > blocks {
             self.move_to_last(order, held);
@@ -41,7 +34,7 @@ impl Homes {
     }
 
     // Notes the block that was begun last for all tags in it.
-    fn move_to_last(&mut self, order: &TagList, held: &IndexMap<Tag, Group>) {
+    fn move_to_last(&mut self, order: &TagList, held: &GroupMap) {
         let (name, tags) = order.begun_last();
         for tag in tags {
             if let Some(k) = held.get_index_of(tag) {

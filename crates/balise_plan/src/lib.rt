@@ -19,6 +19,7 @@ mod plan;
 mod relink;
 mod rows;
 mod spot;
+mod tag_hasher;
 mod tag_list;
 mod walk;
 

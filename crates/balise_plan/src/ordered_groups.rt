@@ -12,10 +12,12 @@ ghost use Rattle.balise_plan.specs.Lent.{lends_group};
 use crate::group::Group;
 use crate::homes::Homes;
 use crate::order::{place_near, stands_at};
+use crate::tag_hasher::GroupMap;
 use crate::tag_list::TagList;
 use balise_rules::Tag;
 use indexmap::IndexMap;
 use std::alloc::{AllocError, Global};
+use std::hash::BuildHasherDefault;
 use std::marker::Model;
 
 /// Groups under their tags: the tags in order, and what stands under each. A group that is put in or taken out so moves
@@ -23,7 +25,7 @@ use std::marker::Model;
 #[derive(Drop)]
 pub(crate) struct OrderedGroups {
     order: TagList,
-    held: IndexMap<Tag, Group>,
+    held: GroupMap,
     // Where a group was put in or taken out last.
     near: usize,
     homes: Homes,
@@ -47,7 +49,7 @@ impl OrderedGroups {
     {
         OrderedGroups {
             order: TagList::new(alloc),
-            held: IndexMap::new(alloc),
+            held: IndexMap::with_hasher(alloc, BuildHasherDefault::new()),
             near: 0,
             homes: Homes::new(alloc),
         }
@@ -163,7 +165,7 @@ impl OrderedGroups {
 
 // The place at which a group of the plan first read is held: its number, until a group was taken out. It is a guess that
 // is looked at, and spares a look-up.
-fn own_place(held: &IndexMap<Tag, Group>, g: Tag) -> Option<usize>
+fn own_place(held: &GroupMap, g: Tag) -> Option<usize>
     ensures { IfSome result (λ i. slice_get (keys_of held.now.entries) i ≡ Some g) }
 {
     let Tag::Base(n) = g else {
@@ -176,7 +178,7 @@ fn own_place(held: &IndexMap<Tag, Group>, g: Tag) -> Option<usize>
 }
 
 // What is held under a tag.
-fn found(held: &IndexMap<Tag, Group>, g: Tag) -> Option<&Group>
+fn found(held: &GroupMap, g: Tag) -> Option<&Group>
     ensures { option_copied result ≡ find same_tag g held.now.entries }
 {
     if let Tag::Base(n) = g {
@@ -190,7 +192,7 @@ fn found(held: &IndexMap<Tag, Group>, g: Tag) -> Option<&Group>
 }
 
 // The place of a group in the map, or the end where none has the tag.
-fn held_at(held: &IndexMap<Tag, Group>, g: Tag) -> usize {
+fn held_at(held: &GroupMap, g: Tag) -> usize {
     if let Some(i) = own_place(held, g) {
         return i;
     }

@@ -64,7 +64,7 @@ packet-again version x s =
     let read : read_form (packet version) [] (take (length_said (b ++ z)) (b ++ z)) ≡ Some (x.fields, x.rest) = ap (read_form (packet version) []) own ∙ read_again (packet version) [] x.fields x.rest s.form s.numbered in
     rw (c0, n0, n1, c1, c2, c3, whole, spare, read) refl
 
-same_itself : (m : Noted) → same_noted m m ≡ true
+pub same_itself : (m : Noted) → same_noted m m ≡ true
 same_itself Nothing = refl
 same_itself (Value n) = nat_test.itself n
 same_itself (Number n) = nat_test.itself n

@@ -92,8 +92,8 @@ fn comes_next(history: &History, next: u32, serial: u32) -> bool
     history.count_undone() == 0 && last_serial(history.standing()) < serial && serial < next
 }
 
-// Does the edit of a line that may come next behind those that stand, where it fits the plan; else neither plan nor
-// history is of use any more.
+// Does the edit of a line that may come next behind those that stand. Where it notes something else than the line says,
+// it is done, and the line is refused.
 fn enter(plan: &mut Plan, history: &mut History, next: u32, line: Line) -> Result<(), Refusal>
     requires count { plan.old.changes < 2 ^ 63 }
     requires held { IsHeld plan.old.groups history.old.standing history.old.stack next }
@@ -107,34 +107,31 @@ fn enter(plan: &mut Plan, history: &mut History, next: u32, line: Line) -> Resul
         Err(Refusal::OutOfMemory) => return Err(Refusal::OutOfMemory),
         Err(_) => return Err(Refusal::JournalMismatch),
     };
-    if !same_noted(entry.noted(), line.noted) {
-        return Err(Refusal::JournalMismatch);
-    }
+    let is_told = same_noted(entry.noted(), line.noted);
     history.push(entry);
-    Ok(())
+    if is_told {
+        Ok(())
+    } else {
+        Err(Refusal::JournalMismatch)
+    }
 }
 
 impl EditedPlan {
     /// Does the edit of a line under its own serial, where it fits: nothing was undone or struck, the serial is above
     /// the last one and below the next, the edit is accepted and notes what the line says. Refused as
-    /// `JournalMismatch` or `OutOfMemory`, and then all is dropped.
-    pub(crate) fn entry(self, line: Line) -> Result<EditedPlan, Refusal>
-        requires { self.changes < 2 ^ 63 }
-        ensures { Enters (line_in line) self result }
+    /// `JournalMismatch` or `OutOfMemory`, and then all stays, but that an edit that noted something else is done.
+    pub(crate) fn entry(&mut self, line: Line) -> Result<(), Refusal>
+        requires { self.old.changes < 2 ^ 63 }
+        ensures { Enters (line_in line) self.old result self.new }
     {
         let EditedPlan {
-            mut plan,
-            mut history,
-            next,
-        } = self;
-        if !comes_next(&history, next, line.serial) {
-            return Err(Refusal::JournalMismatch);
-        }
-        enter(&mut plan, &mut history, next, line)?;
-        Ok(EditedPlan {
             plan,
             history,
             next,
-        })
+        } = self;
+        if !comes_next(history, *next, line.serial) {
+            return Err(Refusal::JournalMismatch);
+        }
+        enter(plan, history, *next, line)
     }
 }

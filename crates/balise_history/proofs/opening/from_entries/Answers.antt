@@ -19,7 +19,7 @@ returns-in-Err-entry-clause-fault c =
     let s = c.loop-line.opening.state in
     let n = c.loop-line.place in
     let w = c.loop-line.invariant.rest ∙ ap (λ (ls : List Line). with_entries n (map line_in ls) s) c.in-Some.ensures.steps.0 in
-    ⊎_elim (λ m. inl m) (λ m. inr (m.0, w ∙ ap (λ (o : Option State). or_place (Some n) o (with_entries (suc n) (map line_in c.next.new.self.rest.items))) m.1)) c.in-Err-entry.ensures
+    ⊎_elim (λ m. inl m) (λ m. inr (m.0, w ∙ ap (λ (o : Option State). or_place (Some n) o (with_entries (suc n) (map line_in c.next.new.self.rest.items))) m.1)) c.in-Err-entry.ensures.0
 
 pub overflow_add-place : goal.overflow_add-place
 overflow_add-place c = omega (arith, c.loop-line.invariant.left, c.in-Some.ensures.steps.1, c.args.lines.small)
@@ -33,7 +33,7 @@ loop-line-preserved c =
       rest =
           c.loop-line.invariant.rest ∙ ap (λ (xs : List Line). with_entries n (map line_in xs) s) c.in-Some.ensures.steps.0
           ∙ ap (λ (o : Option State). or_place (Some n) o (with_entries (suc n) ls)) c.in-Ok-entry.ensures.0
-          ∙ ap (λ (m : ℕ). with_entries m ls c.in-Ok-entry.opening.state) (sym (add-one n));
+          ∙ ap (λ (m : ℕ). with_entries m ls c.entry.new.self.state) (sym (add-one n));
       left = omega (arith, c.loop-line.invariant.left, c.in-Some.ensures.steps.1);
     }
 

@@ -1,6 +1,6 @@
 use Rattle.balise_edits.specs.Lines.{line_in}
-use Rattle.balise_history.proofs.Reading.{entry-within}
+use Rattle.balise_history.proofs.Reading.{enters-within}
 use Rattle.balise_history.proofs.opening.Opening.entry.Goals as goal
 
-pub invariant_of-result : goal.invariant_of-result
-invariant_of-result c = let t = c.in_ok-edited.ensures in entry-within c.self.inside.edited c.in_ok-edited.edited (line_in c.args.line) c.self.invariant t.0 t.1 t.2
+pub invariant_of-self : goal.invariant_of-self
+invariant_of-self c = enters-within c.self.inside.edited c.entry.new.self (line_in c.args.line) c.entry.result c.self.invariant c.entry.ensures

@@ -3,11 +3,9 @@
 
 The part that the load repeats comes COUNT times, or where COUNT is 0 until the input is as long as one may be.
 """
-import subprocess
 import sys
-import tempfile
 from itertools import count as numbers
-from pathlib import Path
+from itertools import islice
 
 from make_load import field, group, header, name, telegram
 
@@ -15,40 +13,21 @@ LONGEST_INPUT = 67_108_864
 LONGEST_LINE = 4_096
 EMPTY = "a1007f80a0327fffffffffffffffffffffffffffffffffffffffc0"
 
-# The serials, rising, whose tags the map of groups looks for at one place: it hashes with a seed that is known, by
-# multiplying to 128 bits and folding, and looks on from there slot by slot. Arguments: how many, and in how many places.
-COLLIDING = r"""
-#include <stdint.h>
-#include <stdio.h>
-#include <stdlib.h>
-static uint64_t fold(uint64_t a, uint64_t b) {
-    unsigned __int128 product = (unsigned __int128) a * b;
-    return (uint64_t) product ^ (uint64_t) (product >> 64);
-}
-int main(int count, char **words) {
-    long wanted = atol(words[1]), slots = atol(words[2]);
-    uint64_t multiplier = 0x9e3779b97f4a7c15, fresh = fold(0x243f6a8885a308d3 ^ 1, multiplier ^ 16);
-    long groups = 1;
-    while (9 * groups < wanted) groups *= 2;
-    for (uint64_t serial = 1; wanted > 0 && serial < 4000000000; serial++) {
-        uint64_t hash = fold(fresh ^ (serial | serial << 32), multiplier ^ 8);
-        if (((hash ^ hash >> 32) & (uint64_t) (groups - 1)) < (uint64_t) slots) {
-            printf("%lu\n", (unsigned long) serial);
-            wanted--;
-        }
-    }
-    return wanted > 0 && count > 0;
-}
-"""
+# What the map of groups adds to the serial of a group that was added, before it looks at the lowest bits alone.
+FRESH = 0x9E3779B1
+LARGEST_SERIAL = 4_000_000_000
 
 
 def colliding(wanted):
-    with tempfile.TemporaryDirectory() as folder:
-        source, program = Path(folder) / "colliding.c", Path(folder) / "colliding"
-        source.write_text(COLLIDING)
-        subprocess.run(["cc", "-O2", "-o", program, source], check=True)
-        places = str(max(1, wanted // 20_000))
-        return subprocess.run([program, str(wanted), places], check=True, capture_output=True, text=True).stdout.split()
+    """Serials, rising, whose tags the map looks for at one place, or as few as there are serials enough for; from there it
+    looks on place by place."""
+    places = 1
+    while 9 * places < wanted:
+        places *= 2
+    taken = wanted * places // LARGEST_SERIAL + 1
+    first = sorted((place - FRESH) % places for place in range(taken))
+    serials = (turn * places + serial for turn in numbers() for serial in first)
+    return list(islice((serial for serial in serials if serial > 0), wanted))
 
 
 def long_telegram(head, packets):
@@ -208,7 +187,7 @@ def turns_of_one_named(steps):
 def added_by_journal(serials):
     """A journal that adds a group behind the last for each serial."""
     yield "plan 1"
-    yield f"journal 2 {int(serials[-1]) + 1}"
+    yield f"journal 2 {serials[-1] + 1}"
     last = "^"
     for i, serial in enumerate(serials):
         yield f"{serial} add {last} {group(i)}"

@@ -21,10 +21,7 @@ fn main(rt: HostRuntime) -> Result<()> {
         "groups" => groups::run(&rt),
         "packets" => packets::run(&rt),
         "plans" => plans::run(&rt),
-        "telegrams" => match words.next() {
-            Some(form) => telegrams::run(&rt, form.as_str()),
-            None => bail!("which form? packed, open"),
-        },
+        "telegrams" => telegrams::run(&rt),
         other => bail!("no layer is called {other}"),
     }
 }

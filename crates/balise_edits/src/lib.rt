@@ -19,7 +19,7 @@ mod reviewing;
 
 pub use balise_plan::{
     Address, Balise, Bits, Group, GroupTag, Id, LinkPlace, Packet, PacketTag, Place, Plan, Refusal,
-    Refusal as EditFault, Spot, Tag, Telegram, Var,
+    Refusal as EditFault, Spot, Tag, Var,
 };
 pub use balise_rules::{ReviewLine, Reviewed};
 pub use doing::{again, apply, take_back};

@@ -28,7 +28,7 @@ pub use balise_layout::{Id, Packet, Var};
 pub use balise_rules::{
     Address, Place, Refusal, Refusal as PlanFault, Tag, Tag as GroupTag, Tag as PacketTag,
 };
-pub use balise_telegram::{Balise, Telegram};
+pub use balise_telegram::Balise;
 pub use group::Group;
 pub use group_reader::GroupReader;
 pub use link_set::Links;

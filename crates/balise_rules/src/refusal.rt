@@ -4,106 +4,74 @@ ghost use Rattle.std.specs.Prelude.{◌≡◌};
 ghost use Rattle.balise_rules.specs.Refusals.{name_of, number_of};
 
 use std::alloc::{AllocError, AllocFailed};
-use thiserror::Error;
+use std::{error, fmt};
 
-/// Why something is refused, by the number and the name that are printed.
-#[derive(Clone, Copy, Debug, Error, PartialEq, Eq)]
+/// Why something is refused. It is shown as its name, as in `DependsOn`.
+#[derive(Clone, Copy, Debug, PartialEq, Eq)]
 pub enum Refusal {
     /// 1: a line isn't of its grammar, or the input ends too early.
-    #[error("a line isn't of its grammar, or the input ends too early")]
     BadLine,
     /// 2: a digit isn't hexadecimal, or their number is odd.
-    #[error("a digit isn't hexadecimal, or their number is odd")]
     BadHex,
     /// 3: the number of digits or bits isn't the one due.
-    #[error("the number of digits or bits isn't the one due")]
     BadLength,
     /// 4: a bit after the last of the text isn't zero.
-    #[error("a bit after the last of the text isn't zero")]
     SpareBits,
     /// 5: the telegram isn't from track to train, or isn't a balise's.
-    #[error("the telegram isn't from track to train, or isn't a balise's")]
     NotABalise,
     /// 6: the telegram ends before its packet 255.
-    #[error("the telegram ends before its packet 255")]
     NoEnd,
     /// 7: a packet is shorter than its first three fields, or runs past the end.
-    #[error("a packet is shorter than its first three fields, or runs past the end")]
     PacketCut,
     /// 8: a known packet's fields don't end with the packet, or have a spare value that isn't read.
-    #[error("a known packet's fields don't end with the packet, or have a spare value that isn't read")]
     LayoutMismatch,
     /// 9: packet 0 has no length.
-    #[error("packet 0 has no length")]
     PacketZero,
     /// 10: a group has no telegram, or a ninth.
-    #[error("a group has no telegram, or a ninth")]
     GroupSize,
     /// 11: a header disagrees with its place in the group, or with the first header.
-    #[error("a header disagrees with its place in the group, or with the first header")]
     HeaderDisagrees,
     /// 12: 16383 is no group's number.
-    #[error("16383 is no group's number")]
     NumberReserved,
     /// 13: a group with this identity stands.
-    #[error("a group with this identity stands")]
     GroupTwice,
     /// 14: no such group.
-    #[error("no such group")]
     NoSuchGroup,
     /// 15: no such telegram in the group.
-    #[error("no such telegram in the group")]
     NoSuchTelegram,
     /// 16: no such packet in the telegram.
-    #[error("no such packet in the telegram")]
     NoSuchPacket,
     /// 17: no such variable, or not this occurrence.
-    #[error("no such variable, or not this occurrence")]
     NoSuchVariable,
     /// 18: the variable isn't set in place.
-    #[error("the variable isn't set in place")]
     Steering,
     /// 19: the value doesn't fit its width.
-    #[error("the value doesn't fit its width")]
     ValueTooWide,
     /// 20: the packet is longer than the room.
-    #[error("the packet is longer than the room")]
     NoRoom,
     /// 21: a group or a link has the number.
-    #[error("a group or a link has the number")]
     NumberTaken,
     /// 22: the packet stands there.
-    #[error("the packet stands there")]
     SamePlace,
     /// 23: no edit stands.
-    #[error("no edit stands")]
     NothingToUndo,
     /// 24: nothing was undone or struck.
-    #[error("nothing was undone or struck")]
     NothingToRedo,
     /// 25: no standing edit has this serial.
-    #[error("no standing edit has this serial")]
     NoSuchEdit,
     /// 26: a later edit isn't independent; this is the first such edit's serial.
-    #[error("edit {0} depends on it")]
     DependsOn(u32),
     /// 27: the journal doesn't fit the plan.
-    #[error("the journal doesn't fit the plan")]
     JournalMismatch,
     /// 28: the session took its 1,000,000 commands.
-    #[error("the session took its 1,000,000 commands")]
     Worn,
     /// 29: a line or the input is too long.
-    #[error("a line or the input is too long")]
     InputTooLong,
     /// 30: out of memory.
-    #[error("out of memory")]
     OutOfMemory,
     /// 31: the input can't be read.
-    #[error("the input can't be read")]
     ReadFault,
     /// 32: the output can't be written.
-    #[error("the output can't be written")]
     WriteFault,
 }
 
@@ -190,6 +158,14 @@ impl Refusal {
         }
     }
 }
+
+impl fmt::Display for Refusal {
+    fn fmt<W: fmt::Write>(&self, f: &mut fmt::Formatter<W>) -> fmt::Result {
+        f.write_str(self.name())
+    }
+}
+
+impl error::Error for Refusal {}
 
 impl From<AllocError> for Refusal {
     ghost use Rattle.balise_rules.specs.declared.refusal.Refusal.TheVariants.{OutOfMemory};

@@ -117,16 +117,6 @@ impl Telegram {
         self.packets.len()
     }
 
-    /// The packet at a place, from 0, with its tag.
-    pub fn at(&self, i: usize) -> Option<(PacketTag, &Packet)>
-        ensures { option_map (λ p. (p.0, p.1.now)) result ≡ slice_get self.now.packets i }
-    {
-        match self.packets.get(i) {
-            Some((tag, packet)) => Some((*tag, packet)),
-            None => None,
-        }
-    }
-
     /// The tag and NID_PACKET of the packet at a place, from 0.
     pub fn packet_at(&self, i: usize) -> Option<(PacketTag, u32)>
         ensures { result ≡ option_map (λ q. (q.0, value NidPacket 0 q.1.fields)) (slice_get self.now.packets i) }

@@ -1,5 +1,5 @@
 #!/usr/bin/env bash
-# Times the holding of a whole plan: all its telegrams are read, held at once, as bits alone or open, and printed again.
+# Times the holding of a whole plan: all its telegrams are read, held at once as their bits, and printed again.
 # Another program that reads and prints a plan may be named: it is timed in the same run.
 set -eu
 cd "$(dirname "$0")/.."
@@ -21,7 +21,7 @@ grep -vx edits "$folder/input" > "$folder/plan"
 python3 - "$folder" "$program" "$other" <<'MEASURE'
 import filecmp, os, subprocess, sys
 folder, program, other = sys.argv[1:]
-runs = {form: ([program, "telegrams", form], "sorted") for form in ("packed", "open")}
+runs = {"packed": ([program, "telegrams"], "sorted")}
 if other:
     runs["other"] = ([other], "plan")
 times, most = {form: [] for form in runs}, dict.fromkeys(runs, 0)

@@ -293,35 +293,3 @@ no_place {V} xs q e = by (indexed xs q) e
     by : (o : Option V) → is_some (option_map (pair q) o) ≡ false → o ≡ None
     by None h = refl
     by (Some v) h = absurd (true≢false h)
-
--- ---- the same once more
-
--- a list of rows that have the same cells
-pub cells_cloned : {Z : Type 0} (R : Vec ℕ Z → Vec ℕ Z → Type 0) → ((u v : Vec ℕ Z) → R u v → u.items ≡ v.items) → (rows cells : List (Vec ℕ Z)) → AllZip R rows cells → (q : Id) → cell_of cells q ≡ cell_of rows q
-cells_cloned {Z} R h rows cells z q = by q.country rows cells z
-  where
-    by : (n : ℕ) (l m : List (Vec ℕ Z)) → AllZip R l m → option_and_then (λ (row : Vec ℕ Z). slice_get row.items q.number) (slice_get m n) ≡ option_and_then (λ (row : Vec ℕ Z). slice_get row.items q.number) (slice_get l n)
-    by n [] [] z = refl
-    by n [] (y ∷ ys) z = absurd z
-    by n (x ∷ xs) [] z = absurd z
-    by zero (x ∷ xs) (y ∷ ys) z = ap (λ l. slice_get l q.number) (sym (h x y z.0))
-    by (suc n) (x ∷ xs) (y ∷ ys) z = by n xs ys z.1
-
-pub placed_cloned : {V Z : Type 0} (R : Id × V → Id × V → Type 0) → ((s t : Id × V) → R s t → s.0 ≡ t.0) → (xs ys : List (Id × V)) (rows cells : List (Vec ℕ Z)) → AllZip R xs ys → ((q : Id) → cell_of cells q ≡ cell_of rows q) → IsPlaced xs rows → IsPlaced ys cells
-placed_cloned {V} R h xs ys rows cells z same at = record {
-  few = omega (arith, at.few, long xs ys z);
-  placed = λ i t e. let b = back xs ys i t z e in same t.0 ∙ ap (cell_of rows) (sym b.2) ∙ at.placed i b.0 b.1;
-}
-  where
-    long : (xs ys : List (Id × V)) → AllZip R xs ys → length xs ≡ length ys
-    long [] [] z = refl
-    long [] (y ∷ ys) z = absurd z
-    long (x ∷ xs) [] z = absurd z
-    long (x ∷ xs) (y ∷ ys) z = ap suc (long xs ys z.1)
-
-    back : (xs ys : List (Id × V)) (i : ℕ) (t : Id × V) → AllZip R xs ys → slice_get ys i ≡ Some t → (s : Id × V) × (slice_get xs i ≡ Some s) × (s.0 ≡ t.0)
-    back [] [] i t z e = cc
-    back [] (y ∷ ys) i t z e = absurd z
-    back (x ∷ xs) [] i t z e = absurd z
-    back (x ∷ xs) (y ∷ ys) zero t z e = (x, refl, h x y z.0 ∙ ap (λ (u : Id × V). u.0) (unsome e))
-    back (x ∷ xs) (y ∷ ys) (suc i) t z e = back xs ys i t z.1 e

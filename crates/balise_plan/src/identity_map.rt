@@ -102,18 +102,6 @@ impl<V: Drop> IdentityMap<V> {
     }
 }
 
-impl<V: Clone> IdentityMap<V> {
-    /// The same once more.
-    pub(crate) fn copy(&self) -> Result<IdentityMap<V>, AllocError>
-        ensures { IfOk result (λ m. AllZip (λ p q. (q.0 ≡ p.0) × V.is_clone p.1 q.1) self.now m) }
-    {
-        Ok(IdentityMap {
-            slots: self.slots.clone()?,
-            rows: self.rows.clone()?,
-        })
-    }
-}
-
 // The place of an identity's slot, or the end.
 fn place<V>(slots: &Vec<(Id, V)>, rows: &Vec<Vec<u32>>, id: Id) -> usize
     requires { IsPlaced slots.now.items rows.now.items }

@@ -189,17 +189,3 @@ fn list_of(alloc: Global, tree: &BTreeSet<LinkPlace>) -> Result<Vec<LinkPlace>, 
     }
     Ok(list)
 }
-
-impl Clone for Links {
-    ghost is_clone = { λ old new. new ≡ old };
-
-    fn clone(&self) -> Result<Links, AllocError> {
-        let held = match &self.held {
-            Held::Empty => Held::Empty,
-            Held::One(held) => Held::One(*held),
-            Held::Few(list) => Held::Few(list.clone()?),
-            Held::Many(tree) => Held::Many(tree.clone()?),
-        };
-        Ok(Links { held })
-    }
-}

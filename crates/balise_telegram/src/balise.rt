@@ -53,7 +53,8 @@ impl Model for Balise {
 impl Balise {
     /// The telegram that these bits are, its packets tagged `Base` by their places, from 0. Takes no memory.
     ///
-    /// Refused as `Telegram::read` refuses.
+    /// Refused in this order: `BadLength` for another number of bits, `NotABalise`, and then the first of what is
+    /// wrong from bit 50 on.
     pub fn read(bits: Bits) -> Result<Balise, TelegramFault>
         ensures ok { IfOk result (λ b. read_telegram bits ≡ Ok b) }
         ensures memory { IfErr result (λ e. e ≢ TelegramFault.OutOfMemory) }

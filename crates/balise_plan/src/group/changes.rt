@@ -16,7 +16,7 @@ use balise_telegram::Balise;
 
 impl Group {
     /// Sets a field of a packet of one telegram.
-    pub fn set_field(
+    pub(crate) fn set_field(
         &mut self,
         t: u32,
         p: Tag,
@@ -38,7 +38,7 @@ impl Group {
     }
 
     /// Sets a field of the header of one telegram.
-    pub fn set_head(&mut self, t: u32, var: Var, value: u32) -> Result<u32, Refusal>
+    pub(crate) fn set_head(&mut self, t: u32, var: Var, value: u32) -> Result<u32, Refusal>
         ensures { Within eqb t no_telegram (Passed (SetsHead var value)) self.old result self.new }
     {
         let Some(i) = find(&self.telegrams, t) else {
@@ -54,7 +54,7 @@ impl Group {
 
     /// The identities of the elements of a packet of one telegram, one each in order, with number 16383 kept: none
     /// where the packet isn't there.
-    pub fn links(&self, t: u32, p: Tag) -> Result<Vec<Id>, Refusal>
+    pub(crate) fn links(&self, t: u32, p: Tag) -> Result<Vec<Id>, Refusal>
         ensures ok { IfOk result (λ links. LinksIn t p self.now links.items) }
         ensures fault { IfErr result (λ e. NoLinks t self.now e) }
     {
@@ -70,7 +70,7 @@ impl Group {
     }
 
     /// Takes a packet out of one telegram.
-    pub fn take_packet(&mut self, t: u32, p: Tag) -> Result<(Packet, Option<Tag>), Refusal>
+    pub(crate) fn take_packet(&mut self, t: u32, p: Tag) -> Result<(Packet, Option<Tag>), Refusal>
         ensures { Within eqb t no_telegram (Passed (OrWants (TakesOut p))) self.old result self.new }
     {
         let Some(i) = find(&self.telegrams, t) else {

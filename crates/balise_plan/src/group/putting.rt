@@ -28,7 +28,7 @@ impl Group {
     }
 
     /// Puts a packet into one telegram under a tag that is new there.
-    pub fn put_packet(
+    pub(crate) fn put_packet(
         &mut self,
         t: u32,
         spot: Spot<Tag>,
@@ -46,7 +46,7 @@ impl Group {
     }
 
     /// Moves a packet within one telegram.
-    pub fn shift_packet(&mut self, t: u32, p: Tag, spot: Spot<Tag>) -> Result<Option<Tag>, Refusal>
+    pub(crate) fn shift_packet(&mut self, t: u32, p: Tag, spot: Spot<Tag>) -> Result<Option<Tag>, Refusal>
         ensures { Within eqb t lacking (Passed (OrWants (ShiftsIn spot p))) self.old result self.new }
     {
         let Some(i) = find(&self.telegrams, t) else {

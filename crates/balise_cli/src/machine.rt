@@ -95,16 +95,22 @@ impl Machine {
         Machine::Header
     }
 
+    // Stands there from now on. What it was is dropped here and nowhere else.
+    fn set(&mut self, next: Machine)
+        ensures { self.new ≡ next }
+    {
+        *self = next;
+    }
+
     // Reads a line of the plan, but for one in a group.
-    fn read_line(&mut self, alloc: Global, number: u64, line: &[u8]) -> Result<Taken, RunFault>
+    fn read_line(&mut self, alloc: Global, number: u64, line: &[u8]) -> Taken
         requires { IsBeside (phase_of self.old) }
-        ensures ok { IfOk result (DidRead (read_line (phase_of self.old) number line.now)) }
-        ensures fault { IfErr result (λ e. e ≡ RunFault.OutOfMemory) }
+        ensures { DidRead (read_line (phase_of self.old) number line.now) result }
     {
         match self {
-            Machine::Header => Ok(read_first_line(alloc, number, line)),
+            Machine::Header => read_first_line(alloc, number, line),
             Machine::Between(plan) => {
-                Ok(read_between(alloc, plan, number, read_plan_line(line), line))
+                read_between(alloc, plan, number, read_plan_line(line), line)
             }
             Machine::InGroup(_, _, _) => unreachable!(),
             Machine::InJournal(_, _) => unreachable!(),
@@ -125,7 +131,7 @@ impl Machine {
     {
         match taken {
             Taken::Good(next) => {
-                *self = next;
+                self.set(next);
                 Ok(None)
             }
             Taken::Bad(number, refusal) => match finish_bad(writer, number, refusal) {
@@ -238,7 +244,7 @@ impl Machine {
         ensures { phase_of self.new ≡ at_commands (phase_of self.old) }
     {
         match mem::replace(self, Machine::Header) {
-            Machine::InJournal(_, opening) => *self = Machine::Commands(opening.done(), false),
+            Machine::InJournal(_, opening) => self.set(Machine::Commands(opening.done(), false)),
             _ => unreachable!(),
         }
     }
@@ -259,10 +265,8 @@ impl Machine {
         ensures cause { IfErr result (IsCause writer.old.failed writer.new.failed) }
         ensures written { OnErr result (DidSome flags (phase_of self.old) number line.now (W.contents writer.old.inner) (W.contents writer.new.inner)) }
     {
-        match self.read_line(alloc, number, line) {
-            Err(fault) => Err(fault),
-            Ok(taken) => self.go_on(taken, writer),
-        }
+        let taken = self.read_line(alloc, number, line);
+        self.go_on(taken, writer)
     }
 
     /// Does one line and writes what it gives: a status where the run is over.

@@ -145,12 +145,12 @@ pub is-noted-else : (p : Plan) (h : History) (next : ℕ) (l : Line) → HeldIn 
 is-noted-else p h next l o c e g r n f q k x a b d =
     let m = noted_of e (noted e p.groups) in
     let w = is-entered p h next (record l { noted = m }) o c e g r (same_itself m) f q k x a b d in
-    (inr (refl, not-noted p h next l o c e g r n), inr (m, w))
+    (inr (refl, not-noted p h next l o c e g r n), inr (refl, (m, w)))
 
 -- what stays is held
 pub enters-held : {A : Type 0} (l : Line) (next : ℕ) (p : Plan) (h : History) (r : Result A Refusal) (q : Plan) (k : History) → HeldIn p h next → EntersIn l next p h r q k → HeldIn q k next
 enters-held l next p h (Ok u) q k o w = w.0
-enters-held l next p h (Err r) q k o w = ⊎_elim (λ s. stays s.0 s.1 s.2) (λ n. n.1.0) w.1
+enters-held l next p h (Err r) q k o w = ⊎_elim (λ s. stays s.0 s.1 s.2) (λ n. n.1.1.0) w.1
   where
     stays : q ≡ p → k.standing ≡ h.standing → k.stack ≡ h.stack → HeldIn q k next
     stays a b c =
@@ -162,7 +162,7 @@ enters-held l next p h (Err r) q k o w = ⊎_elim (λ s. stays s.0 s.1 s.2) (λ 
 pub enters-seen : {A : Type 0} (l : Line) (next : ℕ) (p : Plan) (h : History) (r : Result A Refusal) (q : Plan) (k : History) → EntersIn l next p h r q k → Enters l (view p h next) r (view q k next)
 enters-seen l next p h (Ok u) q k w = (w.1, w.2, few-held q.groups k.standing k.stack next w.0)
 enters-seen l next p h (Err r) q k w =
-    (w.0, ⊎_elim (λ s. inl (stays s.0 s.1 s.2)) (λ n. inr (n.0, (n.1.1, n.1.2, few-held q.groups k.standing k.stack next n.1.0))) w.1)
+    (w.0, ⊎_elim (λ s. inl (stays s.0 s.1 s.2)) (λ n. inr (n.0, (n.1.0, (n.1.1.1, n.1.1.2, few-held q.groups k.standing k.stack next n.1.1.0)))) w.1)
   where
     stays : q ≡ p → k.standing ≡ h.standing → k.stack ≡ h.stack → view q k next ≡ view p h next
     stays a b c =

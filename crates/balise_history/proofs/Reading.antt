@@ -56,11 +56,11 @@ entry-within s t l o h c f =
 -- what a line leaves, whether it fits or not
 pub enters-within : {A : Type 0} (s t : Edited) (l : Line) (r : Result A Refusal) → IsOpening s → Enters l s r t → IsOpening t
 enters-within s t l (Ok u) o w = entry-within s t l o w.0 w.1 w.2
-enters-within s t l (Err r) o w = ⊎_elim (λ e. subst IsOpening (sym e) o) (λ n. entry-within s t (record l { noted = n.0 }) o n.1.0 n.1.1 n.1.2) w.1
+enters-within s t l (Err r) o w = ⊎_elim (λ e. subst IsOpening (sym e) o) (λ n. entry-within s t (record l { noted = n.1.0 }) o n.1.1.0 n.1.1.1 n.1.1.2) w.1
 
 pub entry-read : {A : Type 0} (s t : Edited) (l : Line) (r : Result A Refusal) → Enters l s r t → ReadsEntry l (seen_at 0 s) r (seen_at 0 t)
 entry-read s t l (Ok u) w = (w.0, w.1)
-entry-read s t l (Err r) w = (w.0, ⊎_elim (λ e. inl (ap (seen_at 0) e)) (λ n. inr (n.0, (n.1.0, n.1.1))) w.1)
+entry-read s t l (Err r) w = (w.0, ⊎_elim (λ e. inl (ap (seen_at 0) e)) (λ n. inr (n.0, (n.1.0, (n.1.1.0, n.1.1.1)))) w.1)
 
 -- one more struck
 pub record OneStruck (s t : State) : Type 0 where

@@ -26,12 +26,12 @@ EntersOneIn l next p h q k =
     × (◌≡◌ {A = Option State} (with_entry (state_at 0 (seen p.groups h.standing h.stack next p.changes)) l) (Some (state_at 0 (seen q.groups k.standing k.stack next q.changes))))
     × (q.changes ≡ p.changes + 1)
 
--- a refused line leaves all as it was, or its edit was done and noted something else than the line says
+-- a refused line leaves all as it was; or it doesn't fit, since its edit was done and noted something else than the line says
 abbrev pub EntersIn : {A : Type 0} → Line → ℕ → Plan → History → Result A Refusal → Plan → History → Type 0
 EntersIn l next p h (Ok u) q k = EntersOneIn l next p h q k
 EntersIn l next p h (Err r) q k =
     Mismatches r (with_entry (state_at 0 (seen p.groups h.standing h.stack next p.changes)) l)
-    × (((q ≡ p) × (k.standing ≡ h.standing) × (k.stack ≡ h.stack)) ⊎ ((n : Noted) × EntersOneIn (record l { noted = n }) next p h q k))
+    × (((q ≡ p) × (k.standing ≡ h.standing) × (k.stack ≡ h.stack)) ⊎ ((r ≡ JournalMismatch) × ((n : Noted) × EntersOneIn (record l { noted = n }) next p h q k)))
 
 -- a line's edit is done behind those that stand, by one change
 abbrev pub EntersOne : Line → Edited → Edited → Type 0
@@ -39,7 +39,7 @@ EntersOne l s t = (◌≡◌ {A = Option State} (with_entry (state_at 0 s) l) (S
 
 abbrev pub Enters : {A : Type 0} → Line → Edited → Result A Refusal → Edited → Type 0
 Enters l s (Ok u) t = EntersOne l s t
-Enters l s (Err r) t = Mismatches r (with_entry (state_at 0 s) l) × ((t ≡ s) ⊎ ((n : Noted) × EntersOne (record l { noted = n }) s t))
+Enters l s (Err r) t = Mismatches r (with_entry (state_at 0 s) l) × ((t ≡ s) ⊎ ((r ≡ JournalMismatch) × ((n : Noted) × EntersOne (record l { noted = n }) s t)))
 
 -- what a session that is read from a journal stays within
 pub record IsOpening (e : Edited) : Type 0 where
@@ -52,10 +52,10 @@ pub record IsOpening (e : Edited) : Type 0 where
 abbrev pub FitsOne : Option State → Seen → Seen → Type 0
 FitsOne o s t = (◌≡◌ {A = Option State} o (Some t.state)) × (t.changes ≡ s.changes + 1)
 
--- The line fits, and is one more change. Else all stays, or its edit was done and noted something else than the line says.
+-- The line fits, and is one more change. Else all stays; or it doesn't fit, since its edit was done and noted something else than the line says.
 abbrev pub ReadsEntry : {A : Type 0} → Line → Seen → Result A Refusal → Seen → Type 0
 ReadsEntry l s (Ok u) t = FitsOne (with_entry s.state l) s t
-ReadsEntry l s (Err r) t = Mismatches r (with_entry s.state l) × ((t ≡ s) ⊎ ((n : Noted) × FitsOne (with_entry s.state (record l { noted = n })) s t))
+ReadsEntry l s (Err r) t = Mismatches r (with_entry s.state l) × ((t ≡ s) ⊎ ((r ≡ JournalMismatch) × ((n : Noted) × FitsOne (with_entry s.state (record l { noted = n })) s t)))
 
 -- The line fits, and is one more change. Else all stays.
 abbrev pub ReadsUndone : {A : Type 0} → ℕ → Seen → Result A Refusal → Seen → Type 0

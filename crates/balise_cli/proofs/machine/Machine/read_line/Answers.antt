@@ -4,6 +4,6 @@ use Rattle.balise_cli.specs.Output.{read_line}
 use Rattle.balise_cli.specs.declared.machine.Machine.{Machine}
 use Rattle.balise_cli.proofs.machine.Machine.read_line.Goals as goal
 
-pub returns-in-Header-clause-ok : goal.returns-in-Header-clause-ok
-returns-in-Header-clause-ok c =
+pub returns-in-Header : goal.returns-in-Header
+returns-in-Header c =
     subst (λ (m : Machine). DidRead (read_line (phase_of m) c.args.number c.args.line.now) c.read_first_line.result) (sym c.in-Header.is) c.read_first_line.ensures

@@ -18,7 +18,6 @@ ghost use Rattle.balise_telegram.specs.Setting.{field_at};
 
 use crate::PacketTag;
 use crate::fault::TelegramFault;
-use crate::header::Header;
 use crate::packed::PackedTelegram;
 use crate::telegram::Telegram;
 use balise_bits::Bits;
@@ -118,16 +117,6 @@ impl Balise {
         match &self.held {
             Held::Packed(telegram) => telegram.room(),
             Held::Open(telegram) => telegram.room(),
-        }
-    }
-
-    /// Its header.
-    pub fn header(&self) -> Header
-        ensures { result ≡ self.now.head }
-    {
-        match &self.held {
-            Held::Packed(telegram) => telegram.header(),
-            Held::Open(telegram) => telegram.header(),
         }
     }
 

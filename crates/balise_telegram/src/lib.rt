@@ -13,4 +13,3 @@ pub use balise_bits::{Bits, BitsFault};
 pub use balise_layout::{LayoutFault, Packet};
 pub use balise_rules::{Id, Refusal, Tag as PacketTag, Var};
 pub use fault::TelegramFault;
-pub use header::Header;

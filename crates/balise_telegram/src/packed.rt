@@ -91,13 +91,6 @@ impl PackedTelegram {
         self.packed.len()
     }
 
-    /// Its header.
-    pub fn header(&self) -> Header
-        ensures { result ≡ self.now.head }
-    {
-        Header::read(&self.packed)
-    }
-
     /// The value of a variable of the header, where a header has it.
     pub fn head(&self, var: Var) -> Option<u32>
         ensures { result ≡ field_of var 0 self.now.head }

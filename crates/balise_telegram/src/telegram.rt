@@ -186,13 +186,6 @@ impl Telegram {
         Ok(found)
     }
 
-    /// Its header.
-    pub fn header(&self) -> Header
-        ensures { result ≡ self.now.head }
-    {
-        self.header.copy()
-    }
-
     /// The value of a variable of the header, where a header has it.
     pub fn head(&self, var: Var) -> Option<u32>
         ensures { result ≡ field_of var 0 self.now.head }

@@ -11,69 +11,108 @@ const NONE: Flags = Flags {
     json: false,
 };
 
-#[test]
-fn each_argument(rt: HostRuntime) {
-    let quiet = Flags {
-        quiet: true,
-        ..NONE
-    };
-    let stop = Flags { stop: true, ..NONE };
-    let journal = Flags {
-        journal: true,
-        ..NONE
-    };
-    let json = Flags { json: true, ..NONE };
-    let rows: [(&[&str], Flags); 6] = [
-        (&["baliseplan"], NONE),
-        (&["baliseplan", "--quiet"], quiet),
-        (&["baliseplan", "--stop"], stop),
-        (&["baliseplan", "--journal"], journal),
-        (&["baliseplan", "--json"], json),
-        (&["baliseplan", "--json", "--"], json),
-    ];
-    for (words, wanted) in rows {
-        let read = flags(rt.alloc(), words).expect(&rt, "flags");
-        assert_eq!(rt; read, wanted);
+const QUIET: Flags = Flags {
+    quiet: true,
+    stop: false,
+    journal: false,
+    json: false,
+};
+
+const STOP: Flags = Flags {
+    quiet: false,
+    stop: true,
+    journal: false,
+    json: false,
+};
+
+const JOURNAL: Flags = Flags {
+    quiet: false,
+    stop: false,
+    journal: true,
+    json: false,
+};
+
+const JSON: Flags = Flags {
+    quiet: false,
+    stop: false,
+    journal: false,
+    json: true,
+};
+
+const ALL: Flags = Flags {
+    quiet: true,
+    stop: true,
+    journal: true,
+    json: true,
+};
+
+/// Arguments, and the flags that they are read as.
+const READ: &[(&[&str], Flags)] = &[
+    (&["baliseplan"], NONE),
+    (&["baliseplan", "--quiet"], QUIET),
+    (&["baliseplan", "--stop"], STOP),
+    (&["baliseplan", "--journal"], JOURNAL),
+    (&["baliseplan", "--json"], JSON),
+    (&["baliseplan", "--json", "--"], JSON),
+    (
+        &["baliseplan", "--json", "--quiet", "--stop", "--journal"],
+        ALL,
+    ),
+];
+
+fn check_read(rt: &impl Abort, answer: &Result<Flags, ArgumentsFault>, wanted: Flags) {
+    match answer {
+        Ok(read) => assert!(rt; *read == wanted),
+        Err(_) => assert!(rt; false),
     }
 }
 
 #[test]
-fn all_arguments(rt: HostRuntime) {
-    let words = ["baliseplan", "--json", "--quiet", "--stop", "--journal"];
-    let read = flags(rt.alloc(), &words).expect(&rt, "flags");
-    assert!(rt; read.quiet && read.stop && read.journal && read.json);
-}
-
-#[test]
-fn help(rt: HostRuntime) {
-    for word in ["--help", "-h"] {
-        let read = flags(rt.alloc(), &["baliseplan", "--quiet", word]);
-        assert!(rt; matches!(read, Err(ArgumentsFault::Help(_))));
+fn each_argument_and_all(rt: HostRuntime) {
+    for (words, wanted) in READ.iter() {
+        check_read(&rt, &flags(rt.alloc(), *words), *wanted);
     }
 }
 
-#[test]
-fn version(rt: HostRuntime) {
-    for word in ["--version", "-V"] {
-        let read = flags(rt.alloc(), &["baliseplan", word, "--loud"]);
-        assert!(rt; matches!(read, Err(ArgumentsFault::Version(_))));
-    }
+fn is_help(answer: &Result<Flags, ArgumentsFault>) -> bool {
+    matches!(answer, Err(ArgumentsFault::Help(_)))
 }
+
+fn is_version(answer: &Result<Flags, ArgumentsFault>) -> bool {
+    matches!(answer, Err(ArgumentsFault::Version(_)))
+}
+
+fn is_other(answer: &Result<Flags, ArgumentsFault>) -> bool {
+    matches!(answer, Err(ArgumentsFault::Other(_)))
+}
+
+#[test]
+fn help_and_version(rt: HostRuntime) {
+    let alloc = rt.alloc();
+    assert!(rt; is_help(&flags(alloc, &["baliseplan", "--quiet", "--help"])));
+    assert!(rt; is_help(&flags(alloc, &["baliseplan", "--quiet", "-h"])));
+    assert!(rt; is_version(&flags(alloc, &["baliseplan", "--version", "--loud"])));
+    assert!(rt; is_version(&flags(alloc, &["baliseplan", "-V", "--loud"])));
+}
+
+/// Arguments that aren't known, or given twice.
+const OTHERS: &[&[&str]] = &[
+    &["baliseplan", "--loud"],
+    &["baliseplan", "-q"],
+    &["baliseplan", "--quiet=true"],
+    &["baliseplan", "--qui"],
+    &["baliseplan", "plan"],
+    &["baliseplan", "-"],
+    &["baliseplan", ""],
+    &["baliseplan", "--quiet", "--quiet"],
+    &["baliseplan", "--", "--quiet"],
+    &["baliseplan", "--loud", "--help"],
+];
 
 #[test]
 fn others(rt: HostRuntime) {
-    for word in ["--loud", "-q", "--quiet=true", "--qui", "plan", "-", ""] {
-        let read = flags(rt.alloc(), &["baliseplan", word]);
-        assert!(rt; matches!(read, Err(ArgumentsFault::Other(_))));
-    }
-    let rows: [&[&str]; 3] = [
-        &["baliseplan", "--quiet", "--quiet"],
-        &["baliseplan", "--", "--quiet"],
-        &["baliseplan", "--loud", "--help"],
-    ];
-    for words in rows {
-        let read = flags(rt.alloc(), words);
-        assert!(rt; matches!(read, Err(ArgumentsFault::Other(_))));
+    for words in OTHERS.iter() {
+        assert!(rt; is_other(&flags(rt.alloc(), *words)));
     }
 }
 
@@ -86,14 +125,21 @@ fn texts(rt: HostRuntime) {
     check_text(&rt, alloc, "--loud", LOUD)
 }
 
+/// That the fault of this argument is shown so.
 fn check_text(rt: &impl Abort, alloc: Global, word: &str, wanted: &str) {
-    let words = ["baliseplan", word];
-    let Err(fault) = flags(alloc, &words) else {
-        assert!(rt; false);
-        return;
-    };
+    match flags(alloc, &["baliseplan", word]) {
+        Ok(_) => assert!(rt; false),
+        Err(fault) => check_fault(rt, alloc, &fault, wanted),
+    }
+}
+
+fn check_fault(rt: &impl Abort, alloc: Global, fault: &ArgumentsFault, wanted: &str) {
     let text = format!(in alloc; "{fault}").expect(rt, "memory");
-    assert_eq!(rt; text.as_str(), wanted);
+    check_shown(rt, text.as_str(), wanted);
+}
+
+fn check_shown(rt: &impl Abort, text: &str, wanted: &str) {
+    assert!(rt; text == wanted);
 }
 
 const HELP: &str = "\

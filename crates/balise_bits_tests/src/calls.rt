@@ -7,43 +7,36 @@ use std::process::Abort;
 // A header, packet 255 and ones behind it: 210 bits and six zeros.
 const SHORT: &str = "a1007f80a0327fffffffffffffffffffffffffffffffffffffffc0";
 
-// The same text with 830 bits and two zeros.
-fn long(rt: &impl Abort, alloc: Global) -> String {
-    let mut text = String::from_str(alloc, "a1007f80a0327f").expect(rt, "memory");
-    for _ in 0..96 {
-        text.push_str("ff").expect(rt, "memory");
-    }
-    text.push_str("fc").expect(rt, "memory");
-    text
-}
+// The same with 830 bits and two zeros.
+const LONG: &str =
+    "a1007f80a0327ffffffffffffffffffffffffffffffffffffffffffffffffffffffffffffffffffffffffffffffffffffffffffffffffffffffffffffffffffffffffffffffffffffffffffffffffffffffffffffffffffffffffffffffffffffffffffffffffffc";
 
 pub(crate) fn check_hex(rt: &impl Abort, bits: &Bits, hex: &str) {
     let text = bits.to_hex().expect(rt, "memory");
-    assert_eq!(rt; text.as_str(), hex);
+    assert!(rt; text.as_str() == hex);
 }
 
-fn check_read(rt: &impl Abort, alloc: Global, hex: &str, len: usize) {
-    let bits = Bits::from_hex(alloc, hex, len).expect(rt, "digits");
-    assert_eq!(rt; bits.len(), len);
-    check_hex(rt, &bits, hex)
+pub(crate) fn check_digits(rt: &impl Abort, bits: &Bits, len: usize, hex: &str) {
+    assert!(rt; bits.len() == len);
+    check_hex(rt, bits, hex);
+}
+
+// The bits of these digits.
+fn read(rt: &impl Abort, alloc: Global, hex: &str, len: usize) -> Bits {
+    Bits::from_hex(alloc, hex, len).expect(rt, "digits")
 }
 
 #[test]
 fn telegrams_are_read_and_printed(rt: HostRuntime) {
-    check_read(&rt, rt.alloc(), SHORT, 210);
-    let text = long(&rt, rt.alloc());
-    check_read(&rt, rt.alloc(), text.as_str(), 830)
-}
-
-fn check_refused(rt: &impl Abort, alloc: Global, hex: &str, fault: BitsFault) {
-    let answer = Bits::from_hex(alloc, hex, 210);
-    assert_eq!(rt; answer.err(), Some(fault), "{hex}");
+    check_digits(&rt, &read(&rt, rt.alloc(), SHORT, 210), 210, SHORT);
+    check_digits(&rt, &read(&rt, rt.alloc(), LONG, 830), 830, LONG)
 }
 
 // That the bits of these digits are written in place of what was written.
 fn check_written(rt: &impl Abort, alloc: Global, digits: &mut Vec<u8>, hex: &str, len: usize) {
-    let bits = Bits::from_hex(alloc, hex, len).expect(rt, "digits");
-    bits.hex_into(digits).expect(rt, "memory");
+    read(rt, alloc, hex, len)
+        .hex_into(digits)
+        .expect(rt, "memory");
     assert!(rt; digits.as_slice() == hex.as_bytes());
 }
 
@@ -55,83 +48,87 @@ fn check_none_written(rt: &impl Abort, alloc: Global, digits: &mut Vec<u8>) {
 #[test]
 fn digits_are_written_into_a_buffer(rt: HostRuntime) {
     let mut digits = Vec::new(rt.alloc());
-    let text = long(&rt, rt.alloc());
-    check_written(&rt, rt.alloc(), &mut digits, text.as_str(), 830);
+    check_written(&rt, rt.alloc(), &mut digits, LONG, 830);
     check_written(&rt, rt.alloc(), &mut digits, SHORT, 210);
     check_none_written(&rt, rt.alloc(), &mut digits);
 }
 
+// That reading these digits answers this fault.
+fn check_refused(rt: &impl Abort, answer: Result<Bits, BitsFault>, fault: BitsFault) {
+    assert!(rt; answer.err() == Some(fault));
+}
+
 #[test]
 fn wrong_texts_are_refused(rt: HostRuntime) {
+    let alloc = rt.alloc();
     let spare = "a1007f80a0327fffffffffffffffffffffffffffffffffffffffc1";
     let cut = "a1007f80a0327fffffffffffffffffffffffffffffffffffffff";
     let bad = "a1007f80a0327fffffffffffffffffffffffffffffffffffffffcg";
     let odd = "a1007f80a0327fffffffffffffffffffffffffffffffffffffffc";
-    check_refused(&rt, rt.alloc(), spare, BitsFault::SpareBits);
-    check_refused(&rt, rt.alloc(), cut, BitsFault::BadLength);
-    check_refused(&rt, rt.alloc(), bad, BitsFault::BadHex);
-    check_refused(&rt, rt.alloc(), odd, BitsFault::BadHex);
-    assert_eq!(rt; BitsFault::SpareBits.refusal(), Refusal::SpareBits);
-    assert_eq!(rt; Refusal::from(BitsFault::BadHex), Refusal::BadHex);
-}
-
-fn check_digits(rt: &impl Abort, bits: &Bits, len: usize, hex: &str) {
-    assert_eq!(rt; bits.len(), len);
-    check_hex(rt, bits, hex);
-}
-
-fn check_bad(rt: &impl Abort, answer: Result<Bits, BitsFault>) {
-    assert_eq!(rt; answer.err(), Some(BitsFault::BadHex));
+    check_refused(&rt, Bits::from_hex(alloc, spare, 210), BitsFault::SpareBits);
+    check_refused(&rt, Bits::from_hex(alloc, cut, 210), BitsFault::BadLength);
+    check_refused(&rt, Bits::from_hex(alloc, bad, 210), BitsFault::BadHex);
+    check_refused(&rt, Bits::from_hex(alloc, odd, 210), BitsFault::BadHex);
+    assert!(rt; BitsFault::SpareBits.refusal() == Refusal::SpareBits);
+    assert!(rt; Refusal::from(BitsFault::BadHex) == Refusal::BadHex);
 }
 
 #[test]
 fn digits_of_both_cases_are_read(rt: HostRuntime) {
-    let bits = Bits::digits(rt.alloc(), "A1007F80a0327f").expect(&rt, "memory");
-    check_digits(&rt, &bits, 56, "a1007f80a0327f");
-    check_bad(&rt, Bits::digits(rt.alloc(), "a10"));
-    check_bad(&rt, Bits::digits(rt.alloc(), "a1:0"));
+    let bits = Bits::digits(rt.alloc(), "A1007F80a0327f");
+    check_digits(&rt, &bits.expect(&rt, "memory"), 56, "a1007f80a0327f");
 }
 
 #[test]
 fn bytes_are_read_as_digits(rt: HostRuntime) {
-    let bits = Bits::from_hex_bytes(rt.alloc(), SHORT.as_bytes(), 210).expect(&rt, "memory");
-    check_digits(&rt, &bits, 210, SHORT);
-    let bits = Bits::digits_in_bytes(rt.alloc(), b"A1007F80a0327f").expect(&rt, "memory");
-    check_digits(&rt, &bits, 56, "a1007f80a0327f");
-    check_bad(&rt, Bits::from_hex_bytes(rt.alloc(), b"a1\xff0", 16));
-    check_bad(&rt, Bits::digits_in_bytes(rt.alloc(), b"a1\xff0"));
+    let bits = Bits::from_hex_bytes(rt.alloc(), SHORT.as_bytes(), 210);
+    check_digits(&rt, &bits.expect(&rt, "memory"), 210, SHORT);
+    let bits = Bits::digits_in_bytes(rt.alloc(), b"A1007F80a0327f");
+    check_digits(&rt, &bits.expect(&rt, "memory"), 56, "a1007f80a0327f");
 }
+
+#[test]
+fn wrong_digits_are_refused(rt: HostRuntime) {
+    let alloc = rt.alloc();
+    check_refused(&rt, Bits::digits(alloc, "a10"), BitsFault::BadHex);
+    check_refused(&rt, Bits::digits(alloc, "a1:0"), BitsFault::BadHex);
+    let answer = Bits::from_hex_bytes(alloc, b"a1\xff0", 16);
+    check_refused(&rt, answer, BitsFault::BadHex);
+    let answer = Bits::digits_in_bytes(alloc, b"a1\xff0");
+    check_refused(&rt, answer, BitsFault::BadHex);
+}
+
+// A place, a width, and the number there.
+const NUMBERS: [(usize, u32, u32); 8] = [
+    (1, 7, 33),
+    (17, 8, 255),
+    (25, 10, 5),
+    (35, 14, 100),
+    (17, 32, 4278272100),
+    (3, 32, 134478853),
+    (178, 32, 4294967295),
+    (210, 0, 0),
+];
 
 fn check_number(rt: &impl Abort, bits: &Bits, at: usize, width: u32, number: u32) {
     let len = bits.len();
-    assert!(rt; width <= 32);
-    assert!(rt; at <= len);
-    assert!(rt; width as usize <= len - at);
-    assert_eq!(rt; bits.number(at, width), number, "{width} bits from {at}");
-    assert_eq!(rt;
-        bits.as_slice().number(at, width),
-        number,
-        "{width} bits lent, from {at}"
-    );
+    assert!(rt; width <= 32 && at <= len && width as usize <= len - at);
+    let lent = bits.as_slice().number(at, width);
+    assert!(rt; bits.number(at, width) == number && lent == number);
 }
 
 #[test]
 fn numbers_are_read(rt: HostRuntime) {
-    let bits = Bits::from_hex(rt.alloc(), SHORT, 210).expect(&rt, "digits");
-    check_number(&rt, &bits, 1, 7, 33);
-    check_number(&rt, &bits, 17, 8, 255);
-    check_number(&rt, &bits, 25, 10, 5);
-    check_number(&rt, &bits, 35, 14, 100);
-    check_number(&rt, &bits, 17, 32, 4278272100);
-    check_number(&rt, &bits, 3, 32, 134478853);
-    check_number(&rt, &bits, 178, 32, 4294967295);
-    check_number(&rt, &bits, 210, 0, 0);
+    let bits = read(&rt, rt.alloc(), SHORT, 210);
+    for (at, width, number) in &NUMBERS {
+        check_number(&rt, &bits, *at, *width, *number);
+    }
 }
 
 #[test]
 fn a_number_is_put(rt: HostRuntime) {
-    let mut bits = Bits::from_hex(rt.alloc(), SHORT, 210).expect(&rt, "digits");
-    assert_eq!(rt; bits.len(), 210);
+    let mut bits = read(&rt, rt.alloc(), SHORT, 210);
+    assert!(rt; bits.len() == 210);
     bits.put(17, 8, 254);
     let hex = "a1007f00a0327fffffffffffffffffffffffffffffffffffffffc0";
     check_hex(&rt, &bits, hex)
@@ -139,8 +136,8 @@ fn a_number_is_put(rt: HostRuntime) {
 
 #[test]
 fn a_wide_number_is_put(rt: HostRuntime) {
-    let mut bits = Bits::from_hex(rt.alloc(), SHORT, 210).expect(&rt, "digits");
-    assert_eq!(rt; bits.len(), 210);
+    let mut bits = read(&rt, rt.alloc(), SHORT, 210);
+    assert!(rt; bits.len() == 210);
     bits.put(7, 32, 0x12345678);
     let hex = "a02468acf0327fffffffffffffffffffffffffffffffffffffffc0";
     check_hex(&rt, &bits, hex)
@@ -148,21 +145,30 @@ fn a_wide_number_is_put(rt: HostRuntime) {
 
 pub(crate) fn slice(rt: &impl Abort, bits: &Bits, at: usize, len: usize) -> Bits {
     let held = bits.len();
-    assert!(rt; at <= held);
-    assert!(rt; len <= held - at);
+    assert!(rt; at <= held && len <= held - at);
     bits.slice(at, len).expect(rt, "memory")
+}
+
+// A place, a length, and the digits of the bits there.
+const SLICES: [(usize, usize, &str); 6] = [
+    (0, 50, "a1007f80a03240"),
+    (25, 24, "014064"),
+    (16, 33, "7f80a03200"),
+    (3, 180, "0803fc050193fffffffffffffffffffffffffffffffff0"),
+    (0, 210, SHORT),
+    (50, 0, ""),
+];
+
+fn check_slice(rt: &impl Abort, bits: &Bits, at: usize, len: usize, hex: &str) {
+    check_hex(rt, &slice(rt, bits, at, len), hex);
 }
 
 #[test]
 fn slices_are_cut(rt: HostRuntime) {
-    let bits = Bits::from_hex(rt.alloc(), SHORT, 210).expect(&rt, "digits");
-    check_hex(&rt, &slice(&rt, &bits, 0, 50), "a1007f80a03240");
-    check_hex(&rt, &slice(&rt, &bits, 25, 24), "014064");
-    check_hex(&rt, &slice(&rt, &bits, 16, 33), "7f80a03200");
-    let hex = "0803fc050193fffffffffffffffffffffffffffffffff0";
-    check_hex(&rt, &slice(&rt, &bits, 3, 180), hex);
-    check_hex(&rt, &slice(&rt, &bits, 0, 210), SHORT);
-    check_hex(&rt, &slice(&rt, &bits, 50, 0), "")
+    let bits = read(&rt, rt.alloc(), SHORT, 210);
+    for (at, len, hex) in &SLICES {
+        check_slice(&rt, &bits, *at, *len, hex);
+    }
 }
 
 // That so many bits of some and all of them behind are these digits.
@@ -174,7 +180,7 @@ fn check_joined(rt: &impl Abort, len: usize, other: &Bits, hex: &str) {
 
 #[test]
 fn bits_are_joined(rt: HostRuntime) {
-    let bits = Bits::from_hex(rt.alloc(), SHORT, 210).expect(&rt, "digits");
+    let bits = read(&rt, rt.alloc(), SHORT, 210);
     let hex = "a1007f80a03268401fe0280c9ffffffffffffffffffffffffffffffffffffffff0";
     check_joined(&rt, 50, &bits, hex);
     let hex = "a1007f80a032a1007f80a0327fffffffffffffffffffffffffffffffffffffffc0";
@@ -184,15 +190,14 @@ fn bits_are_joined(rt: HostRuntime) {
 // The same with 61 of them behind.
 fn check_part_joined(rt: &impl Abort, len: usize, other: &Bits, from: usize, hex: &str) {
     let mut joined = slice(rt, other, 0, len);
-    assert!(rt; other.len() == 210);
-    assert!(rt; from <= 149);
+    assert!(rt; other.len() == 210 && from <= 149);
     joined.append_part(other, from, 61).expect(rt, "memory");
     check_hex(rt, &joined, hex);
 }
 
 #[test]
 fn parts_are_joined(rt: HostRuntime) {
-    let bits = Bits::from_hex(rt.alloc(), SHORT, 210).expect(&rt, "digits");
+    let bits = read(&rt, rt.alloc(), SHORT, 210);
     check_part_joined(&rt, 50, &bits, 13, "a1007f80a03243fc050193fffffe");
     check_part_joined(&rt, 48, &bits, 8, "a1007f80a032007f80a0327ffff8");
 }
@@ -215,48 +220,73 @@ fn check_pushed(rt: &impl Abort, alloc: Global) {
     check_hex(rt, &bits, "a0");
 }
 
+fn append(rt: &impl Abort, bits: &mut Bits) {
+    let digits = Bits::digits(bits.allocator(), "a1007f80a032").expect(rt, "memory");
+    bits.append(&digits).expect(rt, "memory");
+}
+
 #[test]
 fn bits_grow(rt: HostRuntime) {
     let mut bits = Bits::with_capacity(rt.alloc(), 80).expect(&rt, "memory");
     assert!(rt; bits.is_empty());
-    let digits = Bits::digits(rt.alloc(), "a1007f80a032").expect(&rt, "memory");
-    bits.append(&digits).expect(&rt, "memory");
+    append(&rt, &mut bits);
     push_numbers(&rt, &mut bits);
     push_zeros(&rt, &mut bits);
     check_pushed(&rt, bits.allocator());
 }
 
+// That a part is put into a copy.
+fn put_part(rt: &impl Abort, other: &Bits) {
+    let mut bits = other.copy().expect(rt, "memory");
+    assert!(rt; other.len() == 210 && bits.len() == 210);
+    bits.put_part(60, other, 9, 100);
+    let hex = "a1007f80a0327ff00ff014064fffffffffffffffffffffffffffc0";
+    check_hex(rt, &bits, hex);
+}
+
 #[test]
 fn a_part_is_put(rt: HostRuntime) {
-    let other = Bits::from_hex(rt.alloc(), SHORT, 210).expect(&rt, "digits");
-    let mut bits = other.copy().expect(&rt, "memory");
-    assert_eq!(rt; other.len(), 210);
-    assert_eq!(rt; bits.len(), 210);
-    bits.put_part(60, &other, 9, 100);
-    let hex = "a1007f80a0327ff00ff014064fffffffffffffffffffffffffffc0";
-    check_hex(&rt, &bits, hex);
+    let other = read(&rt, rt.alloc(), SHORT, 210);
+    put_part(&rt, &other);
     check_hex(&rt, &other, SHORT)
+}
+
+// That ones put over some of 80 bits make these digits.
+fn put_ones(rt: &impl Abort, bits: &mut Bits, at: usize, count: usize, hex: &str) {
+    assert!(rt; bits.len() == 80 && at <= 80 && count <= 80 - at);
+    bits.put_ones(at, count);
+    check_hex(rt, bits, hex);
 }
 
 #[test]
 fn ones_are_put(rt: HostRuntime) {
     let mut bits = Bits::new(rt.alloc());
     bits.push_zeros(80).expect(&rt, "memory");
-    assert_eq!(rt; bits.len(), 80);
-    bits.put_ones(3, 70);
-    check_hex(&rt, &bits, "1fffffffffffffffff80");
-    bits.put_ones(74, 2);
-    bits.put_ones(76, 0);
-    check_hex(&rt, &bits, "1fffffffffffffffffb0")
+    put_ones(&rt, &mut bits, 3, 70, "1fffffffffffffffff80");
+    put_ones(&rt, &mut bits, 74, 2, "1fffffffffffffffffb0");
+    put_ones(&rt, &mut bits, 76, 0, "1fffffffffffffffffb0");
+}
+
+// That so many of the bits are the same as all of them.
+fn check_same(rt: &impl Abort, bits: &Bits, len: usize) {
+    assert!(rt; *bits == slice(rt, bits, 0, len));
+}
+
+// That so many of the bits are others than all of them.
+fn check_other(rt: &impl Abort, bits: &Bits, len: usize) {
+    assert!(rt; *bits != slice(rt, bits, 0, len));
+}
+
+// That the digits with the bits that fill them are others.
+fn check_filled(rt: &impl Abort, bits: &Bits) {
+    let other = Bits::digits(bits.allocator(), SHORT);
+    assert!(rt; *bits != other.expect(rt, "memory"));
 }
 
 #[test]
 fn bits_are_compared(rt: HostRuntime) {
-    let bits = Bits::from_hex(rt.alloc(), SHORT, 210).expect(&rt, "digits");
-    let same = slice(&rt, &bits, 0, 210);
-    let short = slice(&rt, &bits, 0, 209);
-    let other = Bits::digits(rt.alloc(), SHORT).expect(&rt, "memory");
-    assert!(rt; bits == same);
-    assert!(rt; bits != short);
-    assert!(rt; bits != other);
+    let bits = read(&rt, rt.alloc(), SHORT, 210);
+    check_same(&rt, &bits, 210);
+    check_other(&rt, &bits, 209);
+    check_filled(&rt, &bits);
 }

@@ -1,7 +1,7 @@
 //! Bits far longer than a telegram's. No contract says that memory is there, so each call that takes it
 //! is made with much.
 
-use crate::calls::{check_hex, slice};
+use crate::calls::{check_digits, check_hex, slice};
 use balise_bits::Bits;
 use std::alloc::Global;
 use std::process::Abort;
@@ -28,33 +28,28 @@ fn parts(rt: &impl Abort, alloc: Global, count: usize) -> Bits {
     Bits::digits(alloc, text.as_str()).expect(rt, "memory")
 }
 
-fn check_many(rt: &impl Abort, bits: &Bits, hex: &str, len: usize) {
-    assert_eq!(rt; bits.len(), len);
-    check_hex(rt, bits, hex);
+/// That digits are read, from a text and from bytes, with a length.
+fn check_long(rt: &impl Abort, alloc: Global, hex: &str, len: usize) {
+    let bits = Bits::from_hex(alloc, hex, len);
+    check_digits(rt, &bits.expect(rt, "digits"), len, hex);
+    let bits = Bits::from_hex_bytes(alloc, hex.as_bytes(), len);
+    check_digits(rt, &bits.expect(rt, "memory"), len, hex);
 }
 
-/// That digits are read from a text, with a length and without.
-fn check_texts(rt: &impl Abort, alloc: Global, hex: &str, len: usize) {
-    let bits = Bits::from_hex(alloc, hex, len).expect(rt, "digits");
-    check_many(rt, &bits, hex, len);
-    let bits = Bits::digits(alloc, hex).expect(rt, "memory");
-    check_many(rt, &bits, hex, len);
-}
-
-/// That digits are read from bytes, with a length and without.
-fn check_bytes(rt: &impl Abort, alloc: Global, hex: &str, len: usize) {
-    let bits = Bits::from_hex_bytes(alloc, hex.as_bytes(), len).expect(rt, "memory");
-    check_many(rt, &bits, hex, len);
-    let bits = Bits::digits_in_bytes(alloc, hex.as_bytes()).expect(rt, "memory");
-    check_many(rt, &bits, hex, len);
+/// That they are read without a length.
+fn check_whole(rt: &impl Abort, alloc: Global, hex: &str, len: usize) {
+    let bits = Bits::digits(alloc, hex);
+    check_digits(rt, &bits.expect(rt, "memory"), len, hex);
+    let bits = Bits::digits_in_bytes(alloc, hex.as_bytes());
+    check_digits(rt, &bits.expect(rt, "memory"), len, hex);
 }
 
 #[test]
 fn many_digits_are_read(rt: HostRuntime) {
     for count in COUNTS {
         let text = repeated(&rt, rt.alloc(), PART, count);
-        check_texts(&rt, rt.alloc(), text.as_str(), 64 * count);
-        check_bytes(&rt, rt.alloc(), text.as_str(), 64 * count);
+        check_long(&rt, rt.alloc(), text.as_str(), 64 * count);
+        check_whole(&rt, rt.alloc(), text.as_str(), 64 * count);
     }
 }
 
@@ -69,13 +64,19 @@ fn check_copy(rt: &impl Abort, bits: &Bits, count: usize) {
     check_repeated(rt, &copy, PART, count);
 }
 
+/// That the bits without the first three and the last 61 are a part repeated.
+fn check_cut(rt: &impl Abort, bits: &Bits, count: usize) {
+    assert!(rt; count > 0 && count < 65536);
+    let behind = slice(rt, bits, 3, 64 * (count - 1));
+    check_repeated(rt, &behind, FROM_FOURTH, count - 1);
+}
+
 #[test]
 fn many_bits_are_copied_and_cut(rt: HostRuntime) {
     for count in COUNTS {
         let bits = parts(&rt, rt.alloc(), count);
         check_copy(&rt, &bits, count);
-        let behind = slice(&rt, &bits, 3, 64 * (count - 1));
-        check_repeated(&rt, &behind, FROM_FOURTH, count - 1);
+        check_cut(&rt, &bits, count);
     }
 }
 

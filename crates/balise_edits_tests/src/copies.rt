@@ -1,116 +1,149 @@
 //! An entry's places as lists, its copy and its line.
 
-use crate::doing::{made, read, telegrams};
-use crate::edits::{
-    ABROAD, EMPTY, FIRST, FOUR, LINK, LINKING, SECOND, THIRD, delete, id, insert, remove, renumber,
-    set, shift, turn,
-};
+ghost use Rattle.std.specs.Prelude.{◌≤◌, ℕ};
+ghost use Rattle.balise_rules.specs.Accepting.{Unused};
+
+use crate::doing::{made, read};
+use crate::edits::{ABROAD, EMPTY, FIRST, FOUR, LINK, LINKING, SECOND, Step, THIRD, edit_of, id};
 use balise_edits::{
-    Edit, Entry, InGroup, InPacket, InTelegram, LineEdit, Noted, Path, Tag, Var, changed_places,
-    needed_places,
+    Bits, Entry, InGroup, InPacket, InTelegram, Line, LineEdit, Noted, Path, Plan, Tag, Var,
+    changed_places, needed_places,
 };
 use std::alloc::Global;
 use std::process::Abort;
 
 // The entry of an edit of a plan of these groups, under serial 7.
-fn entry_of(rt: &impl Abort, alloc: Global, groups: &[&str], edit: Edit) -> Entry {
+fn entry_of(rt: &impl Abort, alloc: Global, groups: &[&str], step: Step) -> Entry {
     let mut plan = read(rt, alloc, groups);
-    made(rt, &mut plan, 7, edit)
+    made(rt, &mut plan, 7, edit_of(rt, alloc, step))
 }
 
-// The entry of a link that is put in.
-fn linked(rt: &impl Abort, alloc: Global) -> Entry {
-    let edit = insert(rt, alloc, FIRST, None, LINK);
-    entry_of(rt, alloc, &[EMPTY], edit)
-}
+// A link that is put in.
+const LINKED: Step = Step::Insert(FIRST, None, LINK);
 
-#[test]
-fn lists_changed_places(rt: HostRuntime) {
-    let alloc = rt.alloc();
-    let changed = changed_places(alloc, &linked(&rt, alloc)).expect(&rt, "places");
+// That a link that is put in changes the packet and its link.
+fn check_changed(rt: &impl Abort, places: &[Path]) {
     let packet = InTelegram::Packet(Tag::Fresh(7), InPacket::Whole);
-    assert!(rt; changed.len() == 2);
-    assert!(rt; changed[0] == Path::Group(FIRST, InGroup::Telegram(0, packet)));
+    assert!(rt; places.len() == 2);
+    assert!(rt; places[0] == Path::Group(FIRST, InGroup::Telegram(0, packet)));
 }
 
-#[test]
-fn lists_needed_places(rt: HostRuntime) {
-    let alloc = rt.alloc();
-    let needed = needed_places(alloc, &linked(&rt, alloc)).expect(&rt, "places");
-    assert!(rt; needed.len() == 2);
-    assert!(rt; needed[0] == Path::Group(FIRST, InGroup::Turn));
-    assert!(rt; needed[1].meets(&Path::Identity(id(100))));
+// That it needs the group's direction and the identity that it names.
+fn check_needed(rt: &impl Abort, places: &[Path]) {
+    assert!(rt; places.len() == 2);
+    assert!(rt; places[0] == Path::Group(FIRST, InGroup::Turn));
+    assert!(rt; places[1].meets(&Path::Identity(id(100))));
 }
 
-#[test]
-fn lines_have_whole_bytes(rt: HostRuntime) {
-    let alloc = rt.alloc();
-    let line = linked(&rt, alloc).line(alloc).expect(&rt, "a line");
+fn check_places(rt: &impl Abort, alloc: Global, entry: &Entry) {
+    let changed = changed_places(alloc, entry).expect(rt, "places");
+    check_changed(rt, changed.as_slice());
+    let needed = needed_places(alloc, entry).expect(rt, "places");
+    check_needed(rt, needed.as_slice());
+}
+
+// That the line of a link that is put in has the packet's digits.
+fn check_line(rt: &impl Abort, line: &Line) {
     assert!(rt; line.serial == 7);
-    if let LineEdit::InsertPacket { packet, .. } = &line.edit {
-        let text = packet.to_hex().expect(&rt, "digits");
-        assert_eq!(rt; text.as_str(), LINK);
-    } else {
-        assert!(rt; false);
+    match &line.edit {
+        LineEdit::InsertPacket { packet, .. } => check_digits(rt, packet, LINK),
+        _ => assert!(rt; false),
     }
+}
+
+fn check_linked(rt: &impl Abort, alloc: Global, entry: &Entry) {
+    check_places(rt, alloc, entry);
+    check_line(rt, &entry.line(alloc).expect(rt, "a line"));
+}
+
+#[test]
+fn lists_places_and_has_a_line_of_whole_bytes(rt: HostRuntime) {
+    let alloc = rt.alloc();
+    check_linked(&rt, alloc, &entry_of(&rt, alloc, &[EMPTY], LINKED));
+}
+
+fn check_digits(rt: &impl Abort, bits: &Bits, digits: &str) {
+    assert!(rt; bits.to_hex().expect(rt, "digits").as_str() == digits);
 }
 
 // That a copy of an entry and its line have what was noted.
 fn says(rt: &impl Abort, alloc: Global, entry: &Entry, noted: Noted) {
     let copy = entry.copy().expect(rt, "a copy");
-    assert!(rt; copy.serial() == entry.serial());
-    assert!(rt; copy.edit().copy().is_ok());
-    assert!(rt; copy.noted() == noted);
-    let line = copy.line(alloc).expect(rt, "a line");
+    check_copy(rt, &copy, entry.serial(), noted);
+    check_noted(rt, &copy.line(alloc).expect(rt, "a line"), noted);
+}
+
+fn check_noted(rt: &impl Abort, line: &Line, noted: Noted) {
     assert!(rt; line.noted == noted);
 }
 
-#[test]
-fn copies_of_fields_and_packets(rt: HostRuntime) {
-    let alloc = rt.alloc();
-    let distance = set(SECOND, FIRST, Var::DLink, 0, 600);
-    let entry = entry_of(&rt, alloc, &[EMPTY, LINKING], distance);
-    says(&rt, alloc, &entry, Noted::Value(500));
-    says(&rt, alloc, &linked(&rt, alloc), Noted::Nothing);
-    let entry = entry_of(&rt, alloc, &[FOUR], delete(SECOND));
-    says(&rt, alloc, &entry, Noted::BeforePacket(Some(THIRD)));
-    let entry = entry_of(&rt, alloc, &[FOUR], shift(Tag::Base(3), None));
-    says(&rt, alloc, &entry, Noted::BeforePacket(None));
+fn check_copy(rt: &impl Abort, copy: &Entry, serial: u32, noted: Noted) {
+    assert!(rt; copy.serial() == serial);
+    assert!(rt; copy.edit().copy().is_ok());
+    assert!(rt; copy.noted() == noted);
 }
 
+type Row = (&'static [&'static str], Step, Noted);
+
+const NOTED: &[Row] = &[
+    (
+        &[EMPTY, LINKING],
+        Step::Set(SECOND, FIRST, Var::DLink, 0, 600),
+        Noted::Value(500),
+    ),
+    (&[EMPTY], LINKED, Noted::Nothing),
+    (
+        &[FOUR],
+        Step::Delete(SECOND),
+        Noted::BeforePacket(Some(THIRD)),
+    ),
+    (
+        &[FOUR],
+        Step::Move(Tag::Base(3), None),
+        Noted::BeforePacket(None),
+    ),
+    (&[EMPTY], Step::Add(None, ABROAD), Noted::Nothing),
+    (
+        &[EMPTY, LINKING, ABROAD],
+        Step::Drop(SECOND),
+        Noted::BeforeGroup(Some(THIRD)),
+    ),
+    (
+        &[EMPTY, LINKING],
+        Step::Renumber(SECOND, 300),
+        Noted::Number(101),
+    ),
+    (&[LINKING], Step::Turn(FIRST), Noted::Nothing),
+];
+
 #[test]
-fn copies_of_groups(rt: HostRuntime) {
+fn copies_of_entries(rt: HostRuntime) {
     let alloc = rt.alloc();
-    let add = Edit::AddGroup {
-        after: None,
-        telegrams: telegrams(&rt, alloc, ABROAD),
-    };
-    says(
-        &rt,
-        alloc,
-        &entry_of(&rt, alloc, &[EMPTY], add),
-        Noted::Nothing,
-    );
-    let entry = entry_of(&rt, alloc, &[EMPTY, LINKING, ABROAD], remove(SECOND));
-    says(&rt, alloc, &entry, Noted::BeforeGroup(Some(THIRD)));
-    let entry = entry_of(&rt, alloc, &[EMPTY, LINKING], renumber(SECOND, 300));
-    says(&rt, alloc, &entry, Noted::Number(101));
-    let entry = entry_of(&rt, alloc, &[LINKING], turn(FIRST));
-    says(&rt, alloc, &entry, Noted::Nothing);
+    for (groups, step, noted) in NOTED.iter() {
+        says(&rt, alloc, &entry_of(&rt, alloc, *groups, *step), *noted);
+    }
 }
 
-// The entries of a move and of a deletion among four packets are copied, and their places listed.
+// That an entry among four packets is copied, and its places listed.
+fn check_moved(rt: &impl Abort, alloc: Global, entry: &Entry) {
+    says(rt, alloc, entry, Noted::BeforePacket(Some(Tag::Base(3))));
+    assert!(rt; !changed_places(alloc, entry).expect(rt, "places").is_empty());
+    assert!(rt; needed_places(alloc, entry).is_ok());
+}
+
+// The entries of a move and of a deletion.
+fn check_two(rt: &impl Abort, alloc: Global, plan: &mut Plan)
+    requires { (n : ℕ) → 1 ≤ n → Unused n plan.old.groups }
+{
+    let first = made(rt, plan, 1, edit_of(rt, alloc, Step::Move(THIRD, None)));
+    let second = made(rt, plan, 2, edit_of(rt, alloc, Step::Delete(SECOND)));
+    check_moved(rt, alloc, &first);
+    check_moved(rt, alloc, &second);
+}
+
 #[test]
 fn moves_among_four_packets(rt: HostRuntime) {
     let alloc = rt.alloc();
     let mut plan = read(&rt, alloc, &[FOUR]);
-    let first = made(&rt, &mut plan, 1, shift(THIRD, None));
-    let second = made(&rt, &mut plan, 2, delete(SECOND));
-    for entry in [first, second].iter() {
-        says(&rt, alloc, entry, Noted::BeforePacket(Some(Tag::Base(3))));
-        let changed = changed_places(alloc, entry).expect(&rt, "places");
-        assert!(rt; !changed.is_empty());
-        assert!(rt; needed_places(alloc, entry).is_ok());
-    }
-    assert!(rt; plan.copy().is_ok());
+    check_two(&rt, alloc, &mut plan);
 }

@@ -2,8 +2,10 @@
 
 ghost use Rattle.std.specs.Prelude.{◌≡◌, ◌+◌, ◌<◌, ◌≤◌, ◌^◌, ℕ, IsTrue};
 ghost use Rattle.balise_rules.specs.Accepting.{Spelt, Unused};
+ghost use Rattle.balise_rules.specs.Plan.{IsSound};
 ghost use Rattle.balise_edits.specs.Edits.{edit_of};
 
+use crate::edits::{Step, edit_of};
 use balise_edits::{Bits, Edit, Entry, Plan, Refusal, again, apply, take_back};
 use std::alloc::Global;
 use std::process::Abort;
@@ -12,64 +14,83 @@ use std::process::Abort;
 pub(crate) fn read(rt: &impl Abort, alloc: Global, texts: &[&str]) -> Plan
     ensures { (n : ℕ) → 1 ≤ n → Unused n result.groups }
 {
+    Plan::read(alloc, groups_of(rt, alloc, texts)).expect(rt, "a plan")
+}
+
+/// The bits of these groups.
+fn groups_of(rt: &impl Abort, alloc: Global, texts: &[&str]) -> Vec<Vec<Bits>> {
     let mut groups = Vec::new(alloc);
+    push_groups(rt, alloc, &mut groups, texts);
+    groups
+}
+
+fn push_groups(rt: &impl Abort, alloc: Global, groups: &mut Vec<Vec<Bits>>, texts: &[&str]) {
     for text in texts.iter() {
         groups
             .push(telegrams(rt, alloc, *text))
             .expect(rt, "memory");
     }
-    plan_of(rt, alloc, groups)
-}
-
-fn plan_of(rt: &impl Abort, alloc: Global, groups: Vec<Vec<Bits>>) -> Plan
-    ensures { (n : ℕ) → 1 ≤ n → Unused n result.groups }
-{
-    Plan::read(alloc, groups).expect(rt, "a plan")
 }
 
 /// The bits of a group's telegrams, whose digits stand apart by a space.
 pub(crate) fn telegrams(rt: &impl Abort, alloc: Global, text: &str) -> Vec<Bits> {
     let mut telegrams = Vec::new(alloc);
-    for word in text.split_whitespace() {
-        let len = if word.len() == 54 { 210 } else { 830 };
-        let bits = Bits::from_hex(alloc, word, len).expect(rt, "digits");
-        telegrams.push(bits).expect(rt, "memory");
-    }
+    push_words(rt, alloc, &mut telegrams, text);
     telegrams
 }
 
-/// Whether a plan shows these groups.
-fn shows(rt: &impl Abort, alloc: Global, plan: &Plan, texts: &[&str]) -> bool {
-    let shown = plan.shown().expect(rt, "memory");
-    let mut same = shown.len() == texts.len();
-    for (i, text) in texts.iter().enumerate() {
-        match shown.get(i) {
-            Some(group) => same &= *group == telegrams(rt, alloc, *text),
-            None => same = false,
-        }
+fn push_words(rt: &impl Abort, alloc: Global, telegrams: &mut Vec<Bits>, text: &str) {
+    for word in text.split_whitespace() {
+        telegrams
+            .push(bits_of(rt, alloc, word))
+            .expect(rt, "memory");
     }
-    same
 }
 
-/// Does an edit under a serial, and looks at its answer and at what the plan shows then. An edit that is done is taken
-/// back, which leaves what was shown before, and done again.
-pub(crate) fn follow(
-    rt: &impl Abort,
-    alloc: Global,
-    plan: &mut Plan,
-    serial: u32,
-    edit: Edit,
-    answer: Result<(), Refusal>,
-    texts: &[&str],
-)
+fn width_of(digits: &str) -> usize {
+    if digits.len() == 54 { 210 } else { 830 }
+}
+
+fn bits_of(rt: &impl Abort, alloc: Global, digits: &str) -> Bits {
+    Bits::from_hex(alloc, digits, width_of(digits)).expect(rt, "digits")
+}
+
+/// Whether a plan shows these bits.
+fn shows(rt: &impl Abort, plan: &Plan, groups: &Vec<Vec<Bits>>) -> bool {
+    plan.shown().expect(rt, "memory") == *groups
+}
+
+/// An edit, its answer, and the groups that the plan shows then.
+pub(crate) type Row = (Step, Result<(), Refusal>, &'static [&'static str]);
+
+/// Does edits of a plan of these groups under serials from 1, each taken back and done again.
+pub(crate) fn follow_over(rt: &impl Abort, alloc: Global, texts: &[&str], rows: &[Row]) {
+    let mut plan = read(rt, alloc, texts);
+    follow_each(rt, alloc, &mut plan, rows);
+}
+
+fn follow_each(rt: &impl Abort, alloc: Global, plan: &mut Plan, rows: &[Row])
+    requires { (n : ℕ) → 1 ≤ n → Unused n plan.old.groups }
+{
+    let mut serial: u32 = 1;
+    for (step, answer, texts) in rows.iter() {
+        assert!(rt; serial < 1000);
+        follow(rt, plan, serial, edit_of(rt, alloc, *step), *answer);
+        assert!(rt; shows(rt, plan, &groups_of(rt, alloc, *texts)));
+        serial += 1;
+    }
+}
+
+/// Does an edit under a serial, and looks at its answer. An edit that is done is taken back, which leaves what was shown
+/// before, and done again.
+fn follow(rt: &impl Abort, plan: &mut Plan, serial: u32, edit: Edit, answer: Result<(), Refusal>)
     requires { (n : ℕ) → serial ≤ n → Unused n plan.old.groups }
     ensures { (n : ℕ) → serial + 1 ≤ n → Unused n plan.new.groups }
 {
     let before = plan.shown().expect(rt, "memory");
-    assert!(rt; is_spelt(plan, &edit));
+    check_spelt(rt, plan, &edit);
     let done = there_and_back(rt, plan, serial, edit, &before);
     assert!(rt; done == answer);
-    assert!(rt; shows(rt, alloc, plan, texts));
 }
 
 /// The entry of an edit that is done under a serial.
@@ -77,14 +98,27 @@ pub(crate) fn made(rt: &impl Abort, plan: &mut Plan, serial: u32, edit: Edit) ->
     requires { (n : ℕ) → serial ≤ n → Unused n plan.old.groups }
     ensures { (n : ℕ) → serial + 1 ≤ n → Unused n plan.new.groups }
 {
-    // A sound plan.
-    let _ = plan.count();
-    assert!(rt; plan.changes() < 1000);
-    assert!(rt; is_spelt(plan, &edit));
+    check_changes(rt, plan);
+    check_spelt(rt, plan, &edit);
     apply(plan, edit, serial).expect(rt, "an entry")
 }
 
-// Whether the edit inserts no packet, or one that the telegram's version spells.
+// That a plan, which is sound, was changed less than a thousand times.
+fn check_changes(rt: &impl Abort, plan: &Plan)
+    ensures changes { plan.now.changes < 1000 }
+    ensures sound { IsSound plan.now.groups }
+{
+    let _ = plan.count();
+    assert!(rt; plan.changes() < 1000);
+}
+
+// That the edit inserts no packet, or one that the telegram's version spells.
+fn check_spelt(rt: &impl Abort, plan: &Plan, edit: &Edit)
+    ensures { Spelt (edit_of edit.now) plan.now.groups }
+{
+    assert!(rt; is_spelt(plan, edit));
+}
+
 fn is_spelt(plan: &Plan, edit: &Edit) -> bool
     ensures { IsTrue result → Spelt (edit_of edit.now) plan.now.groups }
 {
@@ -109,22 +143,28 @@ fn there_and_back(
     requires spelt { Spelt (edit_of edit) plan.old.groups }
     ensures { (n : ℕ) → serial + 1 ≤ n → Unused n plan.new.groups }
 {
-    // A sound plan.
-    let _ = plan.count();
+    check_changes(rt, plan);
     let changes = plan.changes();
-    assert!(rt; changes < 1000);
     let mut entry = match apply(plan, edit, serial) {
         Ok(entry) => entry,
         Err(fault) => {
-            assert_eq!(rt; plan.changes(), changes);
+            check_count(rt, plan, changes);
             return Err(fault);
         }
     };
     let done = plan.shown().expect(rt, "memory");
     take_back(plan, &mut entry).expect(rt, "memory");
-    assert!(rt; plan.shown().expect(rt, "memory") == *before);
+    check_shown(rt, plan, before);
     again(plan, &mut entry).expect(rt, "memory");
-    assert!(rt; plan.shown().expect(rt, "memory") == done);
-    assert_eq!(rt; plan.changes(), changes + 3);
+    check_shown(rt, plan, &done);
+    check_count(rt, plan, changes + 3);
     Ok(())
+}
+
+fn check_shown(rt: &impl Abort, plan: &Plan, groups: &Vec<Vec<Bits>>) {
+    assert!(rt; shows(rt, plan, groups));
+}
+
+fn check_count(rt: &impl Abort, plan: &Plan, changes: u64) {
+    assert!(rt; plan.changes() == changes);
 }

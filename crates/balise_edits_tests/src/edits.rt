@@ -1,5 +1,6 @@
 //! Edits, written shortly, and the digits of groups and packets that they are tried on.
 
+use crate::doing::telegrams;
 use balise_edits::{Bits, Edit, Id, Packet, Tag, Var};
 use std::alloc::Global;
 use std::process::Abort;
@@ -43,64 +44,81 @@ pub(crate) fn id(number: u32) -> Id {
     Id { country: 5, number }
 }
 
-/// The packet of these digits.
-pub(crate) fn packet_of(rt: &impl Abort, alloc: Global, digits: &str) -> Packet {
-    let bits = Bits::digits(alloc, digits).expect(rt, "digits");
-    let (packet, _) = Packet::read(&bits, 0, 33).expect(rt, "a packet");
+/// An edit of the first telegram of a group, or of a group.
+#[derive(Clone, Copy)]
+pub(crate) enum Step {
+    Set(Tag, Tag, Var, u32, u32),
+    SetHead(Tag, Var, u32),
+    Insert(Tag, Option<Tag>, &'static str),
+    /// A packet that is read in version 1.0, put in first.
+    InsertOld(Tag, &'static str),
+    /// Of the first group.
+    Delete(Tag),
+    /// Of the first group.
+    Move(Tag, Option<Tag>),
+    Add(Option<Tag>, &'static str),
+    Drop(Tag),
+    Renumber(Tag, u32),
+    Turn(Tag),
+}
+
+/// The packet of these digits in a version.
+fn packet_of(rt: &impl Abort, alloc: Global, digits: &str, version: u32) -> Packet {
+    packet_in(
+        rt,
+        &Bits::digits(alloc, digits).expect(rt, "digits"),
+        version,
+    )
+}
+
+fn packet_in(rt: &impl Abort, bits: &Bits, version: u32) -> Packet {
+    let (packet, _) = Packet::read(bits, 0, version).expect(rt, "a packet");
     packet
 }
 
-/// A packet put into a group's first telegram.
-pub(crate) fn insert(
-    rt: &impl Abort,
-    alloc: Global,
-    g: Tag,
-    after: Option<Tag>,
-    digits: &str,
-) -> Edit {
-    Edit::InsertPacket {
-        g,
-        t: 0,
-        after,
-        packet: Box::new(alloc, packet_of(rt, alloc, digits)).expect(rt, "memory"),
+/// The same on the heap.
+fn boxed(rt: &impl Abort, alloc: Global, digits: &str, version: u32) -> Box<Packet> {
+    Box::new(alloc, packet_of(rt, alloc, digits, version)).expect(rt, "memory")
+}
+
+/// The edit that a step is.
+pub(crate) fn edit_of(rt: &impl Abort, alloc: Global, step: Step) -> Edit {
+    let t = 0;
+    match step {
+        Step::Set(g, p, var, k, value) => Edit::SetVar {
+            g,
+            t,
+            p,
+            var,
+            k,
+            value,
+        },
+        Step::SetHead(g, var, value) => Edit::SetHead { g, t, var, value },
+        Step::Insert(g, after, digits) => Edit::InsertPacket {
+            g,
+            t,
+            after,
+            packet: boxed(rt, alloc, digits, 33),
+        },
+        Step::InsertOld(g, digits) => Edit::InsertPacket {
+            g,
+            t,
+            after: None,
+            packet: boxed(rt, alloc, digits, 16),
+        },
+        Step::Delete(p) => Edit::DeletePacket { g: FIRST, t, p },
+        Step::Move(p, after) => Edit::MovePacket {
+            g: FIRST,
+            t,
+            p,
+            after,
+        },
+        Step::Add(after, text) => Edit::AddGroup {
+            after,
+            telegrams: telegrams(rt, alloc, text),
+        },
+        Step::Drop(g) => Edit::DropGroup { g },
+        Step::Renumber(g, number) => Edit::Renumber { g, number },
+        Step::Turn(g) => Edit::TurnGroup { g },
     }
-}
-
-/// A packet taken out of the first group's first telegram.
-pub(crate) fn delete(p: Tag) -> Edit {
-    Edit::DeletePacket { g: FIRST, t: 0, p }
-}
-
-/// A packet moved there.
-pub(crate) fn shift(p: Tag, after: Option<Tag>) -> Edit {
-    Edit::MovePacket {
-        g: FIRST,
-        t: 0,
-        p,
-        after,
-    }
-}
-
-/// A field of a packet of a group's first telegram set.
-pub(crate) fn set(g: Tag, p: Tag, var: Var, k: u32, value: u32) -> Edit {
-    Edit::SetVar {
-        g,
-        t: 0,
-        p,
-        var,
-        k,
-        value,
-    }
-}
-
-pub(crate) fn renumber(g: Tag, number: u32) -> Edit {
-    Edit::Renumber { g, number }
-}
-
-pub(crate) fn turn(g: Tag) -> Edit {
-    Edit::TurnGroup { g }
-}
-
-pub(crate) fn remove(g: Tag) -> Edit {
-    Edit::DropGroup { g }
 }

@@ -2,7 +2,9 @@
 
 use crate::doing::read;
 use crate::edits::{EMPTY, LINKING};
-use balise_edits::{EditFault, Id, ReviewLine, Reviewed, Tag, Var, review};
+use balise_edits::{EditFault, Id, Plan, ReviewLine, Reviewed, Tag, Var, review};
+use std::alloc::Global;
+use std::process::Abort;
 
 // 5.100 of three: packet 65, an unknown packet, no packet.
 const THREE: &str =
@@ -21,39 +23,59 @@ fn line(number: u32, pig: u32, what: Reviewed) -> ReviewLine {
     }
 }
 
+// That the review of the first of two groups has these lines behind so many others. A third group isn't there.
+fn check(rt: &impl Abort, plan: &Plan, before: usize, expected: &[ReviewLine]) {
+    let lines = review(plan, Tag::Base(0)).expect(rt, "lines");
+    check_lines(rt, lines.as_slice(), before, expected);
+    check_none(rt, plan);
+}
+
+fn check_lines(rt: &impl Abort, lines: &[ReviewLine], before: usize, expected: &[ReviewLine]) {
+    assert!(rt; lines.get(before..) == Some(expected));
+}
+
+fn check_none(rt: &impl Abort, plan: &Plan) {
+    assert!(rt; matches!(review(plan, Tag::Base(2)), Err(EditFault::NoSuchGroup)));
+}
+
+// That, of the plan of these groups.
+fn check_over(
+    rt: &impl Abort,
+    alloc: Global,
+    texts: &[&str],
+    before: usize,
+    expected: &[ReviewLine],
+) {
+    let plan = read(rt, alloc, texts);
+    check(rt, &plan, before, expected);
+}
+
 #[test]
 fn of_a_group_of_three(rt: HostRuntime) {
-    let alloc = rt.alloc();
-    let plan = read(&rt, alloc, &[THREE, LINKING]);
-    let lines = review(&plan, Tag::Base(0)).expect(&rt, "lines");
     let expected = [
         line(100, 1, Reviewed::Opaque(44)),
         line(100, 2, Reviewed::Field(Var::DTsr, 0, 200)),
         line(101, 0, Reviewed::Field(Var::DLink, 0, 500)),
     ];
-    assert!(rt; lines.as_slice() == expected.as_slice());
+    check_over(&rt, rt.alloc(), &[THREE, LINKING], 0, &expected);
 }
 
 #[test]
 fn of_a_group_of_one(rt: HostRuntime) {
-    let alloc = rt.alloc();
-    let plan = read(&rt, alloc, &[EMPTY, LINKING]);
-    assert!(rt; review(&plan, Tag::Base(0)).expect(&rt, "lines").is_empty());
-    assert!(rt; matches!(review(&plan, Tag::Base(2)), Err(EditFault::NoSuchGroup)));
+    check_over(&rt, rt.alloc(), &[EMPTY, LINKING], 0, &[]);
+}
+
+fn distance(k: u32, value: u32) -> ReviewLine {
+    line(101, 0, Reviewed::Field(Var::DLink, k, value))
 }
 
 #[test]
 fn of_a_group_named_by_two_neighbours(rt: HostRuntime) {
-    let alloc = rt.alloc();
-    let plan = read(&rt, alloc, &[THREE, TWICE]);
-    let lines = review(&plan, Tag::Base(0)).expect(&rt, "lines");
-    let distance = |k: u32, value: u32| line(101, 0, Reviewed::Field(Var::DLink, k, value));
     let expected = [
         distance(0, 500),
         distance(1, 600),
         distance(1, 600),
         distance(2, 700),
     ];
-    assert_eq!(rt; lines.len(), 6);
-    assert!(rt; &lines.as_slice()[2..] == expected.as_slice());
+    check_over(&rt, rt.alloc(), &[THREE, TWICE], 2, &expected);
 }

@@ -1,240 +1,180 @@
 //! Edits of known plans: each is done, taken back and done again.
 
-use crate::doing::{follow, read, telegrams};
-use crate::edits::{
-    ABROAD, EMPTY, FIRST, LINKING, REVOCATION, SECOND, delete, insert, remove, renumber, set,
-    shift, turn,
-};
-use balise_edits::{Bits, Edit, Packet, Refusal, Tag, Var};
+use crate::doing::{Row, follow_over};
+use crate::edits::{ABROAD, EMPTY, FIRST, LINKING, REVOCATION, SECOND, Step, THIRD};
+use balise_edits::{Refusal, Tag, Var};
+
+/// What the first edit puts in.
+const NEW: Tag = Tag::Fresh(1);
+
+const RENUMBERED: &str = "a1007f80a0647fffffffffffffffffffffffffffffffffffffffc0";
+
+const FOLLOWING: &str = "a1007f80a032c15022a07d00646301ffffffffffffffffffffffc0";
+
+const SET_ABROAD: &str = "a1007f80a03341503b204b20300c88c08190012d8cffffffffffc0";
+
+const NUMBERS: &[Row] = &[
+    (
+        Step::Renumber(FIRST, 200),
+        Ok(()),
+        &[RENUMBERED, FOLLOWING, ABROAD],
+    ),
+    (
+        Step::Set(THIRD, FIRST, Var::NidBg, 1, 150),
+        Ok(()),
+        &[RENUMBERED, FOLLOWING, SET_ABROAD],
+    ),
+];
 
 #[test]
 fn links_and_numbers(rt: HostRuntime) {
-    let alloc = rt.alloc();
-    let mut plan = read(&rt, alloc, &[EMPTY, LINKING, ABROAD]);
-    let renumbered = "a1007f80a0647fffffffffffffffffffffffffffffffffffffffc0";
-    let following = "a1007f80a032c15022a07d00646301ffffffffffffffffffffffc0";
-    let set_abroad = "a1007f80a03341503b204b20300c88c08190012d8cffffffffffc0";
-    let edit = renumber(FIRST, 200);
-    follow(
-        &rt,
-        alloc,
-        &mut plan,
-        1,
-        edit,
-        Ok(()),
-        &[renumbered, following, ABROAD],
-    );
-    let edit = set(Tag::Base(2), FIRST, Var::NidBg, 1, 150);
-    follow(
-        &rt,
-        alloc,
-        &mut plan,
-        2,
-        edit,
-        Ok(()),
-        &[renumbered, following, set_abroad],
-    );
+    follow_over(&rt, rt.alloc(), &[EMPTY, LINKING, ABROAD], NUMBERS);
 }
+
+/// A number that is only named is taken too.
+const REFUSED: &[Row] = &[
+    (
+        Step::Renumber(FIRST, 100),
+        Err(Refusal::NumberTaken),
+        &[LINKING],
+    ),
+    (
+        Step::Renumber(FIRST, 16383),
+        Err(Refusal::NumberReserved),
+        &[LINKING],
+    ),
+    (
+        Step::Renumber(FIRST, 16384),
+        Err(Refusal::ValueTooWide),
+        &[LINKING],
+    ),
+    (
+        Step::Renumber(SECOND, 7),
+        Err(Refusal::NoSuchGroup),
+        &[LINKING],
+    ),
+];
 
 #[test]
 fn numbers_refused(rt: HostRuntime) {
-    let alloc = rt.alloc();
-    let mut plan = read(&rt, alloc, &[LINKING]);
-    // A number that is only named is taken too.
-    let edit = renumber(FIRST, 100);
-    follow(
-        &rt,
-        alloc,
-        &mut plan,
-        1,
-        edit,
-        Err(Refusal::NumberTaken),
-        &[LINKING],
-    );
-    let edit = renumber(FIRST, 16383);
-    follow(
-        &rt,
-        alloc,
-        &mut plan,
-        2,
-        edit,
-        Err(Refusal::NumberReserved),
-        &[LINKING],
-    );
-    let edit = renumber(FIRST, 16384);
-    follow(
-        &rt,
-        alloc,
-        &mut plan,
-        3,
-        edit,
-        Err(Refusal::ValueTooWide),
-        &[LINKING],
-    );
-    let edit = renumber(SECOND, 7);
-    follow(
-        &rt,
-        alloc,
-        &mut plan,
-        4,
-        edit,
-        Err(Refusal::NoSuchGroup),
-        &[LINKING],
-    );
+    follow_over(&rt, rt.alloc(), &[LINKING], REFUSED);
 }
+
+const THREE: &str =
+    "a104ff80a032505023a0a0320096047fffffffffffffffffffffc0 a1157f80a0324b0010697fffffffffffffffffffffffffffffffc0 a1247f80a0327fffffffffffffffffffffffffffffffffffffffc0";
+
+const TURNED: &str =
+    "a1047f80a0327fffffffffffffffffffffffffffffffffffffffc0 a114ff80a0324b1010697fffffffffffffffffffffffffffffffc0 a1257f80a032504023a0a0320096047fffffffffffffffffffffc0";
+
+const LINK_TURNED: &str = "a1007f80a032c15022a07d00322301ffffffffffffffffffffffc0";
+
+const TURN: &[Row] = &[(Step::Turn(FIRST), Ok(()), &[TURNED, LINK_TURNED])];
 
 #[test]
 fn a_group_turned(rt: HostRuntime) {
-    let alloc = rt.alloc();
-    let three =
-        "a104ff80a032505023a0a0320096047fffffffffffffffffffffc0 a1157f80a0324b0010697fffffffffffffffffffffffffffffffc0 a1247f80a0327fffffffffffffffffffffffffffffffffffffffc0";
-    let turned =
-        "a1047f80a0327fffffffffffffffffffffffffffffffffffffffc0 a114ff80a0324b1010697fffffffffffffffffffffffffffffffc0 a1257f80a032504023a0a0320096047fffffffffffffffffffffc0";
-    let link_turned = "a1007f80a032c15022a07d00322301ffffffffffffffffffffffc0";
-    let mut plan = read(&rt, alloc, &[three, LINKING]);
-    let edit = turn(FIRST);
-    follow(
-        &rt,
-        alloc,
-        &mut plan,
-        1,
-        edit,
-        Ok(()),
-        &[turned, link_turned],
-    );
+    follow_over(&rt, rt.alloc(), &[THREE, LINKING], TURN);
 }
+
+const COLOURED: &str = "a1007f80a0327fc05a5a5a5a5a5a5a5a5a5a5a5a5a5a5a5a5a5a40";
+
+const FILLED: &str = "a1007f80a03250900f82ffda5a5a5a5a5a5a5a5a5a5a5a5a5a5a40";
+
+const PADDED: &[Row] = &[
+    (Step::Insert(FIRST, None, "42403e0a"), Ok(()), &[FILLED]),
+    (Step::Delete(NEW), Ok(()), &[COLOURED]),
+];
 
 #[test]
 fn padding_stays(rt: HostRuntime) {
-    let alloc = rt.alloc();
-    let coloured = "a1007f80a0327fc05a5a5a5a5a5a5a5a5a5a5a5a5a5a5a5a5a5a40";
-    let filled = "a1007f80a03250900f82ffda5a5a5a5a5a5a5a5a5a5a5a5a5a5a40";
-    let mut plan = read(&rt, alloc, &[coloured]);
-    let edit = insert(&rt, alloc, FIRST, None, "42403e0a");
-    follow(&rt, alloc, &mut plan, 1, edit, Ok(()), &[filled]);
-    let edit = delete(Tag::Fresh(1));
-    follow(&rt, alloc, &mut plan, 2, edit, Ok(()), &[coloured]);
+    follow_over(&rt, rt.alloc(), &[COLOURED], PADDED);
 }
+
+const FULL: &str = "a1007f80a0324b204c000000000000000000000000000000003fc0";
+
+const WIDE: &[Row] = &[
+    (
+        Step::Insert(FIRST, None, "2c813000000000000000000000000000000000"),
+        Ok(()),
+        &[FULL],
+    ),
+    (
+        Step::Insert(FIRST, Some(NEW), "42403e0a"),
+        Err(Refusal::NoRoom),
+        &[FULL],
+    ),
+    (Step::Move(NEW, None), Err(Refusal::SamePlace), &[FULL]),
+];
 
 #[test]
 fn a_telegram_filled(rt: HostRuntime) {
-    let alloc = rt.alloc();
-    let full = "a1007f80a0324b204c000000000000000000000000000000003fc0";
-    let mut plan = read(&rt, alloc, &[EMPTY]);
-    let edit = insert(
-        &rt,
-        alloc,
-        FIRST,
-        None,
-        "2c813000000000000000000000000000000000",
-    );
-    follow(&rt, alloc, &mut plan, 1, edit, Ok(()), &[full]);
-    let edit = insert(&rt, alloc, FIRST, Some(Tag::Fresh(1)), "42403e0a");
-    follow(
-        &rt,
-        alloc,
-        &mut plan,
-        2,
-        edit,
-        Err(Refusal::NoRoom),
-        &[full],
-    );
-    let edit = shift(Tag::Fresh(1), None);
-    follow(
-        &rt,
-        alloc,
-        &mut plan,
-        3,
-        edit,
-        Err(Refusal::SamePlace),
-        &[full],
-    );
+    follow_over(&rt, rt.alloc(), &[EMPTY], WIDE);
 }
+
+const PROFILE: &str = "1b40fa80002810659224107d062180f0";
+
+const FASTER: &str = "a1007f80a03246d03ea0000a04196489041f4188603fffffffffc0";
+
+const SPEEDS: &[Row] = &[
+    (
+        Step::Insert(FIRST, None, PROFILE),
+        Ok(()),
+        &["a1007f80a03246d03ea0000a04196489041f4188603dffffffffc0"],
+    ),
+    (Step::Set(FIRST, NEW, Var::VDiff, 2, 31), Ok(()), &[FASTER]),
+    (
+        Step::Set(FIRST, NEW, Var::QDiff, 0, 1),
+        Err(Refusal::Steering),
+        &[FASTER],
+    ),
+];
 
 #[test]
 fn a_speed_profile(rt: HostRuntime) {
-    let alloc = rt.alloc();
-    let digits = "1b40fa80002810659224107d062180f0";
-    let put = "a1007f80a03246d03ea0000a04196489041f4188603dffffffffc0";
-    let faster = "a1007f80a03246d03ea0000a04196489041f4188603fffffffffc0";
-    let mut plan = read(&rt, alloc, &[EMPTY]);
-    let edit = insert(&rt, alloc, FIRST, None, digits);
-    follow(&rt, alloc, &mut plan, 1, edit, Ok(()), &[put]);
-    let edit = set(FIRST, Tag::Fresh(1), Var::VDiff, 2, 31);
-    follow(&rt, alloc, &mut plan, 2, edit, Ok(()), &[faster]);
-    let edit = set(FIRST, Tag::Fresh(1), Var::QDiff, 0, 1);
-    follow(
-        &rt,
-        alloc,
-        &mut plan,
-        3,
-        edit,
-        Err(Refusal::Steering),
-        &[faster],
-    );
+    follow_over(&rt, rt.alloc(), &[EMPTY], SPEEDS);
 }
 
-// In version 1.0 a packet 27 isn't known.
+const OLD: &str = "90007f80a0327fffffffffffffffffffffffffffffffffffffffc0";
+
+const OLD_PUT: &str = "90007f80a03246d03ea0000a04196489041f4188603dffffffffc0";
+
+/// In version 1.0 a packet 27 isn't known.
+const UNKNOWN: &[Row] = &[
+    (Step::InsertOld(FIRST, PROFILE), Ok(()), &[OLD_PUT]),
+    (
+        Step::Set(FIRST, NEW, Var::VDiff, 0, 1),
+        Err(Refusal::NoSuchVariable),
+        &[OLD_PUT],
+    ),
+    (
+        Step::Set(FIRST, NEW, Var::QDir, 0, 2),
+        Ok(()),
+        &["90007f80a03246e03ea0000a04196489041f4188603dffffffffc0"],
+    ),
+];
+
 #[test]
 fn an_unknown_profile(rt: HostRuntime) {
-    let alloc = rt.alloc();
-    let empty = "90007f80a0327fffffffffffffffffffffffffffffffffffffffc0";
-    let put = "90007f80a03246d03ea0000a04196489041f4188603dffffffffc0";
-    let both_ways = "90007f80a03246e03ea0000a04196489041f4188603dffffffffc0";
-    let mut plan = read(&rt, alloc, &[empty]);
-    let bits = Bits::digits(alloc, "1b40fa80002810659224107d062180f0").expect(&rt, "digits");
-    let (packet, _) = Packet::read(&bits, 0, 16).expect(&rt, "a packet");
-    let edit = Edit::InsertPacket {
-        g: FIRST,
-        t: 0,
-        after: None,
-        packet: Box::new(alloc, packet).expect(&rt, "memory"),
-    };
-    follow(&rt, alloc, &mut plan, 1, edit, Ok(()), &[put]);
-    let edit = set(FIRST, Tag::Fresh(1), Var::VDiff, 0, 1);
-    follow(
-        &rt,
-        alloc,
-        &mut plan,
-        2,
-        edit,
-        Err(Refusal::NoSuchVariable),
-        &[put],
-    );
-    let edit = set(FIRST, Tag::Fresh(1), Var::QDir, 0, 2);
-    follow(&rt, alloc, &mut plan, 3, edit, Ok(()), &[both_ways]);
+    follow_over(&rt, rt.alloc(), &[OLD], UNKNOWN);
 }
+
+const COUNTED: &str = "a1007f00a03250900f82ffffffffffffffffffffffffffffffffc0";
+
+const GROUPS: &[Row] = &[
+    (
+        Step::SetHead(FIRST, Var::MMcount, 254),
+        Ok(()),
+        &[COUNTED, LINKING],
+    ),
+    (Step::Drop(FIRST), Ok(()), &[LINKING]),
+    (Step::Add(Some(SECOND), EMPTY), Ok(()), &[LINKING, EMPTY]),
+    (
+        Step::Add(None, LINKING),
+        Err(Refusal::GroupTwice),
+        &[LINKING, EMPTY],
+    ),
+];
 
 #[test]
 fn heads_and_groups(rt: HostRuntime) {
-    let alloc = rt.alloc();
-    let counted = "a1007f00a03250900f82ffffffffffffffffffffffffffffffffc0";
-    let mut plan = read(&rt, alloc, &[REVOCATION, LINKING]);
-    let edit = Edit::SetHead {
-        g: FIRST,
-        t: 0,
-        var: Var::MMcount,
-        value: 254,
-    };
-    follow(&rt, alloc, &mut plan, 1, edit, Ok(()), &[counted, LINKING]);
-    let edit = remove(FIRST);
-    follow(&rt, alloc, &mut plan, 2, edit, Ok(()), &[LINKING]);
-    let edit = Edit::AddGroup {
-        after: Some(SECOND),
-        telegrams: telegrams(&rt, alloc, EMPTY),
-    };
-    follow(&rt, alloc, &mut plan, 3, edit, Ok(()), &[LINKING, EMPTY]);
-    let edit = Edit::AddGroup {
-        after: None,
-        telegrams: telegrams(&rt, alloc, LINKING),
-    };
-    follow(
-        &rt,
-        alloc,
-        &mut plan,
-        4,
-        edit,
-        Err(Refusal::GroupTwice),
-        &[LINKING, EMPTY],
-    );
+    follow_over(&rt, rt.alloc(), &[REVOCATION, LINKING], GROUPS);
 }

@@ -3,7 +3,8 @@
 
 use crate::openings::read_back;
 use crate::sessions::{
-    ABROAD, EMPTY, LINKING, REVOCATION, Step, TSR_6, answer_to, id, plan_of, session_of,
+    ABROAD, EMPTY, LINKING, REVOCATION, Step, TSR_6, answer_to, bits_of, id, plan_of, push_bits,
+    session_of, shown,
 };
 use balise_history::{Bits, Command, Refusal, Session, Var};
 use std::alloc::Global;
@@ -43,36 +44,42 @@ fn undo_each(rt: &impl Abort, session: &mut Session, count: u32) {
     }
 }
 
-#[test]
-fn a_million_edits(rt: HostRuntime) {
-    let alloc = rt.alloc();
-    let mut session = session_of(&rt, alloc, &[EMPTY]);
-    edit_often(&rt, &mut session, 1_000_000);
-    check_standing(&rt, &session, 1_000_000);
-    assert!(rt; is_worn(&mut session));
-    check_standing(&rt, &session, 1_000_000);
+fn check_standing(rt: &impl Abort, session: &Session, count: usize) {
+    assert!(rt; session.standing().len() == count);
 }
 
-fn check_standing(rt: &impl Abort, session: &Session, count: usize) {
-    assert_eq!(rt; session.standing().len(), count);
+fn edit_a_million_times(rt: &impl Abort, session: &mut Session) {
+    edit_often(rt, session, 1_000_000);
+    check_standing(rt, session, 1_000_000);
+    assert!(rt; is_worn(session));
+    check_standing(rt, session, 1_000_000);
+}
+
+#[test]
+fn a_million_edits(rt: HostRuntime) {
+    let mut session = session_of(&rt, rt.alloc(), &[EMPTY]);
+    edit_a_million_times(&rt, &mut session);
 }
 
 /// That so many edits are undone, the last one done first.
-fn check_undone(rt: &impl Abort, session: &Session, count: usize, first: u32) {
+fn check_undone(rt: &impl Abort, undone: &[u32], count: usize, first: u32) {
+    assert!(rt; undone.len() == count);
+    assert!(rt; undone.first().copied() == Some(first));
+}
+
+fn undo_half_a_million(rt: &impl Abort, session: &mut Session) {
+    edit_often(rt, session, 500_000);
+    undo_each(rt, session, 500_000);
+    assert!(rt; is_worn(session));
+    check_standing(rt, session, 0);
     let undone = session.undone().expect(rt, "memory");
-    assert_eq!(rt; undone.len(), count);
-    assert_eq!(rt; undone.first().copied(), Some(first));
+    check_undone(rt, undone.as_slice(), 500_000, 500_000);
 }
 
 #[test]
 fn half_a_million_edits_undone(rt: HostRuntime) {
-    let alloc = rt.alloc();
-    let mut session = session_of(&rt, alloc, &[EMPTY]);
-    edit_often(&rt, &mut session, 500_000);
-    undo_each(&rt, &mut session, 500_000);
-    assert!(rt; is_worn(&mut session));
-    check_standing(&rt, &session, 0);
-    check_undone(&rt, &session, 500_000, 500_000);
+    let mut session = session_of(&rt, rt.alloc(), &[EMPTY]);
+    undo_half_a_million(&rt, &mut session);
 }
 
 /// One edit of each kind, and a second of one that leaves the identities as they were.
@@ -94,8 +101,8 @@ fn of_each_kind(value: u32) -> [Step; 10] {
 /// Makes 1,000 edits of all kinds.
 fn edit_all(rt: &impl Abort, alloc: Global, session: &mut Session) {
     for value in 0..100 {
-        for step in of_each_kind(value) {
-            assert!(rt; answer_to(rt, alloc, session, step).is_ok());
+        for step in of_each_kind(value).iter() {
+            assert!(rt; answer_to(rt, alloc, session, *step).is_ok());
         }
     }
 }
@@ -107,14 +114,9 @@ fn busy(rt: &impl Abort, alloc: Global) -> Session {
     session
 }
 
-/// What the plan of a session shows.
-fn shown(rt: &impl Abort, session: &Session) -> Vec<Vec<Bits>> {
-    session.plan().shown().expect(rt, "memory")
-}
-
 /// What the plan shows that the busy session was made over.
 fn shown_as_read(rt: &impl Abort, alloc: Global) -> Vec<Vec<Bits>> {
-    let read = plan_of(rt, alloc, &[REVOCATION, LINKING]).expect(rt, "a plan");
+    let read = plan_of(rt, alloc, &[REVOCATION, LINKING]);
     read.shown().expect(rt, "memory")
 }
 
@@ -125,27 +127,32 @@ fn redo_each(rt: &impl Abort, session: &mut Session, count: u32) {
     }
 }
 
-/// Undoes 1,000 edits and redoes them, and no more than those.
-fn undo_and_redo(rt: &impl Abort, session: &mut Session, read: &Vec<Vec<Bits>>) {
+/// Undoes 1,000 edits, which leaves what was read, and redoes them, which leaves what was made.
+fn undo_and_redo(
+    rt: &impl Abort,
+    session: &mut Session,
+    read: &Vec<Vec<Bits>>,
+    made: &Vec<Vec<Bits>>,
+) {
     undo_each(rt, session, 1000);
     assert!(rt; shown(rt, session) == *read);
     assert!(rt; session.undo() == Err(Refusal::NothingToUndo));
     redo_each(rt, session, 1000);
+    assert!(rt; shown(rt, session) == *made);
+    assert!(rt; session.redo() == Err(Refusal::NothingToRedo));
 }
 
 #[test]
 fn a_thousand_edits_of_all_kinds_undone_and_redone(rt: HostRuntime) {
     let alloc = rt.alloc();
     let mut session = busy(&rt, alloc);
-    check_next(&rt, &session, 1001);
     let made = shown(&rt, &session);
-    undo_and_redo(&rt, &mut session, &shown_as_read(&rt, alloc));
-    assert!(rt; shown(&rt, &session) == made);
-    assert!(rt; session.redo() == Err(Refusal::NothingToRedo));
+    check_next(&rt, &session, 1001);
+    undo_and_redo(&rt, &mut session, &shown_as_read(&rt, alloc), &made);
 }
 
 fn check_next(rt: &impl Abort, session: &Session, serial: u32) {
-    assert_eq!(rt; session.next_serial(), serial);
+    assert!(rt; session.next_serial() == serial);
 }
 
 fn undo_500(rt: &impl Abort, session: &mut Session) {
@@ -160,19 +167,14 @@ fn redo_500(rt: &impl Abort, session: &mut Session) {
     }
 }
 
-/// That a session that was read back from a journal is as far as this one, and shows the same.
-fn check_read_back(rt: &impl Abort, again: &Session, session: &Session) {
+/// That a session that was read back from a journal is as far as this one, where half was undone, and that it shows
+/// what was made once all is done again.
+fn check_read_back(rt: &impl Abort, again: &mut Session, session: &Session, made: &Vec<Vec<Bits>>) {
     check_next(rt, again, 1001);
     check_standing(rt, again, 500);
     assert!(rt; shown(rt, again) == shown(rt, session));
-}
-
-/// That what was made is made again in a session that was read back from a journal, where half of it was undone.
-fn check_redone(rt: &impl Abort, alloc: Global, session: &Session, made: &Vec<Vec<Bits>>) {
-    let mut again = read_back(rt, alloc, &[REVOCATION, LINKING], session);
-    check_read_back(rt, &again, session);
-    redo_500(rt, &mut again);
-    assert!(rt; shown(rt, &again) == *made);
+    redo_500(rt, again);
+    assert!(rt; shown(rt, again) == *made);
 }
 
 #[test]
@@ -181,36 +183,38 @@ fn a_journal_of_a_thousand_edits_read_back(rt: HostRuntime) {
     let mut session = busy(&rt, alloc);
     let made = shown(&rt, &session);
     undo_500(&rt, &mut session);
-    check_redone(&rt, alloc, &session, &made);
+    let mut again = read_back(&rt, alloc, &[REVOCATION, LINKING], &session);
+    check_read_back(&rt, &mut again, &session, &made);
 }
 
-/// A group of one telegram without packets, of this number in country 5.
-fn group(rt: &impl Abort, alloc: Global, number: u32) -> Vec<Bits> {
-    let mut bits = Bits::from_hex(alloc, EMPTY, 210).expect(rt, "digits");
+fn put_number(rt: &impl Abort, bits: &mut Bits, number: u32) {
     assert!(rt; bits.len() == 210);
     assert!(rt; number < 16384);
     bits.put(35, 14, number);
+}
+
+/// A group of one telegram without packets, of this number in country 5, to be added at a place.
+fn added(rt: &impl Abort, alloc: Global, at: u32, number: u32) -> Command {
+    let mut bits = bits_of(rt, alloc, EMPTY);
+    put_number(rt, &mut bits, number);
     let mut telegrams = Vec::new(alloc);
-    telegrams.push(bits).expect(rt, "memory");
-    telegrams
+    push_bits(rt, &mut telegrams, bits);
+    Command::AddGroup { at, telegrams }
 }
 
 /// Adds 1,001 groups, each later one behind the second place.
 fn add_groups(rt: &impl Abort, alloc: Global, session: &mut Session) {
     for number in 0..1001 {
-        let command = Command::AddGroup {
-            at: if number == 0 { 1 } else { 2 },
-            telegrams: group(rt, alloc, number + 200),
-        };
-        assert!(rt; session.edit(command) == Ok(number + 1));
+        let at = if number == 0 { 1 } else { 2 };
+        assert!(rt; session.edit(added(rt, alloc, at, number + 200)) == Ok(number + 1));
     }
 }
 
 /// Strikes the first edit out, which is compared with 1,000 later ones.
 fn strike_first(rt: &impl Abort, session: &mut Session) {
     let struck = session.strike(1).expect(rt, "a strike");
-    assert_eq!(rt; struck.compared, 1000);
-    assert_eq!(rt; session.plan().count(), 1001);
+    assert!(rt; struck.compared == 1000);
+    assert!(rt; session.plan().count() == 1001);
 }
 
 /// That a session shows the same once its journal was read back.
@@ -219,14 +223,19 @@ fn check_again(rt: &impl Abort, alloc: Global, session: &Session) {
     assert!(rt; shown(rt, &again) == shown(rt, session));
 }
 
+/// Strikes the first edit out and does it again, which leaves what was made.
+fn strike_and_redo(rt: &impl Abort, alloc: Global, session: &mut Session, made: &Vec<Vec<Bits>>) {
+    strike_first(rt, session);
+    check_again(rt, alloc, session);
+    assert!(rt; session.redo() == Ok(1));
+    assert!(rt; shown(rt, session) == *made);
+}
+
 #[test]
 fn struck_under_a_thousand_later_neighbours(rt: HostRuntime) {
     let alloc = rt.alloc();
     let mut session = session_of(&rt, alloc, &[EMPTY]);
     add_groups(&rt, alloc, &mut session);
     let made = shown(&rt, &session);
-    strike_first(&rt, &mut session);
-    check_again(&rt, alloc, &session);
-    assert!(rt; session.redo() == Ok(1));
-    assert!(rt; shown(&rt, &session) == made);
+    strike_and_redo(&rt, alloc, &mut session, &made);
 }

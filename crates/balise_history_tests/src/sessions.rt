@@ -1,6 +1,6 @@
 //! Sessions over plans of known digits.
 
-ghost use Rattle.std.specs.Prelude.{◌≡◌, ℕ, IfOk};
+ghost use Rattle.std.specs.Prelude.{◌≡◌, ℕ};
 ghost use Rattle.balise_rules.specs.Accepting.{Unused};
 
 use balise_history::{Bits, Command, Id, Plan, Refusal, Session, Var};
@@ -29,7 +29,7 @@ pub(crate) const TSR_7: &str = "42403e0e";
 pub(crate) const TSR_9: &str = "42403e12";
 
 /// What is asked of a session, in the first telegram of a group.
-#[derive(Clone, Copy, Debug)]
+#[derive(Clone, Copy)]
 pub(crate) enum Step {
     Set(u32, Var, u32, u32),
     SetHead(u32, Var, u32),
@@ -59,9 +59,17 @@ pub(crate) fn telegrams(rt: &impl Abort, alloc: Global, text: &str) -> Vec<Bits>
 
 fn push_words(rt: &impl Abort, alloc: Global, telegrams: &mut Vec<Bits>, text: &str) {
     for word in text.split_whitespace() {
-        let bits = Bits::from_hex(alloc, word, 210).expect(rt, "digits");
-        telegrams.push(bits).expect(rt, "memory");
+        push_bits(rt, telegrams, bits_of(rt, alloc, word));
     }
+}
+
+/// The bits of a telegram of 210 bits.
+pub(crate) fn bits_of(rt: &impl Abort, alloc: Global, digits: &str) -> Bits {
+    Bits::from_hex(alloc, digits, 210).expect(rt, "digits")
+}
+
+pub(crate) fn push_bits(rt: &impl Abort, telegrams: &mut Vec<Bits>, bits: Bits) {
+    telegrams.push(bits).expect(rt, "memory");
 }
 
 fn push_groups(rt: &impl Abort, alloc: Global, groups: &mut Vec<Vec<Bits>>, texts: &[&str]) {
@@ -72,38 +80,34 @@ fn push_groups(rt: &impl Abort, alloc: Global, groups: &mut Vec<Vec<Bits>>, text
     }
 }
 
-/// The plan of groups.
-pub(crate) fn plan_of(rt: &impl Abort, alloc: Global, texts: &[&str]) -> Result<Plan, Refusal>
-    ensures untagged { IfOk result (λ p. (n : ℕ) → Unused n p.groups) }
-    ensures changes { IfOk result (λ p. p.changes ≡ 0) }
-{
+/// The bits of these groups.
+pub(crate) fn groups_of(rt: &impl Abort, alloc: Global, texts: &[&str]) -> Vec<Vec<Bits>> {
     let mut groups = Vec::new(alloc);
     push_groups(rt, alloc, &mut groups, texts);
-    match Plan::read(alloc, groups) {
-        Ok(plan) => Ok(plan),
-        Err(fault) => Err(fault),
-    }
+    groups
+}
+
+/// The plan of groups.
+pub(crate) fn plan_of(rt: &impl Abort, alloc: Global, texts: &[&str]) -> Plan
+    ensures untagged { (n : ℕ) → Unused n result.groups }
+    ensures changes { result.changes ≡ 0 }
+{
+    Plan::read(alloc, groups_of(rt, alloc, texts)).expect(rt, "a plan")
 }
 
 /// A session over groups.
 pub(crate) fn session_of(rt: &impl Abort, alloc: Global, texts: &[&str]) -> Session {
-    match plan_of(rt, alloc, texts) {
-        Ok(plan) => Session::new(alloc, plan),
-        Err(fault) => panic!(rt; "{fault:?}"),
-    }
+    Session::new(alloc, plan_of(rt, alloc, texts))
+}
+
+/// What the plan of a session shows.
+pub(crate) fn shown(rt: &impl Abort, session: &Session) -> Vec<Vec<Bits>> {
+    session.plan().shown().expect(rt, "memory")
 }
 
 /// Whether the plan of a session shows these groups.
 pub(crate) fn shows(rt: &impl Abort, alloc: Global, session: &Session, texts: &[&str]) -> bool {
-    let shown = session.plan().shown().expect(rt, "memory");
-    let mut same = shown.len() == texts.len();
-    for (i, text) in texts.iter().enumerate() {
-        match shown.get(i) {
-            Some(group) => same &= *group == telegrams(rt, alloc, *text),
-            None => same = false,
-        }
-    }
-    same
+    shown(rt, session) == groups_of(rt, alloc, texts)
 }
 
 /// The command that a step is, if it is an edit.
@@ -176,36 +180,39 @@ pub(crate) fn answer_to(
     }
 }
 
-/// Does steps and looks at each answer, at the count of changes, which rises by one where a step is accepted, and at the
-/// plan in the end.
-pub(crate) fn follow(
+/// Does a step and looks at its answer and at the count of changes, which rises by one where the step is accepted.
+pub(crate) fn ask(
     rt: &impl Abort,
     alloc: Global,
     session: &mut Session,
-    steps: &[(Step, Result<u32, Refusal>)],
-    shown: &[&str],
+    asked: Step,
+    answer: Result<u32, Refusal>,
 ) {
-    for (asked, answer) in steps.iter() {
-        let changes = session.plan().changes();
-        assert!(rt; changes < 10_000_000);
-        assert!(rt;
-            answer_to(rt, alloc, session, *asked) == *answer,
-            "{asked:?}"
-        );
-        let more = if answer.is_ok() { changes + 1 } else { changes };
-        assert_eq!(rt; session.plan().changes(), more);
+    let changes = session.plan().changes();
+    assert!(rt; changes < 10_000_000);
+    assert!(rt; answer_to(rt, alloc, session, asked) == answer);
+    let more = if answer.is_ok() { changes + 1 } else { changes };
+    assert!(rt; session.plan().changes() == more);
+}
+
+/// Steps with their answers, and the groups that the plan shows then.
+pub(crate) type Stage = (
+    &'static [(Step, Result<u32, Refusal>)],
+    &'static [&'static str],
+);
+
+/// Does steps of stages, and looks at the plan after each stage.
+fn follow(rt: &impl Abort, alloc: Global, session: &mut Session, stages: &[Stage]) {
+    for (steps, shown) in stages.iter() {
+        for (asked, answer) in steps.iter() {
+            ask(rt, alloc, session, *asked, *answer);
+        }
+        assert!(rt; shows(rt, alloc, session, *shown));
     }
-    assert!(rt; shows(rt, alloc, session, shown));
 }
 
 /// The same of a session over groups.
-pub(crate) fn follow_over(
-    rt: &impl Abort,
-    alloc: Global,
-    texts: &[&str],
-    steps: &[(Step, Result<u32, Refusal>)],
-    shown: &[&str],
-) {
+pub(crate) fn follow_over(rt: &impl Abort, alloc: Global, texts: &[&str], stages: &[Stage]) {
     let mut session = session_of(rt, alloc, texts);
-    follow(rt, alloc, &mut session, steps, shown);
+    follow(rt, alloc, &mut session, stages);
 }

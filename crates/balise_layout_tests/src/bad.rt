@@ -3,6 +3,7 @@
 use crate::packets::REVOCATION;
 use balise_bits::Bits;
 use balise_layout::{LayoutFault, Packet};
+use std::process::Abort;
 
 // Digits, a place among their bits, and the fault there in a telegram of version 2.1.
 const ROWS: [(&str, usize, LayoutFault); 14] = [
@@ -35,12 +36,15 @@ const ROWS: [(&str, usize, LayoutFault); 14] = [
     ),
 ];
 
+fn check_bad(rt: &impl Abort, bits: &Bits, at: usize, fault: LayoutFault) {
+    assert!(rt; Packet::read(bits, at, 33).err() == Some(fault));
+    assert!(rt; Packet::check(bits, at, 33) == Err(fault));
+}
+
 #[test]
 fn bits_that_are_no_packet_are_refused(rt: HostRuntime) {
-    for row in &ROWS {
-        let bits = Bits::digits(rt.alloc(), row.0).expect(&rt, "memory");
-        let fault = Packet::read(&bits, row.1, 33).err();
-        assert!(rt; fault == Some(row.2));
-        assert!(rt; Packet::check(&bits, row.1, 33) == Err(row.2));
+    for (digits, at, fault) in &ROWS {
+        let bits = Bits::digits(rt.alloc(), digits).expect(&rt, "memory");
+        check_bad(&rt, &bits, *at, *fault);
     }
 }

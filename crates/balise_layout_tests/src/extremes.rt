@@ -1,6 +1,6 @@
 //! The longest packets of a long telegram: read, with all their fields and elements.
 
-use crate::packets::{check_digits, check_fields_in, packet_of};
+use crate::packets::{check_digits, check_fields_in, check_hex, packet_of};
 use balise_bits::Bits;
 use balise_layout::{Id, Packet, Var};
 use std::alloc::Global;
@@ -63,58 +63,83 @@ const NAMED: [(u32, u32); 18] = [
 fn check_spelling(
     rt: &impl Abort,
     alloc: Global,
+    packet: &Packet,
     digits: &str,
     width: usize,
     count: usize,
-) -> Packet {
-    let packet = packet_of(rt, alloc, digits, 33);
-    assert_eq!(rt; packet.width(), width);
-    check_digits(rt, alloc, &packet, digits);
+) {
+    assert!(rt; packet.width() == width);
+    check_digits(rt, alloc, packet, digits);
     let fields = packet.fields().expect(rt, "memory");
-    assert_eq!(rt; fields.len(), count);
+    assert!(rt; fields.len() == count);
+    check_values(rt, alloc, packet, fields.as_slice(), digits);
+}
+
+// That the packet has these fields, whose values one after another are its digits.
+fn check_values(
+    rt: &impl Abort,
+    alloc: Global,
+    packet: &Packet,
+    fields: &[(Var, u32, u32)],
+    digits: &str,
+) {
     let mut bits = Bits::new(alloc);
-    for (var, occurrence, value) in fields {
-        assert!(rt; value >> var.width() == 0);
-        assert!(rt; packet.field(var, occurrence) == Some(value));
-        bits.push(var.width(), value).expect(rt, "memory");
+    for (var, occurrence, value) in fields.iter() {
+        assert!(rt; packet.field(*var, *occurrence) == Some(*value));
+        push(rt, &mut bits, *var, *value);
     }
-    let text = bits.to_hex().expect(rt, "memory");
-    assert_eq!(rt; text.as_str(), digits);
-    packet
+    check_hex(rt, &bits, digits);
+}
+
+fn push(rt: &impl Abort, bits: &mut Bits, var: Var, value: u32) {
+    assert!(rt; value >> var.width() == 0);
+    bits.push(var.width(), value).expect(rt, "memory");
+}
+
+fn check_differences(rt: &impl Abort, packet: &Packet) {
+    for (var, occurrence, value) in &DIFFERENCES {
+        assert!(rt; packet.field(*var, *occurrence) == *value);
+    }
 }
 
 #[test]
 fn a_packet_27_of_52_differences_is_read(rt: HostRuntime) {
-    let packet = check_spelling(&rt, rt.alloc(), MOST_DIFFERENCES, 762, 169);
-    for (var, occurrence, value) in DIFFERENCES {
-        assert!(rt; packet.field(var, occurrence) == value);
+    let packet = packet_of(&rt, rt.alloc(), MOST_DIFFERENCES, 33);
+    check_spelling(&rt, rt.alloc(), &packet, MOST_DIFFERENCES, 762, 169);
+    check_differences(&rt, &packet);
+}
+
+fn check_named(rt: &impl Abort, links: &[Id]) {
+    assert!(rt; links.len() == NAMED.len());
+    for (id, (country, number)) in links.iter().zip(NAMED.iter()) {
+        assert!(rt; id.country == *country && id.number == *number);
     }
 }
 
 #[test]
 fn a_packet_5_of_18_elements_is_read(rt: HostRuntime) {
-    let packet = check_spelling(&rt, rt.alloc(), FULL_LINKS, 772, 117);
-    let links = packet.links(5).expect(&rt, "memory");
-    assert_eq!(rt; links.len(), NAMED.len());
-    for (id, (country, number)) in links.into_iter().zip(NAMED) {
-        assert!(rt; id == Id { country, number });
+    let packet = packet_of(&rt, rt.alloc(), FULL_LINKS, 33);
+    check_spelling(&rt, rt.alloc(), &packet, FULL_LINKS, 772, 117);
+    check_named(&rt, packet.links(5).expect(&rt, "memory").as_slice());
+}
+
+fn check_most(rt: &impl Abort, links: &[Id]) {
+    assert!(rt; links.len() == 19);
+    for (k, id) in links.iter().enumerate() {
+        assert!(rt; id.country == 5 && id.number == 100 * k as u32 + 1);
     }
 }
 
 #[test]
 fn a_packet_5_of_19_elements_is_read(rt: HostRuntime) {
-    let packet = check_spelling(&rt, rt.alloc(), MOST_ELEMENTS, 771, 119);
-    let links = packet.links(5).expect(&rt, "memory");
-    assert_eq!(rt; links.len(), 19);
-    for (k, id) in links.into_iter().enumerate() {
-        let number = 100 * k as u32 + 1;
-        assert!(rt; id == Id { country: 5, number });
-    }
+    let packet = packet_of(&rt, rt.alloc(), MOST_ELEMENTS, 33);
+    check_spelling(&rt, rt.alloc(), &packet, MOST_ELEMENTS, 771, 119);
+    check_most(&rt, packet.links(5).expect(&rt, "memory").as_slice());
 }
 
 #[test]
 fn fields_of_the_longest_packets_are_listed_where_they_stand(rt: HostRuntime) {
-    for digits in [MOST_DIFFERENCES, FULL_LINKS, MOST_ELEMENTS] {
+    for digits in &[MOST_DIFFERENCES, FULL_LINKS, MOST_ELEMENTS] {
         check_fields_in(&rt, rt.alloc(), digits, 33);
     }
 }

@@ -32,33 +32,40 @@ const ROWS: [Row; 10] = [
     (OPAQUE, 33, Kind::Opaque),
 ];
 
-#[test]
-fn packets_are_of_their_kinds(rt: HostRuntime) {
-    for (digits, version, kind) in ROWS {
-        let packet = packet_of(&rt, rt.alloc(), digits, version);
-        assert!(rt; packet.kind() == kind);
-        assert!(rt; Kind::of(version, packet.number()) == kind);
-        assert!(rt; kind.is_known() == (kind != Kind::Opaque));
-    }
+fn check_kind(rt: &impl Abort, packet: &Packet, version: u32, kind: Kind) {
+    assert!(rt; packet.kind() == kind);
+    assert!(rt; Kind::of(version, packet.number()) == kind);
+    assert!(rt; kind.is_known() == (kind != Kind::Opaque));
 }
 
 #[test]
+fn packets_are_of_their_kinds(rt: HostRuntime) {
+    for (digits, version, kind) in &ROWS {
+        let packet = packet_of(&rt, rt.alloc(), digits, *version);
+        check_kind(&rt, &packet, *version, *kind);
+    }
+}
+
+// A version, a packet's number, and whether the version knows it.
+const KNOWN: [(u32, u32, bool); 12] = [
+    (16, 5, true),
+    (16, 21, true),
+    (16, 65, true),
+    (16, 66, true),
+    (16, 136, true),
+    (16, 27, false),
+    (31, 41, false),
+    (32, 27, true),
+    (47, 41, true),
+    (48, 27, false),
+    (33, 44, false),
+    (33, 255, false),
+];
+
+#[test]
 fn versions_know_their_packets(rt: HostRuntime) {
-    for (version, number, known) in [
-        (16, 5, true),
-        (16, 21, true),
-        (16, 65, true),
-        (16, 66, true),
-        (16, 136, true),
-        (16, 27, false),
-        (31, 41, false),
-        (32, 27, true),
-        (47, 41, true),
-        (48, 27, false),
-        (33, 44, false),
-        (33, 255, false),
-    ] {
-        assert!(rt; is_known(version, number) == known);
+    for (version, number, known) in &KNOWN {
+        assert!(rt; is_known(*version, *number) == *known);
     }
 }
 
@@ -67,16 +74,24 @@ fn versions_know_their_packets(rt: HostRuntime) {
 fn check_again(rt: &impl Abort, alloc: Global, packet: &mut Packet, version: u32) {
     for dir in 0..4 {
         packet.set_field(Var::QDir, 0, dir).expect(rt, "memory");
-        let mut bits = Bits::new(alloc);
-        packet.write(&mut bits).expect(rt, "memory");
-        let text = bits.to_hex().expect(rt, "memory");
-        assert!(rt; packet.field(Var::LPacket, 0) == u32::try_from(bits.len()).ok());
         assert!(rt; packet.is_spelt(version));
-        bits.push(8, 255).expect(rt, "memory");
-        let (again, end) = Packet::read(&bits, 0, version).expect(rt, "memory");
-        assert_eq!(rt; end, packet.width());
-        check_digits(rt, alloc, &again, text.as_str());
+        check_written(rt, alloc, packet, version);
     }
+}
+
+fn check_written(rt: &impl Abort, alloc: Global, packet: &Packet, version: u32) {
+    let mut bits = Bits::new(alloc);
+    packet.write(&mut bits).expect(rt, "memory");
+    assert!(rt; packet.field(Var::LPacket, 0) == u32::try_from(bits.len()).ok());
+    let text = bits.to_hex().expect(rt, "memory");
+    bits.push(8, 255).expect(rt, "memory");
+    check_read(rt, &bits, version, packet.width(), text.as_str());
+}
+
+fn check_read(rt: &impl Abort, bits: &Bits, version: u32, width: usize, text: &str) {
+    let (again, end) = Packet::read(bits, 0, version).expect(rt, "memory");
+    assert!(rt; end == width);
+    check_digits(rt, bits.allocator(), &again, text);
 }
 
 // Calls the laws of a layout, and sees what they say of a packet of it.

@@ -2,7 +2,7 @@
 
 use crate::packets::{
     GRADIENTS, INFILL, INFILL_ABROAD, LEVELS, LINK, LINKS, OPAQUE, RESTRICTION, REVOCATION, SPEEDS,
-    check_digits, check_fields_in, packet_of,
+    check_digits, check_fields, check_fields_in, packet_of,
 };
 use balise_bits::Bits;
 use balise_layout::{Id, Packet, Var};
@@ -27,16 +27,30 @@ const ROWS: [Row; 12] = [
     (OPAQUE, 33, 32, 44, 0),
 ];
 
+// That the packet that stands alone in these bits is checked and found there.
+fn check_bits(rt: &impl Abort, bits: &Bits, row: &Row) {
+    assert!(rt; Packet::check(bits, 0, row.1) == Ok(row.2));
+    assert!(rt; Packet::place_in(bits, 0, row.1, Var::LPacket, 0) == Some(10));
+    assert!(rt; Packet::place_in(bits, 0, row.1, Var::LPacket, 1).is_none());
+}
+
+fn check_packet(rt: &impl Abort, packet: &Packet, row: &Row) {
+    let shown = (packet.width(), packet.number(), packet.q_dir());
+    assert!(rt; shown == (row.2, row.3, row.4));
+    assert!(rt; packet.is_spelt(row.1));
+}
+
+fn check_read(rt: &impl Abort, bits: &Bits, row: &Row) {
+    let (packet, end) = Packet::read(bits, 0, row.1).expect(rt, "memory");
+    assert!(rt; end == row.2);
+    check_packet(rt, &packet, row);
+    check_digits(rt, bits.allocator(), &packet, row.0)
+}
+
 fn check_row(rt: &impl Abort, alloc: Global, row: &Row) {
     let bits = Bits::digits(alloc, row.0).expect(rt, "memory");
-    let (packet, end) = Packet::read(&bits, 0, row.1).expect(rt, "memory");
-    let shown = (end, packet.width(), packet.number(), packet.q_dir());
-    assert!(rt; shown == (row.2, row.2, row.3, row.4));
-    assert!(rt; Packet::check(&bits, 0, row.1) == Ok(row.2));
-    assert!(rt; Packet::place_in(&bits, 0, row.1, Var::LPacket, 0) == Some(10));
-    assert!(rt; Packet::place_in(&bits, 0, row.1, Var::LPacket, 1).is_none());
-    assert!(rt; packet.is_spelt(row.1));
-    check_digits(rt, alloc, &packet, row.0)
+    check_read(rt, &bits, row);
+    check_bits(rt, &bits, row);
 }
 
 #[test]
@@ -53,22 +67,30 @@ fn fields_are_listed_where_a_packet_stands(rt: HostRuntime) {
     }
 }
 
+fn check_copy(rt: &impl Abort, alloc: Global, packet: &Packet, digits: &str) {
+    check_digits(rt, alloc, &packet.copy().expect(rt, "memory"), digits);
+}
+
 #[test]
 fn packets_are_copied(rt: HostRuntime) {
+    let alloc = rt.alloc();
     for row in &ROWS {
-        let packet = packet_of(&rt, rt.alloc(), row.0, row.1);
-        let copy = packet.copy().expect(&rt, "memory");
-        check_digits(&rt, rt.alloc(), &copy, row.0);
+        check_copy(&rt, alloc, &packet_of(&rt, alloc, row.0, row.1), row.0);
     }
+}
+
+// That packet 66 is read from bit 50 on.
+fn check_standing(rt: &impl Abort, bits: &Bits) {
+    let (packet, end) = Packet::read(bits, 50, 33).expect(rt, "memory");
+    assert!(rt; end == 81);
+    check_digits(rt, bits.allocator(), &packet, REVOCATION)
 }
 
 #[test]
 fn a_packet_is_read_where_it_stands(rt: HostRuntime) {
     // A header, packet 66 from bit 50 on, and packet 255.
-    let bits = Bits::digits(rt.alloc(), "a1007f80a03250900f82ff").expect(&rt, "memory");
-    let (packet, end) = Packet::read(&bits, 50, 33).expect(&rt, "memory");
-    assert_eq!(rt; end, 81);
-    check_digits(&rt, rt.alloc(), &packet, REVOCATION)
+    let bits = Bits::digits(rt.alloc(), "a1007f80a03250900f82ff");
+    check_standing(&rt, &bits.expect(&rt, "memory"));
 }
 
 const LINKS_FIELDS: [(Var, u32, u32); 18] = [
@@ -90,6 +112,13 @@ const LINKS_FIELDS: [(Var, u32, u32); 18] = [
     (Var::QLinkorientation, 1, 1),
     (Var::QLinkreaction, 1, 2),
     (Var::QLocacc, 1, 12),
+];
+
+// What version 1.0 reads of them.
+const SPEEDS_KEPT: [(Var, u32, u32); 3] = [
+    (Var::NidPacket, 0, 27),
+    (Var::QDir, 0, 1),
+    (Var::LPacket, 0, 125),
 ];
 
 const SPEEDS_FIELDS: [(Var, u32, u32); 22] = [
@@ -117,24 +146,20 @@ const SPEEDS_FIELDS: [(Var, u32, u32); 22] = [
     (Var::VDiff, 2, 30),
 ];
 
-fn check_fields(
-    rt: &impl Abort,
-    alloc: Global,
-    digits: &str,
-    version: u32,
-    expected: &[(Var, u32, u32)],
-) {
-    let fields = packet_of(rt, alloc, digits, version)
-        .fields()
-        .expect(rt, "memory");
-    assert!(rt; fields.as_slice() == expected);
-}
+// A packet in digits, the version of its telegram, and its fields.
+type Listed = (&'static str, u32, &'static [(Var, u32, u32)]);
+
+const LISTED: [Listed; 3] = [
+    (LINKS, 33, &LINKS_FIELDS),
+    (SPEEDS, 33, &SPEEDS_FIELDS),
+    (SPEEDS, 16, &SPEEDS_KEPT),
+];
 
 #[test]
 fn fields_are_listed(rt: HostRuntime) {
-    check_fields(&rt, rt.alloc(), LINKS, 33, &LINKS_FIELDS);
-    check_fields(&rt, rt.alloc(), SPEEDS, 33, &SPEEDS_FIELDS);
-    check_fields(&rt, rt.alloc(), SPEEDS, 16, &SPEEDS_FIELDS[..3])
+    for (digits, version, expected) in &LISTED {
+        check_fields(&rt, &packet_of(&rt, rt.alloc(), digits, *version), expected);
+    }
 }
 
 fn check_links(rt: &impl Abort, packet: &Packet, expected: &[Id]) {
@@ -166,65 +191,89 @@ fn links_are_listed(rt: HostRuntime) {
     check_links(&rt, &packet, &[NONE, SIX])
 }
 
+// A packet in digits, the version of its telegram, and what its elements name in country 5.
+type Named = (&'static str, u32, &'static [Id]);
+
+const NAMED: [Named; 6] = [
+    (LINKS, 33, &[SIX, SIX]),
+    (LINK, 16, &[FIVE]),
+    (INFILL, 33, &[FIVE]),
+    (INFILL_ABROAD, 33, &[SIX]),
+    (SPEEDS, 33, &[]),
+    (OPAQUE, 33, &[]),
+];
+
+// That the elements of the packet from bit 50 on are listed there, and none before.
+fn check_links_in(rt: &impl Abort, bits: &Bits, version: u32, expected: &[Id]) {
+    let links = Packet::links_in(bits, 50, version, 5);
+    assert!(rt; links.expect(rt, "memory").as_slice() == expected);
+    let none = Packet::links_in(bits, 49, version, 5);
+    assert!(rt; none.expect(rt, "memory").is_empty());
+}
+
+fn check_named(rt: &impl Abort, packet: &Packet, alloc: Global, row: &Named) {
+    let mut bits = Bits::new(alloc);
+    bits.push_zeros(50).expect(rt, "memory");
+    packet.write(&mut bits).expect(rt, "memory");
+    check_links_in(rt, &bits, row.1, row.2);
+}
+
 #[test]
 fn links_are_listed_where_a_packet_stands(rt: HostRuntime) {
-    for (digits, version, expected) in [
-        (LINKS, 33, [SIX, SIX].as_slice()),
-        (LINK, 16, [FIVE].as_slice()),
-        (INFILL, 33, [FIVE].as_slice()),
-        (INFILL_ABROAD, 33, [SIX].as_slice()),
-        (SPEEDS, 33, [].as_slice()),
-        (OPAQUE, 33, [].as_slice()),
-    ] {
-        let mut bits = Bits::new(rt.alloc());
-        bits.push_zeros(50).expect(&rt, "memory");
-        packet_of(&rt, rt.alloc(), digits, version)
-            .write(&mut bits)
-            .expect(&rt, "memory");
-        let links = Packet::links_in(&bits, 50, version, 5).expect(&rt, "memory");
-        assert!(rt; links.as_slice() == expected, "{digits}");
-        let none = Packet::links_in(&bits, 49, version, 5).expect(&rt, "memory");
-        assert!(rt; none.is_empty(), "{digits}");
+    let alloc = rt.alloc();
+    for row in &NAMED {
+        check_named(&rt, &packet_of(&rt, alloc, row.0, row.1), alloc, row);
     }
 }
 
 #[test]
 fn links_have_the_telegrams_country(rt: HostRuntime) {
-    let packet = packet_of(&rt, rt.alloc(), LINK, 33);
-    check_links(&rt, &packet, &[FIVE]);
-    let packet = packet_of(&rt, rt.alloc(), SPEEDS, 33);
-    check_links(&rt, &packet, &[])
+    check_links(&rt, &packet_of(&rt, rt.alloc(), LINK, 33), &[FIVE]);
+    check_links(&rt, &packet_of(&rt, rt.alloc(), SPEEDS, 33), &[])
+}
+
+fn change_infill(rt: &impl Abort, alloc: Global, packet: &mut Packet) {
+    check_links(rt, packet, &[FIVE]);
+    packet.flip_link(0);
+    check_digits(rt, alloc, packet, INFILL);
+    packet.name_link(0, 150);
+    packet.flip_dir();
+    check_digits(rt, alloc, packet, "88004c0258");
+}
+
+fn change_infill_abroad(rt: &impl Abort, alloc: Global, packet: &mut Packet) {
+    check_links(rt, packet, &[SIX]);
+    packet.name_link(0, 16383);
+    packet.name_link(1, 5);
+    check_links(rt, packet, &[NONE]);
+    check_digits(rt, alloc, packet, "88406101bfff")
 }
 
 #[test]
 fn an_infill_location_names_one_group(rt: HostRuntime) {
-    let mut packet = packet_of(&rt, rt.alloc(), INFILL, 33);
-    check_links(&rt, &packet, &[FIVE]);
-    packet.flip_link(0);
-    check_digits(&rt, rt.alloc(), &packet, INFILL);
-    packet.name_link(0, 150);
-    packet.flip_dir();
-    check_digits(&rt, rt.alloc(), &packet, "88004c0258");
-    let mut packet = packet_of(&rt, rt.alloc(), INFILL_ABROAD, 33);
-    check_links(&rt, &packet, &[SIX]);
-    packet.name_link(0, 16383);
-    packet.name_link(1, 5);
-    check_links(&rt, &packet, &[NONE]);
-    check_digits(&rt, rt.alloc(), &packet, "88406101bfff")
+    let alloc = rt.alloc();
+    change_infill(&rt, alloc, &mut packet_of(&rt, alloc, INFILL, 33));
+    let mut abroad = packet_of(&rt, alloc, INFILL_ABROAD, 33);
+    change_infill_abroad(&rt, alloc, &mut abroad);
+}
+
+// A version, and whether it knows packet 27.
+const SPELT: [(u32, bool); 5] = [
+    (16, false),
+    (31, false),
+    (32, true),
+    (47, true),
+    (48, false),
+];
+
+fn check_spelt(rt: &impl Abort, packet: &Packet, is_known: bool) {
+    for (version, known) in &SPELT {
+        assert!(rt; packet.is_spelt(*version) == (*known == is_known));
+    }
 }
 
 #[test]
 fn versions_spell_what_they_know(rt: HostRuntime) {
-    let speeds = packet_of(&rt, rt.alloc(), SPEEDS, 33);
-    let kept = packet_of(&rt, rt.alloc(), SPEEDS, 16);
-    for (version, known) in [
-        (16, false),
-        (31, false),
-        (32, true),
-        (47, true),
-        (48, false),
-    ] {
-        assert!(rt; speeds.is_spelt(version) == known);
-        assert!(rt; kept.is_spelt(version) != known);
-    }
+    check_spelt(&rt, &packet_of(&rt, rt.alloc(), SPEEDS, 33), true);
+    check_spelt(&rt, &packet_of(&rt, rt.alloc(), SPEEDS, 16), false);
 }

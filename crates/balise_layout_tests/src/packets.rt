@@ -1,7 +1,7 @@
 //! Packets of the known kinds and others read, listed, set and written, and bits that are no packet refused.
 
 use balise_bits::Bits;
-use balise_layout::Packet;
+use balise_layout::{Packet, Var};
 use std::alloc::Global;
 use std::process::Abort;
 
@@ -28,35 +28,51 @@ pub(crate) const OPAQUE: &str = "2c0041a5";
 
 // The packet of these digits in a telegram of this version.
 pub(crate) fn packet_of(rt: &impl Abort, alloc: Global, digits: &str, version: u32) -> Packet {
-    let (packet, _) = Packet::read(
-        &Bits::digits(alloc, digits).expect(rt, "memory"),
-        0,
-        version,
-    )
-    .expect(rt, "memory");
-    packet
+    let bits = Bits::digits(alloc, digits).expect(rt, "memory");
+    Packet::read(&bits, 0, version).expect(rt, "memory").0
+}
+
+pub(crate) fn check_hex(rt: &impl Abort, bits: &Bits, digits: &str) {
+    assert!(rt; bits.to_hex().expect(rt, "memory").as_str() == digits);
+}
+
+// That the packet put over zeros is these bits.
+fn check_over(rt: &impl Abort, packet: &Packet, bits: &Bits) {
+    let mut over = Bits::new(bits.allocator());
+    over.push_zeros(3).expect(rt, "memory");
+    over.push_zeros(packet.width()).expect(rt, "memory");
+    packet.put_over(&mut over, 3);
+    assert!(rt; over.slice(3, packet.width()).expect(rt, "memory") == *bits);
 }
 
 // That the packet is written as these digits, and the same is put over zeros.
 pub(crate) fn check_digits(rt: &impl Abort, alloc: Global, packet: &Packet, digits: &str) {
     let mut bits = Bits::new(alloc);
     packet.write(&mut bits).expect(rt, "memory");
-    let text = bits.to_hex().expect(rt, "memory");
-    assert_eq!(rt; text.as_str(), digits);
-    let mut over = Bits::new(alloc);
-    over.push_zeros(3).expect(rt, "memory");
-    over.push_zeros(packet.width()).expect(rt, "memory");
-    packet.put_over(&mut over, 3);
-    assert!(rt; over.slice(3, packet.width()).expect(rt, "memory") == bits);
+    check_hex(rt, &bits, digits);
+    check_over(rt, packet, &bits);
 }
 
-// That the fields listed where the packet stands are those of the packet that is read.
+// That a packet has these fields.
+pub(crate) fn check_fields(rt: &impl Abort, packet: &Packet, expected: &[(Var, u32, u32)]) {
+    let fields = packet.fields().expect(rt, "memory");
+    assert!(rt; fields.as_slice() == expected);
+}
+
+// That the fields listed where the packet stands are those of the packet that is read, and none behind it.
 pub(crate) fn check_fields_in(rt: &impl Abort, alloc: Global, digits: &str, version: u32) {
     let bits = Bits::digits(alloc, digits).expect(rt, "memory");
-    let fields = Packet::fields_in(&bits, 0, version).expect(rt, "memory");
-    let packet = packet_of(rt, alloc, digits, version);
-    let own = packet.fields().expect(rt, "memory");
-    assert!(rt; fields.as_slice() == own.as_slice());
-    let none = Packet::fields_in(&bits, bits.len(), version).expect(rt, "memory");
-    assert!(rt; none.is_empty())
+    check_own_fields(rt, &bits, version);
+    let none = Packet::fields_in(&bits, bits.len(), version);
+    assert!(rt; none.expect(rt, "memory").is_empty())
+}
+
+fn check_own_fields(rt: &impl Abort, bits: &Bits, version: u32) {
+    let packet = Packet::read(bits, 0, version).expect(rt, "a packet").0;
+    check_listed(rt, bits, version, &packet);
+}
+
+fn check_listed(rt: &impl Abort, bits: &Bits, version: u32, packet: &Packet) {
+    let fields = Packet::fields_in(bits, 0, version).expect(rt, "memory");
+    check_fields(rt, packet, fields.as_slice());
 }

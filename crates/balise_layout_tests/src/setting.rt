@@ -4,7 +4,7 @@ use crate::packets::{
     GRADIENTS, INFILL, INFILL_ABROAD, LEVELS, LINK, LINKS, OPAQUE, RESTRICTION, REVOCATION, SPEEDS,
     check_digits, packet_of,
 };
-use balise_layout::{LayoutFault, Var};
+use balise_layout::{LayoutFault, Packet, Var};
 use balise_rules::Refusal;
 use std::alloc::Global;
 use std::process::Abort;
@@ -51,18 +51,22 @@ const ROWS: [(Setting, u32, &str); 11] = [
     ((OPAQUE, 33, Var::QDir, 0, 3), 0, "2cc041a5"),
 ];
 
-fn check_set(rt: &impl Abort, alloc: Global, row: &(Setting, u32, &str)) {
-    let (digits, version, var, k, value) = row.0;
-    let mut packet = packet_of(rt, alloc, digits, version);
+fn check_set(rt: &impl Abort, packet: &mut Packet, row: &(Setting, u32, &str)) {
+    let (_, _, var, k, value) = row.0;
     assert!(rt; packet.field(var, k) == Some(row.1));
     assert!(rt; packet.set_field(var, k, value) == Ok(row.1));
+}
+
+fn check_row(rt: &impl Abort, alloc: Global, row: &(Setting, u32, &str)) {
+    let mut packet = packet_of(rt, alloc, row.0.0, row.0.1);
+    check_set(rt, &mut packet, row);
     check_digits(rt, alloc, &packet, row.2)
 }
 
 #[test]
 fn fields_are_read_and_set(rt: HostRuntime) {
     for row in &ROWS {
-        check_set(&rt, rt.alloc(), row);
+        check_row(&rt, rt.alloc(), row);
     }
 }
 
@@ -105,10 +109,8 @@ fn settings_are_refused(rt: HostRuntime) {
         check_refused(&rt, rt.alloc(), row);
     }
     assert!(rt; LayoutFault::Steering.refusal() == Refusal::Steering);
-    let words = LayoutFault::Steering
-        .to_string(rt.alloc())
-        .expect(&rt, "memory");
-    assert_eq!(rt; words.as_str(), "the variable isn't set in place");
+    let words = LayoutFault::Steering.to_string(rt.alloc());
+    assert!(rt; words.expect(&rt, "memory").as_str() == "the variable isn't set in place");
 }
 
 #[test]

@@ -1,71 +1,94 @@
 //! Texts by a writer that takes three bytes a call, and what is counted.
 
 use crate::devices::{Failure, Narrow};
-use balise_lines::{LineFault, WriteFault, put};
+use balise_lines::{Counted, LineFault, WriteFault, put};
+use std::alloc::Global;
 use std::io;
 use std::io::Write;
+use std::process::Abort;
 
 const TEXT: &[u8] = b"refused 1 BadLine\n";
 
+/// That the write of a number failed, and only what was written before it is there.
+fn check_failed(rt: &impl Abort, writer: &Counted<Narrow>, fails_at: u64) {
+    let text = writer.inner().text.as_slice();
+    assert!(rt; writer.failed() == 1);
+    assert!(rt; fails_at >= 1 && fails_at <= 6);
+    assert!(rt; text.len() as u64 == 3 * (fails_at - 1));
+    assert!(rt; TEXT.starts_with(text));
+}
+
+/// That all of the text was written.
+fn check_done(rt: &impl Abort, writer: &Counted<Narrow>) {
+    assert!(rt; writer.failed() == 0);
+    assert!(rt; writer.inner().text.as_slice() == TEXT);
+}
+
+fn check_write(rt: &impl Abort, alloc: Global, failure: Failure, fails_at: u64) {
+    let mut writer = Narrow::new(alloc, fails_at, failure);
+    let done = put(&mut writer, TEXT);
+    if fails_at <= 6 {
+        assert!(rt; done == Err(WriteFault::Write));
+        check_failed(rt, &writer, fails_at);
+    } else {
+        assert!(rt; done == Ok(()));
+        check_done(rt, &writer);
+    }
+}
+
 #[test]
 fn each_write_fails(rt: HostRuntime) {
-    let failures = [
-        Failure::Error(io::ErrorKind::Other),
-        Failure::Error(io::ErrorKind::Interrupted),
-        Failure::TakesNone,
-    ];
-    for failure in failures {
-        for fails_at in 1..9u64 {
-            let mut writer = Narrow::new(rt.alloc(), fails_at, failure);
-            let done = put(&mut writer, TEXT);
-            let text = writer.inner().text.as_slice();
-            if fails_at <= 6 {
-                assert_eq!(rt; done, Err(WriteFault::Write));
-                assert_eq!(rt; writer.failed(), 1);
-                assert_eq!(rt; text.len() as u64, 3 * (fails_at - 1));
-                assert!(rt; TEXT.starts_with(text));
-            } else {
-                assert_eq!(rt; done, Ok(()));
-                assert_eq!(rt; writer.failed(), 0);
-                assert_eq!(rt; text, TEXT);
-            }
-        }
+    let alloc = rt.alloc();
+    for fails_at in 1..9u64 {
+        check_write(&rt, alloc, Failure::Error(io::ErrorKind::Other), fails_at);
+        let interrupted = Failure::Error(io::ErrorKind::Interrupted);
+        check_write(&rt, alloc, interrupted, fails_at);
+        check_write(&rt, alloc, Failure::TakesNone, fails_at);
     }
 }
 
 #[test]
 fn empty_text(rt: HostRuntime) {
     let mut writer = Narrow::new(rt.alloc(), 1, Failure::TakesNone);
-    assert_eq!(rt; put(&mut writer, b""), Ok(()));
-    assert_eq!(rt; writer.inner().calls, 0);
+    assert!(rt; put(&mut writer, b"") == Ok(()));
+    assert!(rt; writer.inner().calls == 0);
+}
+
+/// That a write of some bytes that takes none is counted, and no other call here.
+fn check_writes(rt: &impl Abort, writer: &mut Counted<Narrow>) {
+    assert!(rt; writer.write(b"").expect(rt, "memory") == 0);
+    assert!(rt; writer.failed() == 0);
+    assert!(rt; writer.write(b"ok").expect(rt, "memory") == 0);
+    assert!(rt; writer.failed() == 1);
+    writer.flush().expect(rt, "memory");
+    assert!(rt; writer.failed() == 1);
+}
+
+/// That a flush that fails is counted.
+fn check_flush(rt: &impl Abort, writer: &mut Counted<Narrow>) {
+    assert!(rt; writer.flush().is_err());
+    assert!(rt; writer.failed() == 1);
 }
 
 #[test]
 fn counts(rt: HostRuntime) {
     let mut writer = Narrow::new(rt.alloc(), 2, Failure::TakesNone);
-    assert_eq!(rt; writer.write(b"").expect(&rt, "memory"), 0);
-    assert_eq!(rt; writer.failed(), 0);
-    assert_eq!(rt; writer.write(b"ok").expect(&rt, "memory"), 0);
-    assert_eq!(rt; writer.failed(), 1);
-    writer.flush().expect(&rt, "memory");
-    assert_eq!(rt; writer.failed(), 1);
+    check_writes(&rt, &mut writer);
+}
+
+#[test]
+fn counts_a_flush(rt: HostRuntime) {
     let mut writer = Narrow::new(rt.alloc(), 1, Failure::TakesNone);
-    assert!(rt; writer.flush().is_err());
-    assert_eq!(rt; writer.failed(), 1);
-    let narrow = writer.into_inner();
-    assert_eq!(rt; narrow.calls, 1);
+    check_flush(&rt, &mut writer);
+    assert!(rt; writer.into_inner().calls == 1);
 }
 
 #[test]
 fn faults_by_name(rt: HostRuntime) {
-    let words = LineFault::TooLong
-        .to_string(rt.alloc())
-        .expect(&rt, "memory");
-    assert_eq!(rt; words.as_str(), "a line or the input is too long");
-    let words = LineFault::Read.to_string(rt.alloc()).expect(&rt, "memory");
-    assert_eq!(rt; words.as_str(), "the reader failed");
-    let words = WriteFault::Write
-        .to_string(rt.alloc())
-        .expect(&rt, "memory");
-    assert_eq!(rt; words.as_str(), "the writer failed");
+    let words = LineFault::TooLong.to_string(rt.alloc());
+    assert!(rt; words.expect(&rt, "memory").as_str() == "a line or the input is too long");
+    let words = LineFault::Read.to_string(rt.alloc());
+    assert!(rt; words.expect(&rt, "memory").as_str() == "the reader failed");
+    let words = WriteFault::Write.to_string(rt.alloc());
+    assert!(rt; words.expect(&rt, "memory").as_str() == "the writer failed");
 }

@@ -2,8 +2,8 @@
 
 use crate::digits::{ABROAD, EMPTY, INFILL, LINKING, REVOCATIONS};
 use crate::plans::{id, plan_of};
-use crate::steps::{Answer, Step, follow};
-use balise_plan::{GroupTag, Id, LinkPlace, PacketTag, Plan, Spot, Var};
+use crate::steps::{Answer, Row, Step, follow_each, follow_over};
+use balise_plan::{Group, GroupTag, Id, LinkPlace, PacketTag, Plan, Spot, Var};
 use std::alloc::Global;
 use std::process::Abort;
 
@@ -13,183 +13,168 @@ const SECOND: GroupTag = GroupTag::Base(1);
 
 const NEW: GroupTag = GroupTag::Fresh(1);
 
-/// Makes a change of each kind in a telegram.
-fn change_a_telegram(rt: &impl Abort, alloc: Global, plan: &mut Plan) {
-    let (five, seven) = (PacketTag::Base(0), PacketTag::Base(1));
-    let nine = "a1007f80a03250900f84a1201f07ffffffffffffffffffffffffc0";
-    let counted = "a1007f00a03250900f84a1201f07ffffffffffffffffffffffffc0";
-    let moved = "a1007f00a03250900f83a1201f09ffffffffffffffffffffffffc0";
-    let put = "a1007f00a03250900f83a1201f0642403e13ffffffffffffffffc0";
-    let moved_on = "a1007f00a03250900f83a1201f0942403e0dffffffffffffffffc0";
-    let taken = "a1007f00a03250900f83a1201f06ffffffffffffffffffffffffc0";
-    for (step, answer, text) in [
-        (
-            Step::Field(FIRST, 0, five, Var::NidTsr, 0, 9),
-            Answer::Old(5),
-            nine,
-        ),
-        (
-            Step::Head(FIRST, 0, Var::MMcount, 254),
-            Answer::Old(255),
-            counted,
-        ),
-        (
-            Step::Shift(FIRST, 0, seven, Spot::After(None)),
-            Answer::Next(None),
-            moved,
-        ),
-        (
-            Step::Put(FIRST, 0, Spot::Before(Some(five)), NEW, "42403e0c"),
-            Answer::Done,
-            put,
-        ),
-        (
-            Step::Shift(FIRST, 0, NEW, Spot::After(Some(five))),
-            Answer::Next(Some(five)),
-            moved_on,
-        ),
-        (
-            Step::Shift(FIRST, 0, NEW, Spot::Before(Some(five))),
-            Answer::Next(None),
-            put,
-        ),
-        (
-            Step::Shift(FIRST, 0, NEW, Spot::Before(None)),
-            Answer::Next(Some(five)),
-            moved_on,
-        ),
-        (Step::Take(FIRST, 0, five), Answer::Next(Some(NEW)), taken),
-        (
-            Step::Put(FIRST, 0, Spot::After(Some(NEW)), five, "42403e12"),
-            Answer::Done,
-            "a1007f00a03250900f83a1201f0642403e13ffffffffffffffffc0",
-        ),
-    ] {
-        follow(
-            rt,
-            alloc,
-            plan,
-            step,
-            Ok(answer),
-            [text, LINKING].as_slice(),
-        );
-    }
-}
+const FIVE: PacketTag = PacketTag::Base(0);
+
+const SEVEN: PacketTag = PacketTag::Base(1);
+
+const PUT: &str = "a1007f00a03250900f83a1201f0642403e13ffffffffffffffffc0";
+
+const MOVED_ON: &str = "a1007f00a03250900f83a1201f0942403e0dffffffffffffffffc0";
+
+/// A change of each kind in a telegram.
+const IN_A_TELEGRAM: &[Row] = &[
+    (
+        Step::Field(FIRST, 0, FIVE, Var::NidTsr, 0, 9),
+        Ok(Answer::Old(5)),
+        &[
+            "a1007f80a03250900f84a1201f07ffffffffffffffffffffffffc0",
+            LINKING,
+        ],
+    ),
+    (
+        Step::Head(FIRST, 0, Var::MMcount, 254),
+        Ok(Answer::Old(255)),
+        &[
+            "a1007f00a03250900f84a1201f07ffffffffffffffffffffffffc0",
+            LINKING,
+        ],
+    ),
+    (
+        Step::Shift(FIRST, 0, SEVEN, Spot::After(None)),
+        Ok(Answer::Next(None)),
+        &[
+            "a1007f00a03250900f83a1201f09ffffffffffffffffffffffffc0",
+            LINKING,
+        ],
+    ),
+    (
+        Step::Put(FIRST, 0, Spot::Before(Some(FIVE)), NEW, "42403e0c"),
+        Ok(Answer::Done),
+        &[PUT, LINKING],
+    ),
+    (
+        Step::Shift(FIRST, 0, NEW, Spot::After(Some(FIVE))),
+        Ok(Answer::Next(Some(FIVE))),
+        &[MOVED_ON, LINKING],
+    ),
+    (
+        Step::Shift(FIRST, 0, NEW, Spot::Before(Some(FIVE))),
+        Ok(Answer::Next(None)),
+        &[PUT, LINKING],
+    ),
+    (
+        Step::Shift(FIRST, 0, NEW, Spot::Before(None)),
+        Ok(Answer::Next(Some(FIVE))),
+        &[MOVED_ON, LINKING],
+    ),
+    (
+        Step::Take(FIRST, 0, FIVE),
+        Ok(Answer::Next(Some(NEW))),
+        &[
+            "a1007f00a03250900f83a1201f06ffffffffffffffffffffffffc0",
+            LINKING,
+        ],
+    ),
+    (
+        Step::Put(FIRST, 0, Spot::After(Some(NEW)), FIVE, "42403e12"),
+        Ok(Answer::Done),
+        &[PUT, LINKING],
+    ),
+];
 
 #[test]
 fn changes_a_telegram(rt: HostRuntime) {
-    let alloc = rt.alloc();
-    let mut plan = plan_of(&rt, alloc, &[REVOCATIONS, LINKING]);
-    change_a_telegram(&rt, alloc, &mut plan);
+    follow_over(&rt, rt.alloc(), &[REVOCATIONS, LINKING], IN_A_TELEGRAM);
 }
 
-/// Puts a group in at each place, and takes it out.
-fn put_groups_anywhere(rt: &impl Abort, alloc: Global, plan: &mut Plan) {
-    let texts = [EMPTY, LINKING];
-    for (spot, text, next, with) in [
-        (
-            Spot::After(None),
-            ABROAD,
-            Some(FIRST),
-            [ABROAD, EMPTY, LINKING],
-        ),
-        (
-            Spot::Before(Some(FIRST)),
-            INFILL,
-            Some(FIRST),
-            [INFILL, EMPTY, LINKING],
-        ),
-        (
-            Spot::After(Some(FIRST)),
-            INFILL,
-            Some(SECOND),
-            [EMPTY, INFILL, LINKING],
-        ),
-        (Spot::Before(None), ABROAD, None, [EMPTY, LINKING, ABROAD]),
-        (
-            Spot::After(Some(SECOND)),
-            INFILL,
-            None,
-            [EMPTY, LINKING, INFILL],
-        ),
-    ] {
-        let step = Step::PutGroup(spot, NEW, text);
-        follow(rt, alloc, plan, step, Ok(Answer::Done), with.as_slice());
-        let step = Step::TakeGroup(NEW);
-        follow(
-            rt,
-            alloc,
-            plan,
-            step,
-            Ok(Answer::Next(next)),
-            texts.as_slice(),
-        );
-    }
+/// Groups put in at each place, and taken out.
+const ANYWHERE: &[Row] = &[
+    (
+        Step::PutGroup(Spot::After(None), NEW, ABROAD),
+        Ok(Answer::Done),
+        &[ABROAD, EMPTY, LINKING],
+    ),
+    (
+        Step::TakeGroup(NEW),
+        Ok(Answer::Next(Some(FIRST))),
+        &[EMPTY, LINKING],
+    ),
+    (
+        Step::PutGroup(Spot::Before(Some(FIRST)), NEW, INFILL),
+        Ok(Answer::Done),
+        &[INFILL, EMPTY, LINKING],
+    ),
+    (
+        Step::TakeGroup(NEW),
+        Ok(Answer::Next(Some(FIRST))),
+        &[EMPTY, LINKING],
+    ),
+    (
+        Step::PutGroup(Spot::After(Some(FIRST)), NEW, INFILL),
+        Ok(Answer::Done),
+        &[EMPTY, INFILL, LINKING],
+    ),
+    (
+        Step::TakeGroup(NEW),
+        Ok(Answer::Next(Some(SECOND))),
+        &[EMPTY, LINKING],
+    ),
+    (
+        Step::PutGroup(Spot::Before(None), NEW, ABROAD),
+        Ok(Answer::Done),
+        &[EMPTY, LINKING, ABROAD],
+    ),
+    (
+        Step::TakeGroup(NEW),
+        Ok(Answer::Next(None)),
+        &[EMPTY, LINKING],
+    ),
+    (
+        Step::PutGroup(Spot::After(Some(SECOND)), NEW, INFILL),
+        Ok(Answer::Done),
+        &[EMPTY, LINKING, INFILL],
+    ),
+    (
+        Step::TakeGroup(NEW),
+        Ok(Answer::Next(None)),
+        &[EMPTY, LINKING],
+    ),
+];
+
+/// That the group at a place has this tag and this identity.
+fn check_at(rt: &impl Abort, plan: &Plan, i: usize, tag: GroupTag, id: Id) {
+    let (there, group) = plan.at(i).expect(rt, "a group");
+    assert!(rt; there == tag);
+    assert!(rt; group.identity() == id);
+    assert!(rt; plan.place_of(tag) == Some(i));
+    assert!(rt; plan.tag_of(id) == Some(tag));
 }
 
-#[test]
-fn puts_groups_anywhere(rt: HostRuntime) {
-    let alloc = rt.alloc();
-    let texts = [EMPTY, LINKING];
-    let mut plan = plan_of(&rt, alloc, texts.as_slice());
-    put_groups_anywhere(&rt, alloc, &mut plan);
-}
-
-/// The tag and the identity of the group at a place.
-fn at(plan: &Plan, i: usize) -> Option<(GroupTag, Id)> {
-    let (tag, group) = plan.at(i)?;
-    Some((tag, group.identity()))
-}
-
-/// That two groups are found by place and by identity.
+/// That there are two groups, found by place, by tag and by identity.
 fn check_groups(rt: &impl Abort, plan: &Plan) {
-    let (first, second) = (id(5, 100), id(5, 101));
-    assert_eq!(rt; plan.count(), 2);
-    assert!(rt; at(plan, 0) == Some((FIRST, first)));
-    assert!(rt; at(plan, 1) == Some((SECOND, second)));
-    assert!(rt; at(plan, 2).is_none());
-    assert!(rt; plan.tag_of(second) == Some(SECOND));
-}
-
-#[test]
-fn answers_questions(rt: HostRuntime) {
-    let alloc = rt.alloc();
-    let plan = plan_of(&rt, alloc, &[EMPTY, LINKING]);
-    check_groups(&rt, &plan);
-}
-
-/// That two groups are found by tag.
-fn check_places(rt: &impl Abort, plan: &Plan) {
-    assert_eq!(rt; plan.place_of(FIRST), Some(0));
-    assert_eq!(rt; plan.place_of(SECOND), Some(1));
+    check_at(rt, plan, 0, FIRST, id(5, 100));
+    check_at(rt, plan, 1, SECOND, id(5, 101));
+    assert!(rt; plan.count() == 2);
+    assert!(rt; plan.at(2).is_none());
     assert!(rt; plan.place_of(NEW).is_none());
     assert!(rt; plan.group(NEW).is_none());
 }
 
-#[test]
-fn tells_places(rt: HostRuntime) {
-    let alloc = rt.alloc();
-    let plan = plan_of(&rt, alloc, &[EMPTY, LINKING]);
-    check_places(&rt, &plan);
-}
-
 /// That a group tells what it holds.
-fn check_group(rt: &impl Abort, plan: &Plan) {
-    let group = plan.group(SECOND).expect(rt, "a group");
-    assert_eq!(rt; group.count(), 1);
-    assert_eq!(rt; group.country(0), Some(5));
+fn check_group(rt: &impl Abort, group: &Group) {
+    assert!(rt; group.count() == 1);
+    assert!(rt; group.country(0) == Some(5));
     assert!(rt; group.country(1).is_none());
     assert!(rt; group.at(1).is_none());
-    assert!(rt; group.copy().expect(rt, "memory").identity() == id(5, 101));
-    let links = group.links(0, PacketTag::Base(0)).expect(rt, "memory");
-    assert!(rt; links.as_slice() == [id(5, 100)].as_slice());
 }
 
-#[test]
-fn tells_a_group(rt: HostRuntime) {
-    let alloc = rt.alloc();
-    let plan = plan_of(&rt, alloc, &[EMPTY, LINKING]);
-    check_group(&rt, &plan);
+fn check_identity(rt: &impl Abort, group: &Group, id: Id) {
+    assert!(rt; group.identity() == id);
+}
+
+/// That a copy of a group has this identity.
+fn check_copy(rt: &impl Abort, group: &Group, id: Id) {
+    check_identity(rt, &group.copy().expect(rt, "memory"), id);
 }
 
 /// That a link is found by what it names.
@@ -205,24 +190,33 @@ fn check_links(rt: &impl Abort, plan: &Plan) {
     assert!(rt; named.contains(&place));
 }
 
-#[test]
-fn tells_links(rt: HostRuntime) {
-    let alloc = rt.alloc();
-    let plan = plan_of(&rt, alloc, &[EMPTY, LINKING]);
-    check_links(&rt, &plan);
-}
-
 /// That a telegram is found in its group.
 fn check_telegram(rt: &impl Abort, plan: &Plan) {
     let balise = plan.telegram(SECOND, 0).expect(rt, "a telegram");
-    assert_eq!(rt; balise.head(Var::NidBg), Some(101));
+    assert!(rt; balise.head(Var::NidBg) == Some(101));
     assert!(rt; plan.telegram(SECOND, 1).is_none());
     assert!(rt; plan.telegram(NEW, 0).is_none());
 }
 
+/// That a plan of two groups, of which the second names the first, tells what it holds.
+fn check_told(rt: &impl Abort, plan: &Plan) {
+    check_groups(rt, plan);
+    let group = plan.group(SECOND).expect(rt, "a group");
+    check_group(rt, group);
+    check_copy(rt, group, id(5, 101));
+    check_links(rt, plan);
+    check_telegram(rt, plan);
+}
+
+/// Tells that, and takes groups in at each place.
+fn tell_and_put(rt: &impl Abort, alloc: Global, plan: &mut Plan) {
+    check_told(rt, plan);
+    follow_each(rt, alloc, plan, ANYWHERE);
+}
+
 #[test]
-fn tells_a_telegram(rt: HostRuntime) {
+fn tells_what_it_holds_and_takes_groups_in_anywhere(rt: HostRuntime) {
     let alloc = rt.alloc();
-    let plan = plan_of(&rt, alloc, &[EMPTY, LINKING]);
-    check_telegram(&rt, &plan);
+    let mut plan = plan_of(&rt, alloc, &[EMPTY, LINKING]);
+    tell_and_put(&rt, alloc, &mut plan);
 }

@@ -1,8 +1,8 @@
 //! Groups read telegram by telegram.
 
 use crate::digits::{EMPTY, LINKING, LONG, THREE};
-use crate::plans::{shows, telegrams};
-use balise_plan::{Bits, GroupReader, Plan, Refusal};
+use crate::plans::{one_of_eight, shows, telegrams};
+use balise_plan::{Bits, Group, GroupReader, Plan, Refusal};
 use std::alloc::Global;
 use std::process::Abort;
 
@@ -12,38 +12,43 @@ const ONE_OF_TWO: &str = "a1027f80a0327fffffffffffffffffffffffffffffffffffffffc0
 /// The number that no group has.
 const RESERVED: &str = "a1007f80bfffffffffffffffffffffffffffffffffffffffffffc0";
 
-/// The telegrams of these digits, read one by one.
-fn read(rt: &impl Abort, alloc: Global, text: &str) -> GroupReader {
-    let mut reader = GroupReader::new(alloc);
+/// Reads a telegram, with which there are so many.
+fn read_next(rt: &impl Abort, reader: &mut GroupReader, bits: Bits, count: usize) {
+    reader.push(bits).expect(rt, "a telegram");
+    assert!(rt; reader.count() == count);
+}
+
+/// Reads the telegrams of these digits one by one.
+fn read_each(rt: &impl Abort, alloc: Global, reader: &mut GroupReader, text: &str) {
     let mut count: usize = 0;
     for bits in telegrams(rt, alloc, text) {
-        assert!(rt; reader.push(bits) == Ok(()));
         count = count.saturating_add(1);
-        assert_eq!(rt; reader.count(), count);
+        read_next(rt, reader, bits, count);
     }
-    reader
 }
 
 /// Pushes a group of these digits.
 fn push(rt: &impl Abort, alloc: Global, plan: &mut Plan, text: &str, answer: Result<(), Refusal>) {
-    let group = read(rt, alloc, text);
+    let mut reader = GroupReader::new(alloc);
+    read_each(rt, alloc, &mut reader, text);
+    push_read(rt, plan, reader, answer);
+}
+
+fn push_read(rt: &impl Abort, plan: &mut Plan, reader: GroupReader, answer: Result<(), Refusal>) {
     assert!(rt; plan.changes() == 0);
-    assert!(rt; plan.push_group(group) == answer);
+    assert!(rt; plan.push_group(reader) == answer);
 }
 
 /// Pushes groups, some of which are refused.
 fn push_each(rt: &impl Abort, alloc: Global, plan: &mut Plan) {
-    for (text, answer) in [
-        (THREE, Ok(())),
-        (LINKING, Ok(())),
-        (EMPTY, Err(Refusal::GroupTwice)),
-        ("", Err(Refusal::GroupSize)),
-        (ONE_OF_TWO, Err(Refusal::HeaderDisagrees)),
-        (RESERVED, Err(Refusal::NumberReserved)),
-    ] {
-        push(rt, alloc, plan, text, answer);
-    }
-    assert_eq!(rt; plan.changes(), 0);
+    push(rt, alloc, plan, THREE, Ok(()));
+    push(rt, alloc, plan, LINKING, Ok(()));
+    push(rt, alloc, plan, EMPTY, Err(Refusal::GroupTwice));
+    push(rt, alloc, plan, "", Err(Refusal::GroupSize));
+    push(rt, alloc, plan, ONE_OF_TWO, Err(Refusal::HeaderDisagrees));
+    push(rt, alloc, plan, RESERVED, Err(Refusal::NumberReserved));
+    assert!(rt; plan.changes() == 0);
+    assert!(rt; shows(rt, alloc, plan, &[THREE, LINKING]));
 }
 
 #[test]
@@ -51,33 +56,36 @@ fn groups_pushed(rt: HostRuntime) {
     let alloc = rt.alloc();
     let mut plan = Plan::empty(alloc);
     push_each(&rt, alloc, &mut plan);
-    assert!(rt; shows(&rt, alloc, &plan, &[THREE, LINKING]));
 }
 
-/// Pushes a telegram of 830 bits as this one of eight. A ninth is refused.
-fn push_one_of_eight(rt: &impl Abort, reader: &mut GroupReader, bits: Bits, pig: u32) {
-    let mut bits = bits;
-    assert!(rt; bits.len() == 830);
-    bits.put(9, 3, pig % 8);
-    assert!(rt; bits.len() == 830);
-    bits.put(12, 3, 7);
-    let answer = if pig < 8 {
-        Ok(())
-    } else {
-        Err(Refusal::GroupSize)
-    };
+/// Reads a telegram of 830 bits as this one of eight.
+fn read_wide(
+    rt: &impl Abort,
+    alloc: Global,
+    reader: &mut GroupReader,
+    pig: u32,
+    answer: Result<(), Refusal>,
+) {
+    let bits = one_of_eight(rt, alloc, LONG, pig % 8);
     assert!(rt; reader.push(bits) == answer);
+}
+
+/// Reads eight telegrams. A ninth is refused.
+fn read_nine(rt: &impl Abort, alloc: Global, reader: &mut GroupReader) {
+    for pig in 0..8 {
+        read_wide(rt, alloc, reader, pig, Ok(()));
+    }
+    read_wide(rt, alloc, reader, 8, Err(Refusal::GroupSize));
+}
+
+fn check_eight(rt: &impl Abort, group: &Group) {
+    assert!(rt; group.count() == 8);
 }
 
 #[test]
 fn eight_telegrams_and_no_ninth(rt: HostRuntime) {
     let alloc = rt.alloc();
     let mut reader = GroupReader::new(alloc);
-    for pig in 0..9 {
-        for bits in telegrams(&rt, alloc, LONG) {
-            push_one_of_eight(&rt, &mut reader, bits, pig);
-        }
-    }
-    let group = reader.done().expect(&rt, "a group");
-    assert_eq!(rt; group.count(), 8);
+    read_nine(&rt, alloc, &mut reader);
+    check_eight(&rt, &reader.done().expect(&rt, "a group"));
 }

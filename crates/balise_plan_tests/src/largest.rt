@@ -1,9 +1,13 @@
 //! The fullest telegrams and groups. No contract says that memory is there, so each call that takes it is made on them.
 
 use crate::digits::LONG;
-use crate::plans::{id, plan_of, shows};
+use crate::plans;
+use crate::plans::{
+    bits_of, check_shown, groups_of, id, one_of_eight, plan_of, push_alone, push_bits, push_group,
+    shows,
+};
 use crate::steps::{Answer, Step, make, put_back};
-use crate::walking::agrees;
+use crate::walking::names;
 use balise_plan::{Bits, GroupTag, PacketTag, Plan, Refusal, Spot};
 use std::alloc::Global;
 use std::process::Abort;
@@ -35,38 +39,31 @@ const FULL: &str =
 
 const FIRST: GroupTag = GroupTag::Base(0);
 
-/// Eight telegrams of 830 bits that differ in N_PIG alone.
-fn eight(rt: &impl Abort, alloc: Global, text: &str) -> Vec<Bits> {
+/// Puts a group of eight such telegrams and one of one telegram of 830 bits behind the others.
+fn push_nine(rt: &impl Abort, alloc: Global, groups: &mut Vec<Vec<Bits>>, text: &str, other: &str) {
     let mut telegrams = Vec::new(alloc);
-    for pig in 0..8 {
-        let mut bits = Bits::from_hex(alloc, text, 830).expect(rt, "digits");
-        assert!(rt; bits.len() == 830);
-        bits.put(9, 3, pig);
-        assert!(rt; bits.len() == 830);
-        bits.put(12, 3, 7);
-        telegrams.push(bits).expect(rt, "memory");
-    }
-    telegrams
+    push_eight(rt, alloc, &mut telegrams, text);
+    push_group(rt, groups, telegrams);
+    push_alone(rt, alloc, groups, bits_of(rt, alloc, other));
 }
 
-/// The plan of eight such telegrams and of a group of one telegram of 830 bits.
+fn push_eight(rt: &impl Abort, alloc: Global, telegrams: &mut Vec<Bits>, text: &str) {
+    for pig in 0..8 {
+        push_bits(rt, telegrams, one_of_eight(rt, alloc, text, pig));
+    }
+}
+
+/// The groups of eight such telegrams and of one.
 fn nine(rt: &impl Abort, alloc: Global, text: &str, other: &str) -> Vec<Vec<Bits>> {
     let mut groups = Vec::new(alloc);
-    groups.push(eight(rt, alloc, text)).expect(rt, "memory");
-    let mut one = Vec::new(alloc);
-    let bits = Bits::from_hex(alloc, other, 830).expect(rt, "digits");
-    one.push(bits).expect(rt, "memory");
-    groups.push(one).expect(rt, "memory");
+    push_nine(rt, alloc, &mut groups, text, other);
     groups
 }
 
-/// Whether the plan and its copy show this, and its names agree.
-fn holds(rt: &impl Abort, alloc: Global, plan: &Plan, text: &str, other: &str) -> bool {
+/// That the plan shows these groups, and that its names agree.
+fn check(rt: &impl Abort, alloc: Global, plan: &Plan, text: &str, other: &str) {
     let groups = nine(rt, alloc, text, other);
-    let copy = plan.copy().expect(rt, "memory");
-    let same = (plan.shown().expect(rt, "memory") == groups)
-        & (copy.shown().expect(rt, "memory") == groups);
-    same & agrees(rt, alloc, plan, [].as_slice()) & agrees(rt, alloc, &copy, [].as_slice())
+    plans::check(rt, alloc, plan, &groups);
 }
 
 /// Makes a change that is accepted.
@@ -99,31 +96,34 @@ fn take_160(rt: &impl Abort, alloc: Global, plan: &mut Plan) {
 /// Renumbers and turns the group that 179 links name, and back.
 fn renumber_and_turn(rt: &impl Abort, alloc: Global, plan: &mut Plan) {
     change(rt, alloc, plan, Step::Rename(FIRST, 200), Answer::Old(100));
-    assert!(rt; holds(rt, alloc, plan, RENUMBERED, ELEMENTS_RENUMBERED));
+    check(rt, alloc, plan, RENUMBERED, ELEMENTS_RENUMBERED);
     change(rt, alloc, plan, Step::Turn(FIRST), Answer::Done);
-    assert!(rt; holds(rt, alloc, plan, TURNED, ELEMENTS_FLIPPED));
+    check(rt, alloc, plan, TURNED, ELEMENTS_FLIPPED);
     change(rt, alloc, plan, Step::Turn(FIRST), Answer::Done);
     change(rt, alloc, plan, Step::Rename(FIRST, 100), Answer::Old(200));
 }
 
-/// That 179 links name 5.100.
-fn check_links(rt: &impl Abort, plan: &Plan) {
-    let links = plan.links_to(id(5, 100)).map(|links| links.len());
-    assert_eq!(rt; links, Some(179));
+/// Makes changes of a plan in which 19 links name the first group, and unmakes them.
+fn change_179_links(rt: &impl Abort, alloc: Global, plan: &mut Plan) {
+    put_160(rt, alloc, plan);
+    check(rt, alloc, plan, NAMING, ELEMENTS);
+    assert!(rt; names(plan, id(5, 100), 179));
+    renumber_and_turn(rt, alloc, plan);
+    put_back(rt, plan, FIRST);
+    check(rt, alloc, plan, NAMING, ELEMENTS);
+    take_160(rt, alloc, plan);
+    check(rt, alloc, plan, LONG, ELEMENTS);
+}
+
+fn nine_plan(rt: &impl Abort, alloc: Global) -> Plan {
+    Plan::read(alloc, nine(rt, alloc, LONG, ELEMENTS)).expect(rt, "a plan")
 }
 
 #[test]
 fn renumbers_179_links_at_once(rt: HostRuntime) {
     let alloc = rt.alloc();
-    let mut plan = Plan::read(alloc, nine(&rt, alloc, LONG, ELEMENTS)).expect(&rt, "a plan");
-    put_160(&rt, alloc, &mut plan);
-    assert!(rt; holds(&rt, alloc, &plan, NAMING, ELEMENTS));
-    check_links(&rt, &plan);
-    renumber_and_turn(&rt, alloc, &mut plan);
-    put_back(&rt, &mut plan, FIRST);
-    assert!(rt; holds(&rt, alloc, &plan, NAMING, ELEMENTS));
-    take_160(&rt, alloc, &mut plan);
-    assert!(rt; holds(&rt, alloc, &plan, LONG, ELEMENTS));
+    let mut plan = nine_plan(&rt, alloc);
+    change_179_links(&rt, alloc, &mut plan);
 }
 
 /// Puts 33 packets in, each before the others, and no further one.
@@ -137,17 +137,28 @@ fn put_33(rt: &impl Abort, alloc: Global, plan: &mut Plan) {
     assert!(rt; make(rt, alloc, plan, step) == Err(Refusal::NoRoom));
 }
 
-/// Moves the first and the last of them.
+const FIRST_PACKET: PacketTag = PacketTag::Fresh(32);
+
+const SECOND_PACKET: PacketTag = PacketTag::Fresh(31);
+
+const LAST_PACKET: PacketTag = PacketTag::Fresh(0);
+
+/// Where the last and the first packet are moved to, and what each stood before.
+const MOVES: &[(PacketTag, Spot<PacketTag>, Option<PacketTag>)] = &[
+    (LAST_PACKET, Spot::After(None), None),
+    (LAST_PACKET, Spot::Before(None), Some(FIRST_PACKET)),
+    (
+        FIRST_PACKET,
+        Spot::After(Some(LAST_PACKET)),
+        Some(SECOND_PACKET),
+    ),
+    (FIRST_PACKET, Spot::Before(Some(SECOND_PACKET)), None),
+];
+
 fn shift_ends(rt: &impl Abort, alloc: Global, plan: &mut Plan) {
-    let (first, last) = (PacketTag::Fresh(32), PacketTag::Fresh(0));
-    for (tag, spot, next) in [
-        (last, Spot::After(None), None),
-        (last, Spot::Before(None), Some(first)),
-        (first, Spot::After(Some(last)), Some(PacketTag::Fresh(31))),
-        (first, Spot::Before(Some(PacketTag::Fresh(31))), None),
-    ] {
-        let step = Step::Shift(FIRST, 0, tag, spot);
-        change(rt, alloc, plan, step, Answer::Next(next));
+    for (tag, spot, next) in MOVES.iter() {
+        let step = Step::Shift(FIRST, 0, *tag, *spot);
+        change(rt, alloc, plan, step, Answer::Next(*next));
     }
 }
 
@@ -159,19 +170,18 @@ fn take_33(rt: &impl Abort, alloc: Global, plan: &mut Plan) {
     }
 }
 
-/// That a copy of the plan shows this group.
-fn check_copy(rt: &impl Abort, alloc: Global, plan: &Plan, text: &str) {
-    let copy = plan.copy().expect(rt, "memory");
-    assert!(rt; shows(rt, alloc, &copy, &[text]));
+/// Puts 33 packets in, moves them and takes them out.
+fn change_33_packets(rt: &impl Abort, alloc: Global, plan: &mut Plan) {
+    put_33(rt, alloc, plan);
+    shift_ends(rt, alloc, plan);
+    check_shown(rt, plan, &groups_of(rt, alloc, &[FULL]));
+    take_33(rt, alloc, plan);
+    assert!(rt; shows(rt, alloc, plan, &[LONG]));
 }
 
 #[test]
 fn puts_33_packets_into_a_telegram(rt: HostRuntime) {
     let alloc = rt.alloc();
     let mut plan = plan_of(&rt, alloc, &[LONG]);
-    put_33(&rt, alloc, &mut plan);
-    shift_ends(&rt, alloc, &mut plan);
-    check_copy(&rt, alloc, &plan, FULL);
-    take_33(&rt, alloc, &mut plan);
-    assert!(rt; shows(&rt, alloc, &plan, &[LONG]));
+    change_33_packets(&rt, alloc, &mut plan);
 }

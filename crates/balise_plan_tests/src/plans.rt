@@ -1,5 +1,6 @@
 //! Plans of known digits.
 
+use crate::walking::agrees;
 use balise_plan::{Bits, Id, Plan, Refusal};
 use std::alloc::Global;
 use std::process::Abort;
@@ -9,20 +10,42 @@ pub(crate) fn id(country: u32, number: u32) -> Id {
     Id { country, number }
 }
 
-/// Puts the bits of a telegram of these digits behind the others.
-fn push_digits(rt: &impl Abort, alloc: Global, telegrams: &mut Vec<Bits>, digits: &str) {
-    let len = match digits.len() {
+/// How many bits a telegram of these digits has.
+fn width_of(digits: &str) -> usize {
+    match digits.len() {
         54 => 210,
         208 => 830,
         _ => 32,
-    };
-    let bits = Bits::from_hex(alloc, digits, len).expect(rt, "digits");
+    }
+}
+
+/// The bits of a telegram of these digits.
+pub(crate) fn bits_of(rt: &impl Abort, alloc: Global, digits: &str) -> Bits {
+    Bits::from_hex(alloc, digits, width_of(digits)).expect(rt, "digits")
+}
+
+/// The bits of this one of eight telegrams of 830 bits, which differ in N_PIG alone.
+pub(crate) fn one_of_eight(rt: &impl Abort, alloc: Global, digits: &str, pig: u32) -> Bits {
+    let mut bits = bits_of(rt, alloc, digits);
+    put_pig(rt, &mut bits, pig);
+    bits
+}
+
+fn put_pig(rt: &impl Abort, bits: &mut Bits, pig: u32) {
+    assert!(rt; pig < 8);
+    assert!(rt; bits.len() == 830);
+    // N_PIG, and behind it N_TOTAL of 7.
+    bits.put(9, 6, 8 * pig + 7);
+}
+
+/// Puts the bits of a telegram behind the others.
+pub(crate) fn push_bits(rt: &impl Abort, telegrams: &mut Vec<Bits>, bits: Bits) {
     telegrams.push(bits).expect(rt, "memory");
 }
 
 fn push_words(rt: &impl Abort, alloc: Global, telegrams: &mut Vec<Bits>, text: &str) {
     for word in text.split_whitespace() {
-        push_digits(rt, alloc, telegrams, word);
+        push_bits(rt, telegrams, bits_of(rt, alloc, word));
     }
 }
 
@@ -33,19 +56,34 @@ pub(crate) fn telegrams(rt: &impl Abort, alloc: Global, text: &str) -> Vec<Bits>
     telegrams
 }
 
-/// What reading a plan of these groups answers.
-pub(crate) fn read(rt: &impl Abort, alloc: Global, texts: &[&str]) -> Result<Plan, Refusal> {
-    let mut groups = Vec::new(alloc);
-    push_groups(rt, alloc, &mut groups, texts);
-    Plan::read(alloc, groups)
+/// Puts the bits of a group behind the others.
+pub(crate) fn push_group(rt: &impl Abort, groups: &mut Vec<Vec<Bits>>, group: Vec<Bits>) {
+    groups.push(group).expect(rt, "memory");
+}
+
+/// Puts a group of one telegram behind the others.
+pub(crate) fn push_alone(rt: &impl Abort, alloc: Global, groups: &mut Vec<Vec<Bits>>, bits: Bits) {
+    let mut telegrams = Vec::new(alloc);
+    push_bits(rt, &mut telegrams, bits);
+    push_group(rt, groups, telegrams);
 }
 
 fn push_groups(rt: &impl Abort, alloc: Global, groups: &mut Vec<Vec<Bits>>, texts: &[&str]) {
     for text in texts.iter() {
-        groups
-            .push(telegrams(rt, alloc, *text))
-            .expect(rt, "memory");
+        push_group(rt, groups, telegrams(rt, alloc, *text));
     }
+}
+
+/// The bits of these groups.
+pub(crate) fn groups_of(rt: &impl Abort, alloc: Global, texts: &[&str]) -> Vec<Vec<Bits>> {
+    let mut groups = Vec::new(alloc);
+    push_groups(rt, alloc, &mut groups, texts);
+    groups
+}
+
+/// What reading a plan of these groups answers.
+pub(crate) fn read(rt: &impl Abort, alloc: Global, texts: &[&str]) -> Result<Plan, Refusal> {
+    Plan::read(alloc, groups_of(rt, alloc, texts))
 }
 
 /// The plan of these groups.
@@ -53,15 +91,28 @@ pub(crate) fn plan_of(rt: &impl Abort, alloc: Global, texts: &[&str]) -> Plan {
     read(rt, alloc, texts).expect(rt, "a plan")
 }
 
+/// Whether a plan shows these bits.
+pub(crate) fn shows_bits(rt: &impl Abort, plan: &Plan, groups: &Vec<Vec<Bits>>) -> bool {
+    plan.shown().expect(rt, "memory") == *groups
+}
+
 /// Whether a plan shows these groups.
 pub(crate) fn shows(rt: &impl Abort, alloc: Global, plan: &Plan, texts: &[&str]) -> bool {
-    let shown = plan.shown().expect(rt, "memory");
-    let mut same = shown.len() == texts.len();
-    for (i, text) in texts.iter().enumerate() {
-        match shown.get(i) {
-            Some(group) => same &= *group == telegrams(rt, alloc, *text),
-            None => same = false,
-        }
-    }
-    same
+    shows_bits(rt, plan, &groups_of(rt, alloc, texts))
+}
+
+/// What a plan shows.
+pub(crate) fn shown(rt: &impl Abort, plan: &Plan) -> Vec<Vec<Bits>> {
+    plan.shown().expect(rt, "memory")
+}
+
+/// That a plan shows these bits.
+pub(crate) fn check_shown(rt: &impl Abort, plan: &Plan, groups: &Vec<Vec<Bits>>) {
+    assert!(rt; shows_bits(rt, plan, groups));
+}
+
+/// That a plan shows these bits, and that its names agree.
+pub(crate) fn check(rt: &impl Abort, alloc: Global, plan: &Plan, groups: &Vec<Vec<Bits>>) {
+    check_shown(rt, plan, groups);
+    assert!(rt; agrees(rt, alloc, plan, &[]));
 }

@@ -1,9 +1,9 @@
 //! Groups and plans that are read, and those that are refused.
 
 use crate::digits::{ABROAD, EMPTY, LINKING, LONG, THREE};
-use crate::plans::{read, shows, telegrams};
-use crate::steps::group_shows;
-use balise_plan::{Group, Refusal};
+use crate::plans::{bits_of, push_bits, read};
+use crate::steps::{follow_over, group_shows};
+use balise_plan::{Bits, Group, Refusal};
 use std::alloc::Global;
 use std::process::Abort;
 
@@ -35,131 +35,116 @@ const PACKET_ZERO: &str = "a1007f80a032403fffffffffffffffffffffffffffffffffffffc
 /// Packet 136 with a length of 39.
 const LONG_INFILL: &str = "a1007f80a033e2101380647fffffffffffffffffffffffffffffc0";
 
-/// The digits of these words, apart by a space.
-fn joined(rt: &impl Abort, alloc: Global, words: &[&str]) -> String {
-    let mut text = String::new(alloc);
+/// 5.100 of three telegrams.
+const ONE: &str = "a104ff80a032505023a0a0320096047fffffffffffffffffffffc0";
+
+const TWO: &str = "a1157f80a0324b0010697fffffffffffffffffffffffffffffffc0";
+
+const OF_THREE: &str = "a1247f80a0327fffffffffffffffffffffffffffffffffffffffc0";
+
+fn push_each(rt: &impl Abort, alloc: Global, telegrams: &mut Vec<Bits>, words: &[&str]) {
     for word in words.iter() {
-        text.push_str(*word).expect(rt, "memory");
-        text.push_str(" ").expect(rt, "memory");
+        push_bits(rt, telegrams, bits_of(rt, alloc, *word));
     }
-    text
 }
 
-/// Why a group of these telegrams is refused. One that is read shows them again.
-fn refused(rt: &impl Abort, alloc: Global, words: &[&str]) -> Option<Refusal> {
-    let text = joined(rt, alloc, words);
-    match Group::read(alloc, telegrams(rt, alloc, text.as_str())) {
-        Ok(group) => {
-            assert!(rt; group_shows(rt, alloc, &group, text.as_str()));
-            None
-        }
-        Err(refusal) => Some(refusal),
+/// The bits of these telegrams.
+fn bits_of_each(rt: &impl Abort, alloc: Global, words: &[&str]) -> Vec<Bits> {
+    let mut telegrams = Vec::new(alloc);
+    push_each(rt, alloc, &mut telegrams, words);
+    telegrams
+}
+
+/// That reading these telegrams gave a group that shows them, or this refusal.
+fn check_read(
+    rt: &impl Abort,
+    group: &Result<Group, Refusal>,
+    telegrams: &Vec<Bits>,
+    refusal: Option<Refusal>,
+) {
+    match group {
+        Ok(group) => assert!(rt; refusal.is_none() & group_shows(rt, group, telegrams)),
+        Err(fault) => assert!(rt; refusal == Some(*fault)),
     }
 }
 
 /// That a group of these telegrams is refused for this reason, or read.
-fn check_refused(rt: &impl Abort, alloc: Global, words: &[&str], refusal: Option<Refusal>) {
-    assert!(rt; refused(rt, alloc, words) == refusal, "{words:?}");
+fn check(rt: &impl Abort, alloc: Global, words: &[&str], refusal: Option<Refusal>) {
+    let group = Group::read(alloc, bits_of_each(rt, alloc, words));
+    check_read(rt, &group, &bits_of_each(rt, alloc, words), refusal);
 }
+
+/// Groups that are read.
+const GROUPS: &[&[&str]] = &[
+    &[EMPTY],
+    &[LONG],
+    &[ONE_OF_TWO, TWO_OF_TWO],
+    &[ONE, TWO, OF_THREE],
+];
+
+/// Groups that are refused.
+const REFUSED: &[(&[&str], Refusal)] = &[
+    (&[], Refusal::GroupSize),
+    (&[NOT_A_BALISE; 9], Refusal::GroupSize),
+    (&[EMPTY; 8], Refusal::HeaderDisagrees),
+    (&[TWO, ONE, OF_THREE], Refusal::HeaderDisagrees),
+    (&[ONE, OF_THREE, TWO], Refusal::HeaderDisagrees),
+    (&[OF_THREE, ONE, TWO], Refusal::HeaderDisagrees),
+    (&[ONE, TWO], Refusal::HeaderDisagrees),
+    (&[TWO, OF_THREE], Refusal::HeaderDisagrees),
+    (&[ONE_OF_TWO], Refusal::HeaderDisagrees),
+    (&[TWO_OF_TWO], Refusal::HeaderDisagrees),
+    (&[ONE_OF_TWO, TWO_OF_THREE], Refusal::HeaderDisagrees),
+    (&[ONE_OF_TWO, OF_ANOTHER_NUMBER], Refusal::HeaderDisagrees),
+    (&[ONE_OF_TWO, OF_ANOTHER_COUNTRY], Refusal::HeaderDisagrees),
+    (&[RESERVED_ONE_OF_TWO, TWO_OF_TWO], Refusal::HeaderDisagrees),
+    (&[RESERVED], Refusal::NumberReserved),
+    (&[NOT_A_BALISE, NO_END], Refusal::NotABalise),
+    (&[EMPTY, NO_END, PACKET_CUT], Refusal::NoEnd),
+    (&[RESERVED, PACKET_CUT, NO_END], Refusal::PacketCut),
+    (&[EMPTY, PACKET_ZERO], Refusal::PacketZero),
+    (&[LONG_INFILL], Refusal::LayoutMismatch),
+    (&["a1007f80"], Refusal::BadLength),
+];
 
 #[test]
 fn reads_groups(rt: HostRuntime) {
-    let alloc = rt.alloc();
-    let [first, second, third] = [
-        "a104ff80a032505023a0a0320096047fffffffffffffffffffffc0",
-        "a1157f80a0324b0010697fffffffffffffffffffffffffffffffc0",
-        "a1247f80a0327fffffffffffffffffffffffffffffffffffffffc0",
-    ];
-    for (words, refusal) in [
-        ([EMPTY].as_slice(), None),
-        ([LONG].as_slice(), None),
-        ([ONE_OF_TWO, TWO_OF_TWO].as_slice(), None),
-        ([first, second, third].as_slice(), None),
-        ([].as_slice(), Some(Refusal::GroupSize)),
-        ([NOT_A_BALISE; 9].as_slice(), Some(Refusal::GroupSize)),
-        ([EMPTY; 8].as_slice(), Some(Refusal::HeaderDisagrees)),
-        (
-            [second, first, third].as_slice(),
-            Some(Refusal::HeaderDisagrees),
-        ),
-        (
-            [first, third, second].as_slice(),
-            Some(Refusal::HeaderDisagrees),
-        ),
-        (
-            [third, first, second].as_slice(),
-            Some(Refusal::HeaderDisagrees),
-        ),
-        ([first, second].as_slice(), Some(Refusal::HeaderDisagrees)),
-        ([second, third].as_slice(), Some(Refusal::HeaderDisagrees)),
-        ([ONE_OF_TWO].as_slice(), Some(Refusal::HeaderDisagrees)),
-        ([TWO_OF_TWO].as_slice(), Some(Refusal::HeaderDisagrees)),
-        (
-            [ONE_OF_TWO, TWO_OF_THREE].as_slice(),
-            Some(Refusal::HeaderDisagrees),
-        ),
-        (
-            [ONE_OF_TWO, OF_ANOTHER_NUMBER].as_slice(),
-            Some(Refusal::HeaderDisagrees),
-        ),
-        (
-            [ONE_OF_TWO, OF_ANOTHER_COUNTRY].as_slice(),
-            Some(Refusal::HeaderDisagrees),
-        ),
-        (
-            [RESERVED_ONE_OF_TWO, TWO_OF_TWO].as_slice(),
-            Some(Refusal::HeaderDisagrees),
-        ),
-        ([RESERVED].as_slice(), Some(Refusal::NumberReserved)),
-        ([NOT_A_BALISE, NO_END].as_slice(), Some(Refusal::NotABalise)),
-        ([EMPTY, NO_END, PACKET_CUT].as_slice(), Some(Refusal::NoEnd)),
-        (
-            [RESERVED, PACKET_CUT, NO_END].as_slice(),
-            Some(Refusal::PacketCut),
-        ),
-        ([EMPTY, PACKET_ZERO].as_slice(), Some(Refusal::PacketZero)),
-        ([LONG_INFILL].as_slice(), Some(Refusal::LayoutMismatch)),
-        (["a1007f80"].as_slice(), Some(Refusal::BadLength)),
-    ] {
-        check_refused(&rt, alloc, words, refusal);
+    for words in GROUPS.iter() {
+        check(&rt, rt.alloc(), *words, None);
+    }
+    for (words, refusal) in REFUSED.iter() {
+        check(&rt, rt.alloc(), *words, Some(*refusal));
     }
 }
 
-/// Whether a plan of these groups is read, and shows them again.
-fn reads(rt: &impl Abort, alloc: Global, texts: &[&str]) -> bool {
-    match read(rt, alloc, texts) {
-        Ok(plan) => shows(rt, alloc, &plan, texts),
-        Err(_) => false,
-    }
-}
-
+/// A plan that is read shows its groups again.
 #[test]
 fn reads_plans_of_groups(rt: HostRuntime) {
-    let alloc = rt.alloc();
-    assert!(rt; reads(&rt, alloc, &[]));
-    assert!(rt; reads(&rt, alloc, &[EMPTY, LINKING, ABROAD]));
-    assert!(rt; reads(&rt, alloc, &[LINKING, THREE]));
+    follow_over(&rt, rt.alloc(), &[], &[]);
+    follow_over(&rt, rt.alloc(), &[EMPTY, LINKING, ABROAD], &[]);
+    follow_over(&rt, rt.alloc(), &[LINKING, THREE], &[]);
 }
 
-/// That a plan of these groups is refused for this reason.
-fn check_plan_refused(rt: &impl Abort, alloc: Global, texts: &[&str], refusal: Refusal) {
-    let plan = read(rt, alloc, texts);
-    assert!(rt; matches!(plan, Err(fault) if fault == refusal), "{texts:?}");
+/// Plans that are refused.
+const REFUSED_PLANS: &[(&[&str], Refusal)] = &[
+    (&[EMPTY, EMPTY], Refusal::GroupTwice),
+    (&[EMPTY, LINKING, THREE], Refusal::GroupTwice),
+    (&[EMPTY, EMPTY, NOT_A_BALISE], Refusal::GroupTwice),
+    (&[EMPTY, ""], Refusal::GroupSize),
+    (&["", EMPTY, EMPTY], Refusal::GroupSize),
+    (&[EMPTY, ONE_OF_TWO], Refusal::HeaderDisagrees),
+    (&[RESERVED, RESERVED], Refusal::NumberReserved),
+    (&[LINKING, PACKET_ZERO], Refusal::PacketZero),
+];
+
+/// That reading a plan of these groups is refused for this reason.
+fn check_refused(rt: &impl Abort, alloc: Global, texts: &[&str], refusal: Refusal) {
+    assert!(rt; read(rt, alloc, texts).err() == Some(refusal));
 }
 
 #[test]
 fn refuses_plans_of_groups(rt: HostRuntime) {
-    let alloc = rt.alloc();
-    for (texts, refusal) in [
-        ([EMPTY, EMPTY].as_slice(), Refusal::GroupTwice),
-        ([EMPTY, LINKING, THREE].as_slice(), Refusal::GroupTwice),
-        ([EMPTY, EMPTY, NOT_A_BALISE].as_slice(), Refusal::GroupTwice),
-        ([EMPTY, ""].as_slice(), Refusal::GroupSize),
-        (["", EMPTY, EMPTY].as_slice(), Refusal::GroupSize),
-        ([EMPTY, ONE_OF_TWO].as_slice(), Refusal::HeaderDisagrees),
-        ([RESERVED, RESERVED].as_slice(), Refusal::NumberReserved),
-        ([LINKING, PACKET_ZERO].as_slice(), Refusal::PacketZero),
-    ] {
-        check_plan_refused(&rt, alloc, texts, refusal);
+    for (texts, refusal) in REFUSED_PLANS.iter() {
+        check_refused(&rt, rt.alloc(), *texts, *refusal);
     }
 }

@@ -1,9 +1,9 @@
 //! What is refused, and in which order.
 
 use crate::digits::{ABROAD, INFILL, LINKING, REVOCATIONS};
-use crate::plans::{id, plan_of, shows};
-use crate::steps::{Step, follow};
-use balise_plan::{Address, GroupTag, PacketTag, Place, Plan, Refusal, Spot, Var};
+use crate::plans::{plan_of, shows};
+use crate::steps::{Row, Step, follow_each, follow_over};
+use balise_plan::{Address, GroupTag, Id, PacketTag, Place, Plan, Refusal, Spot, Var};
 use std::alloc::Global;
 use std::process::Abort;
 
@@ -15,216 +15,317 @@ const PACKET: PacketTag = PacketTag::Base(0);
 
 const NEW: PacketTag = PacketTag::Fresh(1);
 
+/// The groups that changes are refused in.
+const LINKS: &[&str] = &[REVOCATIONS, LINKING];
+
+const TWO_GROUPS: &[&str] = &[LINKING, ABROAD];
+
+const THREE_GROUPS: &[&str] = &[LINKING, ABROAD, INFILL];
+
+/// Before a packet that isn't there.
+const LACKING: Spot<PacketTag> = Spot::Before(Some(NEW));
+
 /// A packet 44, which isn't known, of 152 bits.
 const WIDE: &str = "2c813000000000000000000000000000000000";
 
 const NARROW: &str = "42403e0a";
 
-/// Asks for numbers that are refused.
-fn ask_for_numbers(rt: &impl Abort, alloc: Global, plan: &mut Plan) {
-    let texts = [LINKING, ABROAD, INFILL];
-    for (group, number, refusal) in [
-        (NOWHERE, 4294967295, Refusal::NoSuchGroup),
-        (NOWHERE, 7, Refusal::NoSuchGroup),
-        (FIRST, 4294967295, Refusal::ValueTooWide),
-        (FIRST, 16384, Refusal::ValueTooWide),
-        (FIRST, 16383, Refusal::NumberReserved),
-        (FIRST, 101, Refusal::NumberTaken),
-        (FIRST, 102, Refusal::NumberTaken),
-        (FIRST, 100, Refusal::NumberTaken),
-    ] {
-        let step = Step::Rename(group, number);
-        follow(rt, alloc, plan, step, Err(refusal), texts.as_slice());
-    }
-}
+/// Numbers that are refused.
+const NUMBERS: &[Row] = &[
+    (
+        Step::Rename(NOWHERE, 4294967295),
+        Err(Refusal::NoSuchGroup),
+        THREE_GROUPS,
+    ),
+    (
+        Step::Rename(NOWHERE, 7),
+        Err(Refusal::NoSuchGroup),
+        THREE_GROUPS,
+    ),
+    (
+        Step::Rename(FIRST, 4294967295),
+        Err(Refusal::ValueTooWide),
+        THREE_GROUPS,
+    ),
+    (
+        Step::Rename(FIRST, 16384),
+        Err(Refusal::ValueTooWide),
+        THREE_GROUPS,
+    ),
+    (
+        Step::Rename(FIRST, 16383),
+        Err(Refusal::NumberReserved),
+        THREE_GROUPS,
+    ),
+    (
+        Step::Rename(FIRST, 101),
+        Err(Refusal::NumberTaken),
+        THREE_GROUPS,
+    ),
+    (
+        Step::Rename(FIRST, 102),
+        Err(Refusal::NumberTaken),
+        THREE_GROUPS,
+    ),
+    (
+        Step::Rename(FIRST, 100),
+        Err(Refusal::NumberTaken),
+        THREE_GROUPS,
+    ),
+];
 
 #[test]
 fn refuses_numbers(rt: HostRuntime) {
-    let alloc = rt.alloc();
-    let texts = [LINKING, ABROAD, INFILL];
-    let mut plan = plan_of(&rt, alloc, texts.as_slice());
-    ask_for_numbers(&rt, alloc, &mut plan);
+    follow_over(&rt, rt.alloc(), THREE_GROUPS, NUMBERS);
 }
 
-/// Puts in groups that are refused.
-fn put_groups(rt: &impl Abort, alloc: Global, plan: &mut Plan) {
-    let texts = [LINKING, ABROAD];
-    for (spot, text, refusal) in [
-        (Spot::Before(Some(NOWHERE)), LINKING, Refusal::NoSuchGroup),
-        (Spot::After(Some(NOWHERE)), INFILL, Refusal::NoSuchGroup),
-        (Spot::After(None), LINKING, Refusal::GroupTwice),
-        (Spot::Before(None), ABROAD, Refusal::GroupTwice),
-        (Spot::Before(Some(FIRST)), ABROAD, Refusal::GroupTwice),
-    ] {
-        let step = Step::PutGroup(spot, NOWHERE, text);
-        follow(rt, alloc, plan, step, Err(refusal), texts.as_slice());
-    }
-}
+/// Groups that are refused.
+const GROUPS: &[Row] = &[
+    (
+        Step::PutGroup(Spot::Before(Some(NOWHERE)), NOWHERE, LINKING),
+        Err(Refusal::NoSuchGroup),
+        TWO_GROUPS,
+    ),
+    (
+        Step::PutGroup(Spot::After(Some(NOWHERE)), NOWHERE, INFILL),
+        Err(Refusal::NoSuchGroup),
+        TWO_GROUPS,
+    ),
+    (
+        Step::PutGroup(Spot::After(None), NOWHERE, LINKING),
+        Err(Refusal::GroupTwice),
+        TWO_GROUPS,
+    ),
+    (
+        Step::PutGroup(Spot::Before(None), NOWHERE, ABROAD),
+        Err(Refusal::GroupTwice),
+        TWO_GROUPS,
+    ),
+    (
+        Step::PutGroup(Spot::Before(Some(FIRST)), NOWHERE, ABROAD),
+        Err(Refusal::GroupTwice),
+        TWO_GROUPS,
+    ),
+];
 
 #[test]
 fn hands_groups_back(rt: HostRuntime) {
-    let alloc = rt.alloc();
-    let texts = [LINKING, ABROAD];
-    let mut plan = plan_of(&rt, alloc, texts.as_slice());
-    put_groups(&rt, alloc, &mut plan);
+    follow_over(&rt, rt.alloc(), TWO_GROUPS, GROUPS);
 }
 
-/// Puts in packets that are refused.
-fn put_packets(rt: &impl Abort, alloc: Global, plan: &mut Plan) {
-    let texts = [REVOCATIONS, LINKING];
-    let (first, lacking) = (Spot::After(None), Spot::Before(Some(NEW)));
-    let too_far = Spot::After(Some(PacketTag::Base(2)));
-    for (group, t, spot, text, refusal) in [
-        (NOWHERE, 1, lacking, WIDE, Refusal::NoSuchGroup),
-        (FIRST, 1, lacking, WIDE, Refusal::NoSuchTelegram),
-        (FIRST, 0, lacking, WIDE, Refusal::NoSuchPacket),
-        (FIRST, 0, too_far, NARROW, Refusal::NoSuchPacket),
-        (FIRST, 0, first, WIDE, Refusal::NoRoom),
-        (FIRST, 0, Spot::Before(None), WIDE, Refusal::NoRoom),
-        (FIRST, 0, Spot::Before(Some(PACKET)), WIDE, Refusal::NoRoom),
-    ] {
-        let step = Step::Put(group, t, spot, NEW, text);
-        follow(rt, alloc, plan, step, Err(refusal), texts.as_slice());
-    }
-}
+/// Packets that are refused.
+const PACKETS: &[Row] = &[
+    (
+        Step::Put(NOWHERE, 1, LACKING, NEW, WIDE),
+        Err(Refusal::NoSuchGroup),
+        LINKS,
+    ),
+    (
+        Step::Put(FIRST, 1, LACKING, NEW, WIDE),
+        Err(Refusal::NoSuchTelegram),
+        LINKS,
+    ),
+    (
+        Step::Put(FIRST, 0, LACKING, NEW, WIDE),
+        Err(Refusal::NoSuchPacket),
+        LINKS,
+    ),
+    (
+        Step::Put(FIRST, 0, Spot::After(Some(PacketTag::Base(2))), NEW, NARROW),
+        Err(Refusal::NoSuchPacket),
+        LINKS,
+    ),
+    (
+        Step::Put(FIRST, 0, Spot::After(None), NEW, WIDE),
+        Err(Refusal::NoRoom),
+        LINKS,
+    ),
+    (
+        Step::Put(FIRST, 0, Spot::Before(None), NEW, WIDE),
+        Err(Refusal::NoRoom),
+        LINKS,
+    ),
+    (
+        Step::Put(FIRST, 0, Spot::Before(Some(PACKET)), NEW, WIDE),
+        Err(Refusal::NoRoom),
+        LINKS,
+    ),
+];
 
 #[test]
 fn hands_packets_back(rt: HostRuntime) {
-    let alloc = rt.alloc();
-    let texts = [REVOCATIONS, LINKING];
-    let mut plan = plan_of(&rt, alloc, texts.as_slice());
-    put_packets(&rt, alloc, &mut plan);
+    follow_over(&rt, rt.alloc(), LINKS, PACKETS);
 }
 
-/// Asks for changes that are refused.
-fn ask_for_changes(rt: &impl Abort, alloc: Global, plan: &mut Plan) {
-    let texts = [REVOCATIONS, LINKING];
-    let first = Spot::After(None);
-    for (step, refusal) in [
-        (
-            Step::Field(NOWHERE, 1, NEW, Var::NidBg, 1, 16384),
-            Refusal::NoSuchGroup,
-        ),
-        (
-            Step::Field(FIRST, 1, NEW, Var::NidBg, 1, 16384),
-            Refusal::NoSuchTelegram,
-        ),
-        (
-            Step::Field(FIRST, 0, NEW, Var::NidBg, 1, 16384),
-            Refusal::NoSuchPacket,
-        ),
-        (
-            Step::Field(FIRST, 0, PACKET, Var::NidBg, 0, 7),
-            Refusal::NoSuchVariable,
-        ),
-        (
-            Step::Head(NOWHERE, 1, Var::NidTsr, 256),
-            Refusal::NoSuchGroup,
-        ),
-        (
-            Step::Head(FIRST, 1, Var::NidTsr, 256),
-            Refusal::NoSuchTelegram,
-        ),
-        (
-            Step::Head(FIRST, 0, Var::NidTsr, 256),
-            Refusal::NoSuchVariable,
-        ),
-        (Step::Head(FIRST, 0, Var::NidBg, 20000), Refusal::Steering),
-        (
-            Step::Head(FIRST, 0, Var::MMcount, 256),
-            Refusal::ValueTooWide,
-        ),
-        (Step::Take(NOWHERE, 1, NEW), Refusal::NoSuchGroup),
-        (Step::Take(FIRST, 1, NEW), Refusal::NoSuchTelegram),
-        (Step::Take(FIRST, 0, NEW), Refusal::NoSuchPacket),
-        (Step::Shift(NOWHERE, 1, NEW, first), Refusal::NoSuchGroup),
-        (Step::Shift(FIRST, 1, NEW, first), Refusal::NoSuchTelegram),
-        (Step::Shift(FIRST, 0, NEW, first), Refusal::NoSuchPacket),
-        (
-            Step::Shift(FIRST, 0, PACKET, Spot::After(Some(NEW))),
-            Refusal::NoSuchPacket,
-        ),
-        (Step::Shift(FIRST, 0, PACKET, first), Refusal::SamePlace),
-        (Step::TakeGroup(NOWHERE), Refusal::NoSuchGroup),
-        (Step::Turn(NOWHERE), Refusal::NoSuchGroup),
-    ] {
-        follow(rt, alloc, plan, step, Err(refusal), texts.as_slice());
+/// Changes that are refused.
+const CHANGES: &[Row] = &[
+    (
+        Step::Field(NOWHERE, 1, NEW, Var::NidBg, 1, 16384),
+        Err(Refusal::NoSuchGroup),
+        LINKS,
+    ),
+    (
+        Step::Field(FIRST, 1, NEW, Var::NidBg, 1, 16384),
+        Err(Refusal::NoSuchTelegram),
+        LINKS,
+    ),
+    (
+        Step::Field(FIRST, 0, NEW, Var::NidBg, 1, 16384),
+        Err(Refusal::NoSuchPacket),
+        LINKS,
+    ),
+    (
+        Step::Field(FIRST, 0, PACKET, Var::NidBg, 0, 7),
+        Err(Refusal::NoSuchVariable),
+        LINKS,
+    ),
+    (
+        Step::Head(NOWHERE, 1, Var::NidTsr, 256),
+        Err(Refusal::NoSuchGroup),
+        LINKS,
+    ),
+    (
+        Step::Head(FIRST, 1, Var::NidTsr, 256),
+        Err(Refusal::NoSuchTelegram),
+        LINKS,
+    ),
+    (
+        Step::Head(FIRST, 0, Var::NidTsr, 256),
+        Err(Refusal::NoSuchVariable),
+        LINKS,
+    ),
+    (
+        Step::Head(FIRST, 0, Var::NidBg, 20000),
+        Err(Refusal::Steering),
+        LINKS,
+    ),
+    (
+        Step::Head(FIRST, 0, Var::MMcount, 256),
+        Err(Refusal::ValueTooWide),
+        LINKS,
+    ),
+    (
+        Step::Take(NOWHERE, 1, NEW),
+        Err(Refusal::NoSuchGroup),
+        LINKS,
+    ),
+    (
+        Step::Take(FIRST, 1, NEW),
+        Err(Refusal::NoSuchTelegram),
+        LINKS,
+    ),
+    (Step::Take(FIRST, 0, NEW), Err(Refusal::NoSuchPacket), LINKS),
+    (
+        Step::Shift(NOWHERE, 1, NEW, Spot::After(None)),
+        Err(Refusal::NoSuchGroup),
+        LINKS,
+    ),
+    (
+        Step::Shift(FIRST, 1, NEW, Spot::After(None)),
+        Err(Refusal::NoSuchTelegram),
+        LINKS,
+    ),
+    (
+        Step::Shift(FIRST, 0, NEW, Spot::After(None)),
+        Err(Refusal::NoSuchPacket),
+        LINKS,
+    ),
+    (
+        Step::Shift(FIRST, 0, PACKET, Spot::After(Some(NEW))),
+        Err(Refusal::NoSuchPacket),
+        LINKS,
+    ),
+    (
+        Step::Shift(FIRST, 0, PACKET, Spot::After(None)),
+        Err(Refusal::SamePlace),
+        LINKS,
+    ),
+    (Step::TakeGroup(NOWHERE), Err(Refusal::NoSuchGroup), LINKS),
+    (Step::Turn(NOWHERE), Err(Refusal::NoSuchGroup), LINKS),
+];
+
+/// The second group, and one that isn't there.
+const NAMED: Id = Id {
+    country: 5,
+    number: 101,
+};
+
+const OTHER: Id = Id {
+    country: 6,
+    number: 101,
+};
+
+const SECOND: GroupTag = GroupTag::Base(1);
+
+/// Addresses of each kind, there or not.
+const ADDRESSES: &[(Address, Result<Place, Refusal>)] = &[
+    (Address::Group(NAMED), Ok(Place::Group(SECOND))),
+    (Address::Telegram(NAMED, 0), Ok(Place::Telegram(SECOND, 0))),
+    (
+        Address::Packet(NAMED, 0, 0),
+        Ok(Place::Packet(SECOND, 0, PACKET)),
+    ),
+    (
+        Address::Head(NAMED, 0, Var::MDup),
+        Ok(Place::Head(SECOND, 0, Var::MDup)),
+    ),
+    (
+        Address::Field(NAMED, 0, 0, Var::NidBg, 0),
+        Ok(Place::Field(SECOND, 0, PACKET, Var::NidBg, 0)),
+    ),
+    (Address::Group(OTHER), Err(Refusal::NoSuchGroup)),
+    (Address::Telegram(OTHER, 1), Err(Refusal::NoSuchGroup)),
+    (Address::Telegram(NAMED, 1), Err(Refusal::NoSuchTelegram)),
+    (Address::Packet(OTHER, 1, 1), Err(Refusal::NoSuchGroup)),
+    (Address::Packet(NAMED, 1, 1), Err(Refusal::NoSuchTelegram)),
+    (Address::Packet(NAMED, 0, 1), Err(Refusal::NoSuchPacket)),
+    (
+        Address::Head(OTHER, 1, Var::NidTsr),
+        Err(Refusal::NoSuchGroup),
+    ),
+    (
+        Address::Head(NAMED, 1, Var::NidTsr),
+        Err(Refusal::NoSuchTelegram),
+    ),
+    (
+        Address::Head(NAMED, 0, Var::NidTsr),
+        Err(Refusal::NoSuchVariable),
+    ),
+    (
+        Address::Field(OTHER, 1, 1, Var::NidBg, 1),
+        Err(Refusal::NoSuchGroup),
+    ),
+    (
+        Address::Field(NAMED, 1, 1, Var::NidBg, 1),
+        Err(Refusal::NoSuchTelegram),
+    ),
+    (
+        Address::Field(NAMED, 0, 1, Var::NidBg, 1),
+        Err(Refusal::NoSuchPacket),
+    ),
+    (
+        Address::Field(NAMED, 0, 0, Var::NidBg, 1),
+        Err(Refusal::NoSuchVariable),
+    ),
+];
+
+/// Resolves addresses, which changes nothing.
+fn resolve(rt: &impl Abort, alloc: Global, plan: &Plan) {
+    for (address, place) in ADDRESSES.iter() {
+        assert!(rt; plan.resolve(*address) == *place);
     }
+    assert!(rt; shows(rt, alloc, plan, LINKS));
+    assert!(rt; plan.changes() == 0);
+}
+
+fn resolve_and_refuse(rt: &impl Abort, alloc: Global, plan: &mut Plan) {
+    resolve(rt, alloc, plan);
+    follow_each(rt, alloc, plan, CHANGES);
 }
 
 #[test]
-fn refuses_changes(rt: HostRuntime) {
+fn resolves_addresses_and_refuses_changes(rt: HostRuntime) {
     let alloc = rt.alloc();
-    let texts = [REVOCATIONS, LINKING];
-    let mut plan = plan_of(&rt, alloc, texts.as_slice());
-    ask_for_changes(&rt, alloc, &mut plan);
-}
-
-/// Resolves addresses of each kind, there or not.
-fn resolve_addresses(rt: &impl Abort, alloc: Global, plan: &Plan) {
-    let texts = [REVOCATIONS, LINKING];
-    let (named, other) = (id(5, 101), id(6, 101));
-    let second = GroupTag::Base(1);
-    for (address, place) in [
-        (Address::Group(named), Ok(Place::Group(second))),
-        (Address::Telegram(named, 0), Ok(Place::Telegram(second, 0))),
-        (
-            Address::Packet(named, 0, 0),
-            Ok(Place::Packet(second, 0, PACKET)),
-        ),
-        (
-            Address::Head(named, 0, Var::MDup),
-            Ok(Place::Head(second, 0, Var::MDup)),
-        ),
-        (
-            Address::Field(named, 0, 0, Var::NidBg, 0),
-            Ok(Place::Field(second, 0, PACKET, Var::NidBg, 0)),
-        ),
-        (Address::Group(other), Err(Refusal::NoSuchGroup)),
-        (Address::Telegram(other, 1), Err(Refusal::NoSuchGroup)),
-        (Address::Telegram(named, 1), Err(Refusal::NoSuchTelegram)),
-        (Address::Packet(other, 1, 1), Err(Refusal::NoSuchGroup)),
-        (Address::Packet(named, 1, 1), Err(Refusal::NoSuchTelegram)),
-        (Address::Packet(named, 0, 1), Err(Refusal::NoSuchPacket)),
-        (
-            Address::Head(other, 1, Var::NidTsr),
-            Err(Refusal::NoSuchGroup),
-        ),
-        (
-            Address::Head(named, 1, Var::NidTsr),
-            Err(Refusal::NoSuchTelegram),
-        ),
-        (
-            Address::Head(named, 0, Var::NidTsr),
-            Err(Refusal::NoSuchVariable),
-        ),
-        (
-            Address::Field(other, 1, 1, Var::NidBg, 1),
-            Err(Refusal::NoSuchGroup),
-        ),
-        (
-            Address::Field(named, 1, 1, Var::NidBg, 1),
-            Err(Refusal::NoSuchTelegram),
-        ),
-        (
-            Address::Field(named, 0, 1, Var::NidBg, 1),
-            Err(Refusal::NoSuchPacket),
-        ),
-        (
-            Address::Field(named, 0, 0, Var::NidBg, 1),
-            Err(Refusal::NoSuchVariable),
-        ),
-    ] {
-        assert!(rt; plan.resolve(address) == place, "{address:?}");
-    }
-    assert!(rt; shows(rt, alloc, plan, texts.as_slice()));
-    assert_eq!(rt; plan.changes(), 0);
-}
-
-#[test]
-fn resolves_addresses(rt: HostRuntime) {
-    let alloc = rt.alloc();
-    let texts = [REVOCATIONS, LINKING];
-    let plan = plan_of(&rt, alloc, texts.as_slice());
-    resolve_addresses(&rt, alloc, &plan);
+    let mut plan = plan_of(&rt, alloc, LINKS);
+    resolve_and_refuse(&rt, alloc, &mut plan);
 }

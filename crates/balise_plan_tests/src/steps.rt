@@ -2,20 +2,20 @@
 
 ghost use Rattle.std.specs.Prelude.{◌≡◌, IsTrue, Some, None};
 ghost use Rattle.balise_rules.specs.Packet.{IsSpelt};
-ghost use Rattle.balise_rules.specs.Plan.{telegram_at};
+ghost use Rattle.balise_rules.specs.Plan.{telegram_at, IsSoundGroup};
 ghost use Rattle.balise_rules.specs.Tagged.{find};
 ghost use Rattle.balise_rules.specs.Tags.{same_tag};
 ghost use Rattle.balise_rules.specs.Telegram.{Telegram, version_of};
 
-use crate::plans::{id, shows, telegrams};
+use crate::plans::{plan_of, shows, telegrams};
 use crate::walking::agrees;
-use balise_plan::{Balise, Bits, Group, GroupTag, Id, Packet, PacketTag, Plan, Refusal, Spot, Var};
+use balise_plan::{Balise, Bits, Group, GroupTag, Packet, PacketTag, Plan, Refusal, Spot, Var};
 use balise_telegram::TelegramFault;
 use std::alloc::Global;
 use std::process::Abort;
 
 /// A change of a plan. A packet or a group that is put in is written in digits.
-#[derive(Clone, Copy, Debug)]
+#[derive(Clone, Copy)]
 pub(crate) enum Step {
     Field(GroupTag, u32, PacketTag, Var, u32, u32),
     Head(GroupTag, u32, Var, u32),
@@ -29,46 +29,62 @@ pub(crate) enum Step {
 }
 
 /// What a change answers.
-#[derive(Clone, Copy, Debug, PartialEq)]
+#[derive(Clone, Copy, PartialEq)]
 pub(crate) enum Answer {
     Done,
     Old(u32),
     Next(Option<PacketTag>),
 }
 
-/// Identities that the tests speak of.
-fn known() -> [Id; 10] {
-    [
-        id(5, 100),
-        id(5, 101),
-        id(5, 102),
-        id(5, 103),
-        id(5, 150),
-        id(5, 200),
-        id(5, 300),
-        id(6, 100),
-        id(6, 150),
-        id(5, 16383),
-    ]
+/// A change, its answer, and the groups that the plan shows then.
+pub(crate) type Row = (Step, Result<Answer, Refusal>, &'static [&'static str]);
+
+/// Identities that the tests speak of: country and number.
+const KNOWN: &[(u32, u32)] = &[
+    (5, 100),
+    (5, 101),
+    (5, 102),
+    (5, 103),
+    (5, 150),
+    (5, 200),
+    (5, 300),
+    (6, 100),
+    (6, 150),
+    (5, 16383),
+];
+
+/// Makes changes of a plan of these groups, which it shows at first, one after the other, and looks at each.
+pub(crate) fn follow_over(rt: &impl Abort, alloc: Global, texts: &[&str], rows: &[Row]) {
+    let mut plan = plan_of(rt, alloc, texts);
+    follow_from(rt, alloc, &mut plan, texts, rows);
 }
 
-/// Makes a change, and looks at its answer, the count of changes, what the plan shows then and what it answers for each
-/// identity.
-pub(crate) fn follow(
+fn follow_from(rt: &impl Abort, alloc: Global, plan: &mut Plan, texts: &[&str], rows: &[Row]) {
+    assert!(rt; shows(rt, alloc, plan, texts));
+    follow_each(rt, alloc, plan, rows);
+}
+
+pub(crate) fn follow_each(rt: &impl Abort, alloc: Global, plan: &mut Plan, rows: &[Row]) {
+    for (step, answer, texts) in rows.iter() {
+        follow(rt, alloc, plan, *step, *answer);
+        assert!(rt; shows(rt, alloc, plan, *texts));
+        assert!(rt; agrees(rt, alloc, plan, KNOWN));
+    }
+}
+
+/// Makes a change, and looks at its answer and at the count of changes.
+fn follow(
     rt: &impl Abort,
     alloc: Global,
     plan: &mut Plan,
     step: Step,
     answer: Result<Answer, Refusal>,
-    texts: &[&str],
 ) {
     let before = plan.changes();
     assert!(rt; before < 1000);
-    assert!(rt; make(rt, alloc, plan, step) == answer, "{step:?}");
+    assert!(rt; make(rt, alloc, plan, step) == answer);
     let changes = if answer.is_ok() { before + 1 } else { before };
-    assert_eq!(rt; plan.changes(), changes, "{step:?}");
-    assert!(rt; shows(rt, alloc, plan, texts), "{step:?}");
-    assert!(rt; agrees(rt, alloc, plan, known().as_slice()), "{step:?}");
+    assert!(rt; plan.changes() == changes);
 }
 
 /// Makes a change.
@@ -80,20 +96,50 @@ pub(crate) fn make(
 ) -> Result<Answer, Refusal> {
     assert!(rt; plan.changes() < 1000);
     match step {
-        Step::Field(g, t, p, var, k, value) => {
-            Ok(Answer::Old(plan.set_field(g, t, p, var, k, value)?))
-        }
-        Step::Head(g, t, var, value) => Ok(Answer::Old(plan.set_head(g, t, var, value)?)),
+        Step::Field(g, t, p, var, k, value) => old(plan.set_field(g, t, p, var, k, value)),
+        Step::Head(g, t, var, value) => old(plan.set_head(g, t, var, value)),
         Step::Put(g, t, spot, p, text) => put(rt, alloc, plan, (g, t, spot, p), text),
-        Step::Take(g, t, p) => Ok(Answer::Next(plan.take_packet(g, t, p)?.1)),
-        Step::Shift(g, t, p, spot) => Ok(Answer::Next(plan.shift_packet(g, t, p, spot)?)),
+        Step::Take(g, t, p) => taken(plan.take_packet(g, t, p)),
+        Step::Shift(g, t, p, spot) => next(plan.shift_packet(g, t, p, spot)),
         Step::PutGroup(spot, g, text) => put_group(rt, alloc, plan, spot, g, text),
-        Step::TakeGroup(g) => Ok(Answer::Next(plan.take_group(g)?.1)),
-        Step::Rename(g, number) => Ok(Answer::Old(plan.rename(g, number)?)),
-        Step::Turn(g) => {
-            plan.turn(g)?;
-            Ok(Answer::Done)
-        }
+        Step::TakeGroup(g) => group_taken(plan.take_group(g)),
+        Step::Rename(g, number) => old(plan.rename(g, number)),
+        Step::Turn(g) => done(plan.turn(g)),
+    }
+}
+
+fn old(answer: Result<u32, Refusal>) -> Result<Answer, Refusal> {
+    match answer {
+        Ok(old) => Ok(Answer::Old(old)),
+        Err(fault) => Err(fault),
+    }
+}
+
+fn next(answer: Result<Option<PacketTag>, Refusal>) -> Result<Answer, Refusal> {
+    match answer {
+        Ok(next) => Ok(Answer::Next(next)),
+        Err(fault) => Err(fault),
+    }
+}
+
+fn taken(answer: Result<(Packet, Option<PacketTag>), Refusal>) -> Result<Answer, Refusal> {
+    match answer {
+        Ok((_, next)) => Ok(Answer::Next(next)),
+        Err(fault) => Err(fault),
+    }
+}
+
+fn group_taken(answer: Result<(Group, Option<GroupTag>), Refusal>) -> Result<Answer, Refusal> {
+    match answer {
+        Ok((_, next)) => Ok(Answer::Next(next)),
+        Err(fault) => Err(fault),
+    }
+}
+
+fn done(answer: Result<(), Refusal>) -> Result<Answer, Refusal> {
+    match answer {
+        Ok(()) => Ok(Answer::Done),
+        Err(fault) => Err(fault),
     }
 }
 
@@ -105,26 +151,54 @@ fn put(
     place: (GroupTag, u32, Spot<PacketTag>, PacketTag),
     text: &str,
 ) -> Result<Answer, Refusal> {
-    let (g, t, spot, p) = place;
     let bits = Bits::digits(alloc, text).expect(rt, "digits");
-    let (packet, end) = Packet::read(&bits, 0, 33).expect(rt, "a packet");
-    assert!(rt; plan.changes() < 1000);
-    assert!(rt; may_put(plan, g, t, p, &packet));
-    match plan.put_packet(g, t, spot, p, packet) {
+    put_bits(rt, alloc, plan, place, &bits)
+}
+
+fn put_bits(
+    rt: &impl Abort,
+    alloc: Global,
+    plan: &mut Plan,
+    place: (GroupTag, u32, Spot<PacketTag>, PacketTag),
+    bits: &Bits,
+) -> Result<Answer, Refusal> {
+    let (packet, end) = Packet::read(bits, 0, 33).expect(rt, "a packet");
+    match put_packet(rt, plan, place, packet) {
         Ok(()) => Ok(Answer::Done),
         Err((fault, packet)) => {
-            check_back(rt, alloc, &packet, &bits, end);
+            check_back(rt, alloc, &packet, bits, end);
             Err(fault)
         }
     }
 }
 
+fn put_packet(
+    rt: &impl Abort,
+    plan: &mut Plan,
+    place: (GroupTag, u32, Spot<PacketTag>, PacketTag),
+    packet: Packet,
+) -> Result<(), (Refusal, Packet)> {
+    let (g, t, spot, p) = place;
+    assert!(rt; plan.changes() < 1000);
+    assert!(rt; may_put(plan, g, t, p, &packet));
+    plan.put_packet(g, t, spot, p, packet)
+}
+
 /// That a packet that came back has the bits that it was read from.
 fn check_back(rt: &impl Abort, alloc: Global, packet: &Packet, bits: &Bits, end: usize) {
     let mut back = Bits::new(alloc);
-    assert!(rt; packet.write(&mut back).is_ok());
+    write(rt, packet, &mut back);
+    check_start(rt, &back, bits, end);
+}
+
+fn write(rt: &impl Abort, packet: &Packet, out: &mut Bits) {
+    assert!(rt; packet.write(out).is_ok());
+}
+
+/// That these are the first bits of others, up to a place.
+fn check_start(rt: &impl Abort, start: &Bits, bits: &Bits, end: usize) {
     assert!(rt; end <= bits.len());
-    assert!(rt; back == bits.slice(0, end).expect(rt, "memory"));
+    assert!(rt; *start == bits.slice(0, end).expect(rt, "memory"));
 }
 
 /// Puts a group in under a tag that is new. One that is refused comes back as it was.
@@ -137,64 +211,82 @@ fn put_group(
     text: &str,
 ) -> Result<Answer, Refusal> {
     let group = Group::read(alloc, telegrams(rt, alloc, text)).expect(rt, "a group");
-    assert!(rt; plan.changes() < 1000);
-    assert!(rt; plan.group(g).is_none());
-    match plan.put_group(spot, g, group) {
+    match put_new(rt, plan, spot, g, group) {
         Ok(()) => Ok(Answer::Done),
         Err((fault, back)) => {
-            assert!(rt; group_shows(rt, alloc, &back, text));
+            assert!(rt; group_shows(rt, &back, &telegrams(rt, alloc, text)));
             Err(fault)
         }
     }
 }
 
-/// Takes a group out and puts it back where it stood.
-pub(crate) fn put_back(rt: &impl Abort, plan: &mut Plan, tag: GroupTag) {
-    assert!(rt; plan.changes() < 10000);
-    let (group, next) = plan.take_group(tag).expect(rt, "a group");
+/// Puts a group in under a tag that is new.
+fn put_new(
+    rt: &impl Abort,
+    plan: &mut Plan,
+    spot: Spot<GroupTag>,
+    tag: GroupTag,
+    group: Group,
+) -> Result<(), (Refusal, Group)>
+    requires { IsSoundGroup group }
+{
     assert!(rt; plan.changes() < 10000);
     assert!(rt; plan.group(tag).is_none());
-    assert!(rt; plan.put_group(Spot::Before(next), tag, group).is_ok());
+    plan.put_group(spot, tag, group)
 }
 
-/// Whether a group, as it was read, shows these digits.
-pub(crate) fn group_shows(rt: &impl Abort, alloc: Global, group: &Group, text: &str) -> bool {
-    let wanted = telegrams(rt, alloc, text);
+/// Puts a group in under a tag that is new, which is accepted.
+pub(crate) fn put_there(
+    rt: &impl Abort,
+    plan: &mut Plan,
+    spot: Spot<GroupTag>,
+    tag: GroupTag,
+    group: Group,
+)
+    requires { IsSoundGroup group }
+{
+    assert!(rt; put_new(rt, plan, spot, tag, group).is_ok());
+}
+
+fn take_group(rt: &impl Abort, plan: &mut Plan, tag: GroupTag) -> (Group, Option<GroupTag>)
+    ensures { IsSoundGroup result.0 }
+{
+    assert!(rt; plan.changes() < 10000);
+    plan.take_group(tag).expect(rt, "a group")
+}
+
+/// Takes a group out and puts it back where it stood.
+pub(crate) fn put_back(rt: &impl Abort, plan: &mut Plan, tag: GroupTag) {
+    let (group, next) = take_group(rt, plan, tag);
+    put_there(rt, plan, Spot::Before(next), tag, group);
+}
+
+/// Whether a group, as it was read, shows these telegrams.
+pub(crate) fn group_shows(rt: &impl Abort, group: &Group, wanted: &Vec<Bits>) -> bool {
     let mut same = group.count() == wanted.len();
     for (i, bits) in wanted.iter().enumerate() {
         match group.at(i) {
-            Some((tag, balise)) => {
-                same &= (tag as usize == i) & (balise.shown().expect(rt, "memory") == *bits)
-            }
+            Some((tag, balise)) => same &= (tag as usize == i) & shows_bits(rt, balise, bits),
             None => same = false,
         }
     }
     same
 }
 
+fn shows_bits(rt: &impl Abort, balise: &Balise, bits: &Bits) -> bool {
+    balise.shown().expect(rt, "memory") == *bits
+}
+
 /// Whether a packet may be put into a telegram, where that stands: under a tag that is new there, in a version that
 /// spells it.
-pub(crate) fn may_put(plan: &Plan, g: GroupTag, t: u32, p: PacketTag, packet: &Packet) -> bool
+fn may_put(plan: &Plan, g: GroupTag, t: u32, p: PacketTag, packet: &Packet) -> bool
     ensures new { IsTrue result → (y : Telegram) → telegram_at g t plan.now.groups ≡ Some y → find same_tag p y.packets ≡ None }
     ensures spelt { IsTrue result → (y : Telegram) → telegram_at g t plan.now.groups ≡ Some y → IsSpelt (version_of y) packet.now }
 {
-    // A sound plan.
-    let _ = plan.count();
-    let Some(group) = plan.group(g) else {
-        return true;
-    };
-    if group.country(t).is_none() {
-        return true;
+    match plan.telegram(g, t) {
+        Some(balise) => may_take(balise, p, packet),
+        None => true,
     }
-    for i in 0..group.count() {
-        let Some((tag, balise)) = group.at(i) else {
-            return false;
-        };
-        if tag == t {
-            return may_take(balise, p, packet);
-        }
-    }
-    false
 }
 
 /// Whether the tag is new in the telegram and its version spells the packet.
@@ -202,11 +294,21 @@ fn may_take(balise: &Balise, p: PacketTag, packet: &Packet) -> bool
     ensures new { IsTrue result → find same_tag p balise.now.packets ≡ None }
     ensures spelt { IsTrue result → IsSpelt (version_of balise.now) packet.now }
 {
-    let Ok(mut copy) = balise.copy() else {
-        return false;
-    };
-    if let Err(TelegramFault::NoSuchPacket) = copy.take(p) {
-        return packet.is_spelt(balise.version());
+    packet.is_spelt(balise.version()) && is_new(balise, p)
+}
+
+fn is_new(balise: &Balise, p: PacketTag) -> bool
+    ensures { IsTrue result → find same_tag p balise.now.packets ≡ None }
+{
+    match balise.copy() {
+        Ok(mut copy) => lacks(&mut copy, p),
+        Err(_) => false,
     }
-    false
+}
+
+/// Whether no packet has this tag. One that has is taken.
+fn lacks(balise: &mut Balise, p: PacketTag) -> bool
+    ensures { IsTrue result → find same_tag p balise.old.packets ≡ None }
+{
+    matches!(balise.take(p), Err(TelegramFault::NoSuchPacket))
 }

@@ -1,49 +1,97 @@
 //! Names found by going over a whole plan, and those that the plan answers.
 
-use balise_plan::{Balise, Group, GroupTag, Id, LinkPlace, Plan};
+use crate::plans::id;
+use balise_plan::{Balise, Group, GroupTag, Id, LinkPlace, Links, PacketTag, Plan};
 use std::alloc::Global;
 use std::process::Abort;
 
-/// Whether the plan answers for an identity what a walk over it finds: for each that it has or names, and for these.
-pub(crate) fn agrees(rt: &impl Abort, alloc: Global, plan: &Plan, others: &[Id]) -> bool {
+/// Whether the plan answers for an identity what a walk over it finds: for each that it has or names, and for these,
+/// each written as its country and its number.
+pub(crate) fn agrees(rt: &impl Abort, alloc: Global, plan: &Plan, others: &[(u32, u32)]) -> bool {
     let found = links(rt, alloc, plan);
+    answers_each(rt, alloc, plan, found.as_slice(), others)
+}
+
+fn answers_each(
+    rt: &impl Abort,
+    alloc: Global,
+    plan: &Plan,
+    found: &[(Id, LinkPlace)],
+    others: &[(u32, u32)],
+) -> bool {
     let mut same = true;
-    for (id, _) in &found {
-        same &= answers(rt, alloc, plan, &found, *id);
+    let mut last = None;
+    for (named, _) in found.iter() {
+        if last != Some(*named) {
+            same &= answers(rt, alloc, plan, found, *named);
+        }
+        last = Some(*named);
     }
     for i in 0..plan.count() {
         if let Some((_, group)) = plan.at(i) {
-            same &= answers(rt, alloc, plan, &found, group.identity());
+            same &= answers(rt, alloc, plan, found, group.identity());
         }
     }
-    for id in others.iter() {
-        same &= answers(rt, alloc, plan, &found, *id);
+    for (country, number) in others.iter() {
+        same &= answers(rt, alloc, plan, found, id(*country, *number));
     }
     same
 }
 
 /// Whether the plan answers for an identity the places that were found, in order.
-fn answers(
-    rt: &impl Abort,
-    alloc: Global,
-    plan: &Plan,
-    found: &Vec<(Id, LinkPlace)>,
-    id: Id,
-) -> bool {
-    let Some(links) = plan.links_to(id) else {
-        return found.iter().all(|link| link.0 != id);
-    };
-    let count = found.iter().filter(|link| link.0 == id).count();
-    let mut same = (count > 0) & !links.is_empty() & (links.len() == count);
-    for (named, place) in found {
+fn answers(rt: &impl Abort, alloc: Global, plan: &Plan, found: &[(Id, LinkPlace)], id: Id) -> bool {
+    let count = count_of(found, id);
+    match plan.links_to(id) {
+        None => count == 0,
+        Some(links) => {
+            (count > 0)
+                & !links.is_empty()
+                & (links.len() == count)
+                & contains_each(links, found, id)
+                & is_listed(links, listed(rt, alloc, links).as_slice())
+        }
+    }
+}
+
+/// Whether so many links name an identity.
+pub(crate) fn names(plan: &Plan, id: Id, count: usize) -> bool {
+    match plan.links_to(id) {
+        Some(links) => links.len() == count,
+        None => false,
+    }
+}
+
+/// How many of the links that were found name an identity.
+fn count_of(found: &[(Id, LinkPlace)], id: Id) -> usize {
+    let mut count: usize = 0;
+    for (named, _) in found.iter() {
+        if *named == id {
+            count = count.saturating_add(1);
+        }
+    }
+    count
+}
+
+/// Whether the places that were found for an identity are among these.
+fn contains_each(links: &Links, found: &[(Id, LinkPlace)], id: Id) -> bool {
+    let mut same = true;
+    for (named, place) in found.iter() {
         same &= (*named != id) | links.contains(place);
     }
-    let list = links.listed(alloc).expect(rt, "memory");
-    same &= list.len() == count;
+    same
+}
+
+fn listed(rt: &impl Abort, alloc: Global, links: &Links) -> Vec<LinkPlace> {
+    links.listed(alloc).expect(rt, "memory")
+}
+
+/// Whether a list has these places, each once and in order.
+fn is_listed(links: &Links, list: &[LinkPlace]) -> bool {
+    let mut same = list.len() == links.len();
     for i in 1..list.len() {
         same &= list[i - 1] < list[i];
     }
-    for place in &list {
+    for place in list.iter() {
         same &= links.contains(place);
     }
     same
@@ -52,18 +100,22 @@ fn answers(
 /// Each link of a plan with its place.
 fn links(rt: &impl Abort, alloc: Global, plan: &Plan) -> Vec<(Id, LinkPlace)> {
     let mut found = Vec::new(alloc);
+    add_plan(rt, &mut found, plan);
+    found
+}
+
+fn add_plan(rt: &impl Abort, found: &mut Vec<(Id, LinkPlace)>, plan: &Plan) {
     for i in 0..plan.count() {
         if let Some((g, group)) = plan.at(i) {
-            add_group(rt, &mut found, g, group);
+            add_group(rt, found, g, group);
         }
     }
-    found
 }
 
 fn add_group(rt: &impl Abort, found: &mut Vec<(Id, LinkPlace)>, g: GroupTag, group: &Group) {
     for pig in 0..group.count() {
         if let Some((t, balise)) = group.at(pig) {
-            add_telegram(rt, found, g, t, balise);
+            add_telegram(rt, found, (g, t), balise);
         }
     }
 }
@@ -71,25 +123,35 @@ fn add_group(rt: &impl Abort, found: &mut Vec<(Id, LinkPlace)>, g: GroupTag, gro
 fn add_telegram(
     rt: &impl Abort,
     found: &mut Vec<(Id, LinkPlace)>,
-    group: GroupTag,
-    telegram: u32,
+    at: (GroupTag, u32),
     balise: &Balise,
 ) {
     for i in 0..balise.count() {
         let (packet, _) = balise.packet_at(i).expect(rt, "a packet");
         let links = balise.links(packet).expect(rt, "memory");
-        assert!(rt; links.len() < 32);
-        for element in 0..32 {
-            let place = LinkPlace {
-                group,
-                telegram,
-                packet,
-                element,
-            };
-            match links.get(element as usize) {
-                Some(id) if id.number != 16383 => assert!(rt; found.push((*id, place)).is_ok()),
-                _ => {}
-            }
+        add_packet(rt, found, at, packet, links.as_slice());
+    }
+}
+
+fn add_packet(
+    rt: &impl Abort,
+    found: &mut Vec<(Id, LinkPlace)>,
+    at: (GroupTag, u32),
+    packet: PacketTag,
+    links: &[Id],
+) {
+    let (group, telegram) = at;
+    let mut element: u32 = 0;
+    for id in links.iter() {
+        let place = LinkPlace {
+            group,
+            telegram,
+            packet,
+            element,
+        };
+        if id.number != 16383 {
+            found.push((*id, place)).expect(rt, "memory");
         }
+        element = element.saturating_add(1);
     }
 }

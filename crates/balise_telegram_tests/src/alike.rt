@@ -1,14 +1,16 @@
 //! The same bits held as they are and opened: both forms answer each question and each change alike.
 
-use crate::changes::NAMED;
+use crate::changes::{NAMED, check_links};
 use crate::full::{FULL, LONG, SHORT};
-use crate::telegrams::{TWO_PACKETS, bits, telegram};
-use balise_telegram::{Balise, Id, PacketTag, Telegram, Var};
+use crate::packets::{FIVE, packet};
+use crate::put::{put_after, put_before};
+use crate::telegrams::{TWO_PACKETS, balise, check_bits};
+use balise_telegram::{Balise, Id, PacketTag, Var};
 use std::alloc::Global;
 use std::process::Abort;
 
 /// A packet of each kind, 5 and 136 with and without a country, an unknown one, and coloured padding.
-pub(crate) const EACH_KIND: &str =
+const EACH_KIND: &str =
     "a1007f80a03241503b204b20300c88c0819000c98c05408a81f400c98c00aa04e4000414204b1fe3681f500005020cb244820fa0c4301e2940b2806421200c82000a20a047414064012c0842403e0b10809803244203080c032160020d2ffad2d2d2d2d2d2d2d2d0";
 
 /// The same in version 1.0, which reads 27 and 41 bit for bit.
@@ -57,32 +59,34 @@ const HEADER: [Var; 12] = [
     Var::DLink,
 ];
 
-pub(crate) fn balise(rt: &impl Abort, alloc: Global, text: &str) -> Balise {
-    Balise::read(bits(rt, alloc, text)).expect(rt, "a telegram")
+/// Opens a telegram, which takes its first packet out and puts it in again, or another one in and out.
+fn open(rt: &impl Abort, alloc: Global, balise: &mut Balise) {
+    let tag = PacketTag::Base(0);
+    match balise.take(tag) {
+        Ok((packet, next)) => assert!(rt; put_before(rt, balise, next, tag, packet).is_ok()),
+        Err(_) => {
+            assert!(rt; put_after(rt, balise, None, tag, packet(rt, alloc, FIVE)).is_ok());
+            assert!(rt; balise.take(tag).is_ok());
+        }
+    }
+}
+
+/// The open telegram of these digits.
+fn opened(rt: &impl Abort, alloc: Global, text: &str) -> Balise {
+    let mut balise = balise(rt, alloc, text);
+    open(rt, alloc, &mut balise);
+    balise
 }
 
 /// That both show the same bits.
-fn check_shown(rt: &impl Abort, balise: &Balise, telegram: &Telegram) {
-    let shown = balise.shown().expect(rt, "memory");
-    assert!(rt; shown == telegram.shown().expect(rt, "memory"));
+fn check_shown(rt: &impl Abort, balise: &Balise, telegram: &Balise) {
+    check_bits(rt, telegram, &balise.shown().expect(rt, "memory"));
 }
 
-/// That both tell the same of the packet with this tag, or of none.
-fn check_packet(rt: &impl Abort, balise: &Balise, telegram: &Telegram, tag: PacketTag) {
-    let links = balise.links(tag).expect(rt, "memory");
-    let others = telegram.links(tag).expect(rt, "memory");
-    assert!(rt; links.as_slice() == others.as_slice());
-    for var in HEADER {
-        for k in 0..20 {
-            assert!(rt; balise.field(tag, var, k) == telegram.field(tag, var, k));
-        }
-    }
-    match telegram.packet(tag) {
-        Some(packet) => {
-            let fields = packet.fields().expect(rt, "memory");
-            check_fields(rt, balise, telegram, tag, fields.as_slice());
-        }
-        None => assert!(rt; balise.field(tag, Var::NidPacket, 0).is_none()),
+/// That both tell the same of each occurrence of a variable of a packet.
+fn check_field(rt: &impl Abort, balise: &Balise, telegram: &Balise, tag: PacketTag, var: Var) {
+    for k in 0..20 {
+        assert!(rt; balise.field(tag, var, k) == telegram.field(tag, var, k));
     }
 }
 
@@ -90,7 +94,7 @@ fn check_packet(rt: &impl Abort, balise: &Balise, telegram: &Telegram, tag: Pack
 fn check_fields(
     rt: &impl Abort,
     balise: &Balise,
-    telegram: &Telegram,
+    telegram: &Balise,
     tag: PacketTag,
     fields: &[(Var, u32, u32)],
 ) {
@@ -100,88 +104,193 @@ fn check_fields(
     }
 }
 
-/// That both tell the same packets that have elements.
-fn check_linking(rt: &impl Abort, balise: &Balise, telegram: &Telegram) {
-    let told = balise.linking().expect(rt, "memory");
-    let others = telegram.linking().expect(rt, "memory");
-    check_told(rt, told.as_slice(), others.as_slice());
+/// That both tell the same elements of the packet with this tag, or none.
+fn check_own_links(rt: &impl Abort, balise: &Balise, telegram: &Balise, tag: PacketTag) {
+    let links = balise.links(tag).expect(rt, "memory");
+    check_links(rt, telegram, tag, links.as_slice());
 }
 
-/// That these are the same packets with the same elements.
-fn check_told(rt: &impl Abort, told: &[(PacketTag, Vec<Id>)], others: &[(PacketTag, Vec<Id>)]) {
-    assert!(rt; told.len() == others.len());
-    for (one, other) in told.iter().zip(others.iter()) {
-        assert!(rt; one.0 == other.0);
-        assert!(rt; one.1.as_slice() == other.1.as_slice());
+/// That both tell the same of the packet with this tag, or of none.
+fn check_packet(rt: &impl Abort, balise: &Balise, telegram: &Balise, tag: PacketTag) {
+    check_own_links(rt, balise, telegram, tag);
+    for var in &HEADER {
+        check_field(rt, balise, telegram, tag, *var);
     }
 }
 
-/// That both answer each question alike.
-pub(crate) fn check_alike(rt: &impl Abort, balise: &Balise, telegram: &Telegram) {
+/// That both tell the same fields of the packet at a place, or of none.
+fn check_own_fields(rt: &impl Abort, balise: &Balise, telegram: &Balise, place: usize) {
+    match (balise.packet_at(place), fields_at(rt, balise, place)) {
+        (Some((tag, _)), Some(fields)) => {
+            check_fields(rt, balise, telegram, tag, fields.as_slice());
+        }
+        _ => assert!(rt; fields_at(rt, telegram, place).is_none()),
+    }
+}
+
+fn fields_at(rt: &impl Abort, balise: &Balise, place: usize) -> Option<Vec<(Var, u32, u32)>> {
+    balise.fields_at(place).expect(rt, "memory")
+}
+
+/// That both tell the same packets that have elements.
+fn check_linking(rt: &impl Abort, balise: &Balise, telegram: &Balise) {
+    let told = balise.linking().expect(rt, "memory");
+    check_told(rt, telegram, told.as_slice());
+}
+
+/// That the telegram tells these packets with these elements.
+fn check_told(rt: &impl Abort, telegram: &Balise, told: &[(PacketTag, Vec<Id>)]) {
+    let others = telegram.linking().expect(rt, "memory");
+    assert!(rt; told.len() == others.len());
+    for (k, one) in told.iter().enumerate() {
+        check_one(rt, one, others.get(k).expect(rt, "a packet"));
+    }
+}
+
+/// That these are the same packet with the same elements.
+fn check_one(rt: &impl Abort, one: &(PacketTag, Vec<Id>), other: &(PacketTag, Vec<Id>)) {
+    assert!(rt; one.0 == other.0);
+    assert!(rt; one.1.as_slice() == other.1.as_slice());
+}
+
+/// That both are as wide and as full.
+fn check_sizes(rt: &impl Abort, balise: &Balise, telegram: &Balise) {
     assert!(rt; balise.width() == telegram.width());
     assert!(rt; balise.used() == telegram.used());
     assert!(rt; balise.room() == telegram.room());
     assert!(rt; balise.version() == telegram.version());
     assert!(rt; balise.count() == telegram.count());
-    for var in HEADER {
-        assert!(rt; balise.head(var) == telegram.head(var));
-        assert!(rt; balise.header().get(var) == telegram.header().get(var));
-    }
+}
+
+/// That both have the same variable in their headers.
+fn check_head(rt: &impl Abort, balise: &Balise, telegram: &Balise, var: Var) {
+    assert!(rt; balise.head(var) == telegram.head(var));
+}
+
+/// That both tell the same of the packet at a place, and of those with its number.
+fn check_place(rt: &impl Abort, balise: &Balise, telegram: &Balise, place: u32) {
+    assert!(rt; balise.packet_at(place as usize) == telegram.packet_at(place as usize));
+    check_own_fields(rt, balise, telegram, place as usize);
+    check_packet(rt, balise, telegram, PacketTag::Base(place));
+    check_packet(rt, balise, telegram, PacketTag::Fresh(place));
+}
+
+/// That both tell the same packets.
+fn check_places(rt: &impl Abort, balise: &Balise, telegram: &Balise) {
     for place in 0..35 {
-        assert!(rt; balise.packet_at(place as usize) == telegram.packet_at(place as usize));
-        check_packet(rt, balise, telegram, PacketTag::Base(place));
-        check_packet(rt, balise, telegram, PacketTag::Fresh(place));
+        check_place(rt, balise, telegram, place);
     }
     assert!(rt; balise.packet_at(4294967296).is_none());
+}
+
+/// That both answer each question alike.
+fn check_alike(rt: &impl Abort, balise: &Balise, telegram: &Balise) {
+    check_sizes(rt, balise, telegram);
+    for var in &HEADER {
+        check_head(rt, balise, telegram, *var);
+    }
+    check_places(rt, balise, telegram);
     check_linking(rt, balise, telegram);
     check_shown(rt, balise, telegram);
 }
 
-/// That both set each variable of a packet alike, or refuse it alike.
-fn set_packet(rt: &impl Abort, balise: &mut Balise, telegram: &mut Telegram, tag: PacketTag) {
-    let Some(packet) = telegram.packet(tag) else {
-        assert!(rt;
-            balise.set_field(tag, Var::NidC, 0, 1024) == telegram.set_field(tag, Var::NidC, 0, 1024)
-        );
-        return;
-    };
-    for (var, k, value) in packet.fields().expect(rt, "memory") {
-        for new in [value ^ 1, 0, 1 << var.width(), 4294967295] {
-            let answer = balise.set_field(tag, var, k, new);
-            assert!(rt; answer == telegram.set_field(tag, var, k, new));
-            check_shown(rt, balise, telegram);
-        }
-        let answer = balise.set_field(tag, var, k, value);
-        assert!(rt; answer == telegram.set_field(tag, var, k, value));
-        assert!(rt; balise.set_field(tag, var, 99, 0) == telegram.set_field(tag, var, 99, 0));
+/// That both set a variable of a packet alike, or refuse it alike.
+fn set_field(
+    rt: &impl Abort,
+    balise: &mut Balise,
+    telegram: &mut Balise,
+    place: (PacketTag, Var, u32),
+    value: u32,
+) {
+    let (tag, var, k) = place;
+    let answer = balise.set_field(tag, var, k, value);
+    assert!(rt; answer == telegram.set_field(tag, var, k, value));
+    check_shown(rt, balise, telegram);
+}
+
+/// That both set a variable of a packet to other values alike, or refuse them alike, and back.
+fn set_values(
+    rt: &impl Abort,
+    balise: &mut Balise,
+    telegram: &mut Balise,
+    place: (PacketTag, Var, u32),
+    value: u32,
+) {
+    let width = place.1.width();
+    for new in &[value ^ 1, 0, 1 << width, 4294967295, value] {
+        set_field(rt, balise, telegram, place, *new);
     }
+    set_field(rt, balise, telegram, (place.0, place.1, 99), 0);
+}
+
+/// That both set each variable of the packet at a place alike.
+fn set_packet(rt: &impl Abort, balise: &mut Balise, telegram: &mut Balise, place: u32) {
+    let Some((tag, _)) = balise.packet_at(place as usize) else {
+        return set_field(rt, balise, telegram, (PacketTag::Base(place), Var::NidC, 0), 1024);
+    };
+    if let Some(fields) = fields_at(rt, balise, place as usize) {
+        set_fields(rt, balise, telegram, tag, fields.as_slice());
+    }
+}
+
+/// That both set these variables of a packet alike.
+fn set_fields(
+    rt: &impl Abort,
+    balise: &mut Balise,
+    telegram: &mut Balise,
+    tag: PacketTag,
+    fields: &[(Var, u32, u32)],
+) {
+    for (var, k, value) in fields.iter() {
+        set_values(rt, balise, telegram, (tag, *var, *k), *value);
+    }
+}
+
+/// That both change an element alike.
+fn turn_link(
+    rt: &impl Abort,
+    balise: &mut Balise,
+    telegram: &mut Balise,
+    tag: PacketTag,
+    k: u32,
+) {
+    balise.flip_link(tag, k);
+    telegram.flip_link(tag, k);
+    check_shown(rt, balise, telegram);
+    balise.name_link(tag, k, 777);
+    telegram.name_link(tag, k, 777);
     check_shown(rt, balise, telegram);
 }
 
 /// That both turn a packet and change its elements alike.
-fn turn_packet(rt: &impl Abort, balise: &mut Balise, telegram: &mut Telegram, tag: PacketTag) {
+fn turn_packet(rt: &impl Abort, balise: &mut Balise, telegram: &mut Balise, tag: PacketTag) {
     balise.flip_dir(tag);
     telegram.flip_dir(tag);
     check_shown(rt, balise, telegram);
     for k in 0..20 {
-        balise.flip_link(tag, k);
-        telegram.flip_link(tag, k);
-        check_shown(rt, balise, telegram);
-        balise.name_link(tag, k, 777);
-        telegram.name_link(tag, k, 777);
-        check_shown(rt, balise, telegram);
+        turn_link(rt, balise, telegram, tag, k);
     }
 }
 
-/// That both set each variable of the header alike, or refuse it alike.
-#[tactic(auto, unfolding(balise_rules::specs::Variables::width_of))]
-fn set_header(rt: &impl Abort, balise: &mut Balise, telegram: &mut Telegram) {
-    for var in HEADER {
-        for value in [0, 1, 2, 3, 4, 255, 256] {
-            assert!(rt; balise.set_head(var, value) == telegram.set_head(var, value));
-            check_shown(rt, balise, telegram);
+/// That both set a variable of the header alike, or refuse it alike.
+fn set_head(rt: &impl Abort, balise: &mut Balise, telegram: &mut Balise, var: Var, value: u32) {
+    assert!(rt; balise.set_head(var, value) == telegram.set_head(var, value));
+    check_shown(rt, balise, telegram);
+}
+
+/// That both set each variable of the header alike.
+fn set_header(rt: &impl Abort, balise: &mut Balise, telegram: &mut Balise) {
+    for var in &HEADER {
+        for value in &[0, 1, 2, 3, 4, 255, 256] {
+            set_head(rt, balise, telegram, *var, *value);
         }
     }
+    put_header(rt, balise, telegram);
+}
+
+/// That both put variables into the header alike.
+#[tactic(auto, unfolding(balise_rules::specs::Variables::width_of))]
+fn put_header(rt: &impl Abort, balise: &mut Balise, telegram: &mut Balise) {
     balise.put_head(Var::NPig, 5);
     telegram.put_head(Var::NPig, 5);
     check_shown(rt, balise, telegram);
@@ -191,63 +300,66 @@ fn set_header(rt: &impl Abort, balise: &mut Balise, telegram: &mut Telegram) {
 }
 
 /// That both change in place alike, and then tell the same.
-fn check_changes(rt: &impl Abort, balise: &mut Balise, telegram: &mut Telegram) {
+fn check_changes(rt: &impl Abort, balise: &mut Balise, telegram: &mut Balise) {
     set_header(rt, balise, telegram);
     for place in 0..35 {
-        set_packet(rt, balise, telegram, PacketTag::Base(place));
+        set_packet(rt, balise, telegram, place);
         turn_packet(rt, balise, telegram, PacketTag::Base(place));
     }
-    set_packet(rt, balise, telegram, PacketTag::Fresh(0));
+    set_field(rt, balise, telegram, (PacketTag::Fresh(0), Var::NidC, 0), 1024);
     turn_packet(rt, balise, telegram, PacketTag::Fresh(0));
     check_alike(rt, balise, telegram);
+}
+
+/// That the open telegram of these digits tells and changes as the packed one.
+fn check_open(rt: &impl Abort, alloc: Global, balise: &mut Balise, text: &str) {
+    let mut telegram = opened(rt, alloc, text);
+    check_alike(rt, balise, &telegram);
+    check_changes(rt, balise, &mut telegram);
 }
 
 #[test]
 fn packed_and_open_tell_and_change_alike(rt: HostRuntime) {
     let alloc = rt.alloc();
-    for text in TELEGRAMS {
-        let (mut balise, mut telegram) = (balise(&rt, alloc, text), telegram(&rt, alloc, text));
-        check_alike(&rt, &balise, &telegram);
-        check_changes(&rt, &mut balise, &mut telegram);
+    for text in &TELEGRAMS {
+        check_open(&rt, alloc, &mut balise(&rt, alloc, text), text);
     }
 }
 
+/// What the elements of another country name.
+const OTHER: Id = Id {
+    country: 6,
+    number: 100,
+};
+
 /// That these are the four packets that have elements.
 fn check_four(rt: &impl Abort, told: &[(PacketTag, Vec<Id>)]) {
-    let other = Id {
-        country: 6,
-        number: 100,
-    };
-    assert_eq!(rt; told.len(), 4);
-    let (first, second) = (told.get(0), told.get(1));
-    assert!(rt; tells(first, 0, &[other, other]) && tells(second, 1, &[NAMED]));
-    let (third, fourth) = (told.get(2), told.get(3));
-    assert!(rt; tells(third, 7, &[NAMED]) && tells(fourth, 8, &[other]));
+    assert!(rt; told.len() == 4);
+    check_elements(rt, &told[0], 0, &[OTHER, OTHER]);
+    check_elements(rt, &told[1], 1, &[NAMED]);
+    check_elements(rt, &told[2], 7, &[NAMED]);
+    check_elements(rt, &told[3], 8, &[OTHER]);
+}
+
+/// That this is the packet that was read at a place, with these elements.
+fn check_elements(rt: &impl Abort, told: &(PacketTag, Vec<Id>), place: u32, links: &[Id]) {
+    assert!(rt; told.0 == PacketTag::Base(place));
+    assert!(rt; told.1.as_slice() == links);
+}
+
+/// That a telegram tells them.
+fn check_elements_told(rt: &impl Abort, balise: &Balise) {
+    check_four(rt, balise.linking().expect(rt, "memory").as_slice());
 }
 
 #[test]
 fn tells_the_packets_that_have_elements(rt: HostRuntime) {
-    let alloc = rt.alloc();
-    let told = balise(&rt, alloc, EACH_KIND)
-        .linking()
-        .expect(&rt, "memory");
-    check_four(&rt, told.as_slice());
-    let told = telegram(&rt, alloc, EACH_KIND)
-        .linking()
-        .expect(&rt, "memory");
-    check_four(&rt, told.as_slice());
-}
-
-/// Whether the packet that was read at a place is told, with these elements.
-fn tells(told: Option<&(PacketTag, Vec<Id>)>, place: u32, links: &[Id]) -> bool {
-    match told {
-        Some((tag, all)) => *tag == PacketTag::Base(place) && all.as_slice() == links,
-        None => false,
-    }
+    check_elements_told(&rt, &balise(&rt, rt.alloc(), EACH_KIND));
+    check_elements_told(&rt, &opened(&rt, rt.alloc(), EACH_KIND));
 }
 
 /// That both move the first packet alike, and back, and then change alike.
-fn check_moves(rt: &impl Abort, balise: &mut Balise, telegram: &mut Telegram) {
+fn check_moves(rt: &impl Abort, balise: &mut Balise, telegram: &mut Balise) {
     let (first, second) = (PacketTag::Base(0), PacketTag::Base(1));
     let moved = balise.shift_after(first, Some(second));
     assert!(rt; moved == telegram.shift_after(first, Some(second)));
@@ -258,46 +370,48 @@ fn check_moves(rt: &impl Abort, balise: &mut Balise, telegram: &mut Telegram) {
     check_changes(rt, balise, telegram);
 }
 
-/// What stood behind the packet that is taken out of each.
-fn taken(
-    rt: &impl Abort,
-    balise: &mut Balise,
-    telegram: &mut Telegram,
-    tag: PacketTag,
-) -> (Option<PacketTag>, Option<PacketTag>) {
+/// That the same stood behind the packet that is taken out of each.
+fn check_taken(rt: &impl Abort, balise: &mut Balise, telegram: &mut Balise, tag: PacketTag) {
     let next = balise.take(tag).expect(rt, "a packet").1;
-    (next, telegram.take(tag).expect(rt, "a packet").1)
+    assert!(rt; next == telegram.take(tag).expect(rt, "a packet").1);
+}
+
+/// That the open telegram of these digits tells and changes as the packed one that is opened.
+fn check_once_open(rt: &impl Abort, alloc: Global, balise: &mut Balise, text: &str) {
+    let mut telegram = opened(rt, alloc, text);
+    check_moves(rt, balise, &mut telegram);
+    check_taken(rt, balise, &mut telegram, PacketTag::Base(1));
+    check_alike(rt, balise, &telegram);
 }
 
 #[test]
 fn tells_and_changes_the_same_once_open(rt: HostRuntime) {
     let alloc = rt.alloc();
-    for text in [EACH_KIND, EARLIER_VERSION, FULL, TWO_PACKETS] {
-        let (mut balise, mut telegram) = (balise(&rt, alloc, text), telegram(&rt, alloc, text));
-        check_moves(&rt, &mut balise, &mut telegram);
-        let (next, other) = taken(&rt, &mut balise, &mut telegram, PacketTag::Base(1));
-        assert!(rt; next == other);
-        check_alike(&rt, &balise, &telegram);
+    for text in &[EACH_KIND, EARLIER_VERSION, FULL, TWO_PACKETS] {
+        check_once_open(&rt, alloc, &mut balise(&rt, alloc, text), text);
     }
 }
 
-/// What a telegram holds.
-fn check_held(rt: &impl Abort, alloc: Global, text: &str, count: usize, bits: (usize, usize)) {
-    let balise = balise(rt, alloc, text);
-    assert_eq!(rt; balise.count(), count, "{text}");
-    assert_eq!(rt; (balise.used(), balise.room()), bits, "{text}");
+/// The digits of a telegram, and what it holds: packets, bits used and left.
+type Held = (&'static str, usize, usize, usize);
+
+const HELD: [Held; 5] = [
+    (EACH_KIND_FILLED, 11, 830, 0),
+    (ELEMENTS, 1, 830, 0),
+    (FULL, 33, 817, 13),
+    (LONG, 0, 58, 772),
+    (SHORT, 0, 58, 152),
+];
+
+fn check_held(rt: &impl Abort, balise: &Balise, row: &Held) {
+    assert!(rt; balise.count() == row.1);
+    assert!(rt; balise.used() == row.2);
+    assert!(rt; balise.room() == row.3);
 }
 
 #[test]
 fn both_forms_of_the_fullest_have_no_room(rt: HostRuntime) {
-    let alloc = rt.alloc();
-    for (text, count, used, room) in [
-        (EACH_KIND_FILLED, 11, 830, 0),
-        (ELEMENTS, 1, 830, 0),
-        (FULL, 33, 817, 13),
-        (LONG, 0, 58, 772),
-        (SHORT, 0, 58, 152),
-    ] {
-        check_held(&rt, alloc, text, count, (used, room));
+    for row in &HELD {
+        check_held(&rt, &balise(&rt, rt.alloc(), row.0), row);
     }
 }

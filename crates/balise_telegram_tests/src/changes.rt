@@ -1,8 +1,7 @@
-//! What turning and renumbering change, and copies, with digits made by hand.
+//! What turning and renumbering change, with digits made by hand.
 
-use crate::telegrams::{TWO_PACKETS, shows, telegram};
-use balise_telegram::{Id, PacketTag, Telegram, Var};
-use std::alloc::Global;
+use crate::telegrams::{balise, check_shown};
+use balise_telegram::{Balise, Id, PacketTag};
 use std::process::Abort;
 
 /// One packet 5 with one element.
@@ -26,64 +25,24 @@ pub(crate) const TURNED: &str = "a1007f80a03250800f82a1201f07fffffffffffffffffff
 /// The two packets under a header with N_PIG 3 and NID_BG 777.
 pub(crate) const HEADER_PUT: &str = "a1307f80a184d0900f82a1201f07ffffffffffffffffffffffffc0";
 
-#[test]
-fn turns_a_packet(rt: HostRuntime) {
-    let alloc = rt.alloc();
-    let mut telegram = telegram(&rt, alloc, TWO_PACKETS);
-    telegram.flip_dir(PacketTag::Base(2));
-    assert!(rt; shows(&rt, alloc, &telegram, TWO_PACKETS));
-    telegram.flip_dir(PacketTag::Base(0));
-    assert!(rt; shows(&rt, alloc, &telegram, TURNED));
-    telegram.flip_dir(PacketTag::Base(0));
-    assert!(rt; shows(&rt, alloc, &telegram, TWO_PACKETS));
+/// That the packet with this tag has these elements.
+pub(crate) fn check_links(rt: &impl Abort, telegram: &Balise, tag: PacketTag, links: &[Id]) {
+    let told = telegram.links(tag).expect(rt, "memory");
+    assert!(rt; told.as_slice() == links);
+}
+
+/// That changes of an element or a packet that isn't there change nothing.
+fn change_lacking(rt: &impl Abort, telegram: &mut Balise) {
+    let (first, lacking) = (PacketTag::Base(0), PacketTag::Base(1));
+    check_links(rt, telegram, lacking, &[]);
+    telegram.flip_link(first, 1);
+    telegram.flip_link(lacking, 0);
+    telegram.name_link(first, 1, 777);
+    telegram.name_link(lacking, 0, 777);
+    check_shown(rt, telegram, LINKING);
 }
 
 #[test]
-fn changes_an_element(rt: HostRuntime) {
-    let alloc = rt.alloc();
-    let mut telegram = telegram(&rt, alloc, LINKING);
-    let links = telegram.links(PacketTag::Base(0)).expect(&rt, "memory");
-    assert!(rt; links.as_slice() == [NAMED].as_slice());
-    let links = telegram.links(PacketTag::Base(1)).expect(&rt, "memory");
-    assert!(rt; links.is_empty());
-    telegram.flip_link(PacketTag::Base(0), 1);
-    telegram.flip_link(PacketTag::Base(1), 0);
-    telegram.name_link(PacketTag::Base(0), 1, 777);
-    telegram.name_link(PacketTag::Base(1), 0, 777);
-    assert!(rt; shows(&rt, alloc, &telegram, LINKING));
-    telegram.flip_link(PacketTag::Base(0), 0);
-    assert!(rt; shows(&rt, alloc, &telegram, FLIPPED));
-    telegram.flip_link(PacketTag::Base(0), 0);
-    telegram.name_link(PacketTag::Base(0), 0, 777);
-    assert!(rt; shows(&rt, alloc, &telegram, RENAMED));
-}
-
-#[test]
-#[tactic(auto, unfolding(balise_rules::specs::Variables::width_of))]
-fn puts_variables_of_the_header(rt: HostRuntime) {
-    let alloc = rt.alloc();
-    let mut telegram = telegram(&rt, alloc, TWO_PACKETS);
-    telegram.put_head(Var::NPig, 3);
-    telegram.put_head(Var::NidBg, 777);
-    assert!(rt; shows(&rt, alloc, &telegram, HEADER_PUT));
-}
-
-fn take_first(rt: &impl Abort, telegram: &mut Telegram) {
-    assert!(rt; telegram.take(PacketTag::Base(0)).is_ok());
-}
-
-/// That a copy still has two packets.
-fn check_copy(rt: &impl Abort, alloc: Global, copy: &Telegram) {
-    assert_eq!(rt; copy.count(), 2);
-    assert!(rt; copy.packet(PacketTag::Base(1)).is_some());
-    assert!(rt; shows(rt, alloc, copy, TWO_PACKETS));
-}
-
-#[test]
-fn copies_a_telegram(rt: HostRuntime) {
-    let alloc = rt.alloc();
-    let mut telegram = telegram(&rt, alloc, TWO_PACKETS);
-    let copy = telegram.copy().expect(&rt, "memory");
-    take_first(&rt, &mut telegram);
-    check_copy(&rt, alloc, &copy);
+fn changes_no_element_that_is_lacking(rt: HostRuntime) {
+    change_lacking(&rt, &mut balise(&rt, rt.alloc(), LINKING));
 }

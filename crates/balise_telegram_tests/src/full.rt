@@ -1,9 +1,10 @@
 //! The fullest telegrams: 33 packets, and packets as long as the room. No contract says that memory is
 //! there, so each call that takes it is made on them.
 
-use crate::packets::{handed_back, put_after, put_before};
-use crate::telegrams::{shows, telegram};
-use balise_telegram::{Bits, Packet, PacketTag, Telegram, TelegramFault};
+use crate::packets::{read_packet, shift_after, shift_before};
+use crate::put::{check_handed_back, put_after, put_before};
+use crate::telegrams::{balise, check_shown};
+use balise_telegram::{Balise, Bits, Packet, PacketTag, TelegramFault};
 use std::alloc::Global;
 use std::process::Abort;
 
@@ -22,152 +23,175 @@ pub(crate) const LONG: &str =
 /// 210 bits without packets.
 pub(crate) const SHORT: &str = "a1007f80a0327fffffffffffffffffffffffffffffffffffffffc0";
 
+/// 210 and 830 bits with the longest packet 44 that they have room for.
+const SHORT_FILLED: &str = "a1007f80a0324b104c000000000000000000000000000000003fc0";
+
+const LONG_FILLED: &str =
+    "a1007f80a0324b118200000000000000000000000000000000000000000000000000000000000000000000000000000000000000000000000000000000000000000000000000000000000000000000000000000000000000000000000000000000000000000003fc";
+
 /// The bits of a packet 44, which isn't known, of so many bits: zeros behind its first three fields.
 fn opaque(rt: &impl Abort, alloc: Global, width: u32) -> Bits {
-    let mut bits = Bits::new(alloc);
-    bits.push(8, 44).expect(rt, "memory");
-    bits.push(2, 1).expect(rt, "memory");
+    let mut bits = Bits::from_hex(alloc, "2c40", 10).expect(rt, "digits");
     assert!(rt; width >= 23 && width < 8192);
     bits.push(13, width).expect(rt, "memory");
     bits.push_zeros((width - 23) as usize).expect(rt, "memory");
     bits
 }
 
-fn packet(rt: &impl Abort, bits: &Bits) -> Packet {
-    Packet::read(bits, 0, 33).expect(rt, "a packet").0
-}
-
 /// Takes the packet with this tag out.
-fn taken(rt: &impl Abort, telegram: &mut Telegram, tag: PacketTag) -> Packet {
+fn taken(rt: &impl Abort, telegram: &mut Balise, tag: PacketTag) -> Packet {
     telegram.take(tag).expect(rt, "a packet").0
 }
 
 /// That the telegram tells of 33 packets.
-fn check_filled(rt: &impl Abort, telegram: &Telegram) {
-    assert_eq!(rt; telegram.width(), 830);
-    assert_eq!(rt; telegram.count(), 33);
-    assert_eq!(rt; telegram.used(), 817);
-    assert_eq!(rt; telegram.room(), 13);
+fn check_filled(rt: &impl Abort, telegram: &Balise) {
+    assert!(rt; telegram.width() == 830);
+    assert!(rt; telegram.count() == 33);
+    assert!(rt; telegram.used() == 817);
+    assert!(rt; telegram.room() == 13);
 }
 
-/// That a copy of the telegram shows these digits.
-fn check_copy(rt: &impl Abort, alloc: Global, telegram: &Telegram, text: &str) {
-    let copy = telegram.copy().expect(rt, "memory");
-    assert!(rt; shows(rt, alloc, &copy, text));
+/// That the telegram and a copy show 33 packets.
+fn check_copy(rt: &impl Abort, telegram: &Balise) {
+    check_shown(rt, telegram, FULL);
+    check_shown(rt, &telegram.copy().expect(rt, "memory"), FULL);
 }
 
 #[test]
 fn shows_and_copies_33_packets(rt: HostRuntime) {
-    let alloc = rt.alloc();
-    let telegram = telegram(&rt, alloc, FULL);
+    let telegram = balise(&rt, rt.alloc(), FULL);
     check_filled(&rt, &telegram);
-    assert!(rt; shows(&rt, alloc, &telegram, FULL));
-    check_copy(&rt, alloc, &telegram, FULL);
+    check_copy(&rt, &telegram);
+}
+
+/// Moves a packet into another telegram, behind the last one.
+fn move_behind(
+    rt: &impl Abort,
+    from: &mut Balise,
+    to: &mut Balise,
+    place: u32,
+    last: Option<PacketTag>,
+) {
+    let packet = taken(rt, from, PacketTag::Base(place));
+    assert!(rt; put_after(rt, to, last, PacketTag::Fresh(place), packet).is_ok());
+}
+
+/// Moves 33 packets into another telegram, from the first one on.
+fn fill_from_front(rt: &impl Abort, from: &mut Balise, to: &mut Balise) {
+    let mut last = None;
+    for place in 0..33 {
+        move_behind(rt, from, to, place, last);
+        last = Some(PacketTag::Fresh(place));
+    }
+    check_shown(rt, to, FULL);
+    check_shown(rt, from, LONG);
 }
 
 #[test]
 fn fills_a_telegram_from_the_front(rt: HostRuntime) {
-    let alloc = rt.alloc();
-    let (mut from, mut to) = (telegram(&rt, alloc, FULL), telegram(&rt, alloc, LONG));
-    let mut last = None;
-    for place in 0..33 {
-        let tag = PacketTag::Fresh(place);
-        let packet = taken(&rt, &mut from, PacketTag::Base(place));
-        assert!(rt;
-            put_after(&rt, &mut to, last, tag, packet).is_ok(),
-            "{place}"
-        );
-        last = Some(tag);
+    let mut from = balise(&rt, rt.alloc(), FULL);
+    fill_from_front(&rt, &mut from, &mut balise(&rt, rt.alloc(), LONG));
+}
+
+/// Moves a packet into another telegram, before the first one.
+fn move_before(
+    rt: &impl Abort,
+    from: &mut Balise,
+    to: &mut Balise,
+    place: u32,
+    tag: PacketTag,
+    first: Option<PacketTag>,
+) {
+    let packet = taken(rt, from, PacketTag::Base(place));
+    assert!(rt; put_before(rt, to, first, tag, packet).is_ok());
+}
+
+/// Moves 33 packets into another telegram, from the last one on.
+fn fill_from_back(rt: &impl Abort, from: &mut Balise, to: &mut Balise) {
+    let mut first = None;
+    for count in 0..33 {
+        let tag = PacketTag::Base(count);
+        move_before(rt, from, to, 32 - count, tag, first);
+        first = Some(tag);
     }
-    assert!(rt; shows(&rt, alloc, &to, FULL));
-    assert!(rt; shows(&rt, alloc, &from, LONG));
+    check_shown(rt, to, FULL);
+    check_shown(rt, from, LONG);
 }
 
 #[test]
 fn fills_a_telegram_from_the_back(rt: HostRuntime) {
-    let alloc = rt.alloc();
-    let (mut from, mut to) = (telegram(&rt, alloc, FULL), telegram(&rt, alloc, LONG));
-    let mut first = None;
-    for count in 0..33 {
-        let tag = PacketTag::Base(count);
-        let packet = taken(&rt, &mut from, PacketTag::Base(32 - count));
-        assert!(rt;
-            put_before(&rt, &mut to, first, tag, packet).is_ok(),
-            "{count}"
-        );
-        first = Some(tag);
-    }
-    assert!(rt; shows(&rt, alloc, &to, FULL));
-    assert!(rt; shows(&rt, alloc, &from, LONG));
+    let mut from = balise(&rt, rt.alloc(), FULL);
+    fill_from_back(&rt, &mut from, &mut balise(&rt, rt.alloc(), LONG));
+}
+
+const LAST: PacketTag = PacketTag::Base(32);
+
+/// That the last packet is moved to the front and back.
+fn check_moved_after(rt: &impl Abort, telegram: &mut Balise) {
+    shift_after(rt, telegram, LAST, None, None);
+    check_shown(rt, telegram, LAST_FIRST);
+    let (first, before) = (PacketTag::Base(0), PacketTag::Base(31));
+    shift_after(rt, telegram, LAST, Some(before), Some(first));
+    check_shown(rt, telegram, FULL);
+}
+
+/// The same, told the neighbour that it is moved before.
+fn check_moved_before(rt: &impl Abort, telegram: &mut Balise) {
+    let first = Some(PacketTag::Base(0));
+    shift_before(rt, telegram, LAST, first, None);
+    check_shown(rt, telegram, LAST_FIRST);
+    shift_before(rt, telegram, LAST, None, first);
+    check_shown(rt, telegram, FULL);
 }
 
 #[test]
 fn moves_among_33_packets(rt: HostRuntime) {
-    let alloc = rt.alloc();
-    let mut telegram = telegram(&rt, alloc, FULL);
-    let (first, last) = (PacketTag::Base(0), PacketTag::Base(32));
-    assert!(rt; telegram.shift_after(last, None) == Ok(None));
-    assert!(rt; shows(&rt, alloc, &telegram, LAST_FIRST));
-    let before = PacketTag::Base(31);
-    assert!(rt; telegram.shift_after(last, Some(before)) == Ok(Some(first)));
-    assert!(rt; shows(&rt, alloc, &telegram, FULL));
-    assert!(rt; telegram.shift_before(last, Some(first)) == Ok(None));
-    assert!(rt; shows(&rt, alloc, &telegram, LAST_FIRST));
-    assert!(rt; telegram.shift_before(last, None) == Ok(Some(first)));
-    assert!(rt; shows(&rt, alloc, &telegram, FULL));
+    let mut telegram = balise(&rt, rt.alloc(), FULL);
+    check_moved_after(&rt, &mut telegram);
+    check_moved_before(&rt, &mut telegram);
 }
 
 /// That a packet that is longer than the room is handed back.
-fn check_longer(rt: &impl Abort, telegram: &mut Telegram, longer: &Bits) {
-    let tag = PacketTag::Fresh(1);
-    let outcome = put_after(rt, telegram, None, tag, packet(rt, longer));
-    assert!(rt; handed_back(rt, outcome, longer) == Some(TelegramFault::NoRoom));
-    let outcome = put_before(rt, telegram, None, tag, packet(rt, longer));
-    assert!(rt; handed_back(rt, outcome, longer) == Some(TelegramFault::NoRoom));
+fn check_longer(rt: &impl Abort, telegram: &mut Balise, longer: &Bits, before: &str) {
+    check_handed_back(rt, telegram, longer, None, TelegramFault::NoRoom);
+    check_shown(rt, telegram, before);
 }
 
-/// That a packet that is as long as the room is put in, taken out and put in.
-fn check_fitting(
-    rt: &impl Abort,
-    alloc: Global,
-    telegram: &mut Telegram,
-    fitting: Packet,
-    after: &str,
-) {
+/// That a packet that is as long as the room is put in.
+fn check_fitting(rt: &impl Abort, telegram: &mut Balise, fitting: &Bits, after: &str) {
+    let packet = read_packet(rt, fitting);
+    assert!(rt; put_after(rt, telegram, None, PacketTag::Fresh(1), packet).is_ok());
+    check_shown(rt, telegram, after);
+    assert!(rt; telegram.room() == 0);
+}
+
+/// That it is taken out and put in again.
+fn check_again(rt: &impl Abort, telegram: &mut Balise, after: &str) {
     let tag = PacketTag::Fresh(1);
-    assert!(rt;
-        put_after(rt, telegram, None, tag, fitting).is_ok(),
-        "{after}"
-    );
-    assert!(rt; shows(rt, alloc, telegram, after));
-    assert_eq!(rt; telegram.room(), 0);
-    let fitting = taken(rt, telegram, tag);
-    assert!(rt;
-        put_before(rt, telegram, None, tag, fitting).is_ok(),
-        "{after}"
-    );
-    assert!(rt; shows(rt, alloc, telegram, after));
+    let packet = taken(rt, telegram, tag);
+    assert!(rt; put_before(rt, telegram, None, tag, packet).is_ok());
+    check_shown(rt, telegram, after);
+}
+
+/// The digits of a telegram, the widths of a packet that is too long and of one that fits, and the digits with the
+/// latter.
+type Room = (&'static str, u32, u32, &'static str);
+
+const ROOMS: [Room; 2] = [
+    (SHORT, 153, 152, SHORT_FILLED),
+    (LONG, 773, 772, LONG_FILLED),
+];
+
+fn check_room(rt: &impl Abort, alloc: Global, telegram: &mut Balise, row: &Room) {
+    check_longer(rt, telegram, &opaque(rt, alloc, row.1), row.0);
+    check_fitting(rt, telegram, &opaque(rt, alloc, row.2), row.3);
+    check_again(rt, telegram, row.3);
 }
 
 #[test]
 fn fills_the_room_exactly(rt: HostRuntime) {
     let alloc = rt.alloc();
-    for (before, room, after) in [
-        (
-            SHORT,
-            152,
-            "a1007f80a0324b104c000000000000000000000000000000003fc0",
-        ),
-        (
-            LONG,
-            772,
-            "a1007f80a0324b118200000000000000000000000000000000000000000000000000000000000000000000000000000000000000000000000000000000000000000000000000000000000000000000000000000000000000000000000000000000000000000003fc",
-        ),
-    ] {
-        let mut telegram = telegram(&rt, alloc, before);
-        check_longer(&rt, &mut telegram, &opaque(&rt, alloc, room + 1));
-        assert!(rt; shows(&rt, alloc, &telegram, before));
-        let fitting = packet(&rt, &opaque(&rt, alloc, room));
-        check_fitting(&rt, alloc, &mut telegram, fitting, after);
+    for row in &ROOMS {
+        check_room(&rt, alloc, &mut balise(&rt, alloc, row.0), row);
     }
 }

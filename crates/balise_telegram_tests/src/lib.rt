@@ -10,8 +10,8 @@ mod changes;
 #[cfg(test)]
 mod full;
 #[cfg(test)]
-mod packed;
-#[cfg(test)]
 mod packets;
+#[cfg(test)]
+mod put;
 #[cfg(test)]
 mod telegrams;

@@ -1,111 +1,118 @@
 //! The longest line, the longest input, and the most commands.
 
 use crate::devices::{Repeated, Tally};
-use balise_cli::{Counted, Flags, RunFault, Status, run};
+use crate::runs::{PLAIN, QUIET, check_ended, check_text, run_often};
+use balise_cli::{Counted, RunFault, Status, run};
+use std::alloc::Global;
+use std::process::Abort;
 
-const FRONT: &str = "plan 1\nedits\n";
+const FRONT: &[u8] = b"plan 1\nedits\n";
 
 const GROUP: &[u8] =
     b"plan 1\ngroup\na1007f80a0327fffffffffffffffffffffffffffffffffffffffc0\nedits\n";
 
-/// A command line of 4,096 letters, behind a plan without groups, and one of 4,097.
+/// What is printed of the same plan.
+const PLAN: &[u8] = b"plan 1\ngroup\na1007f80a0327fffffffffffffffffffffffffffffffffffffffc0\n";
+
+/// Two commands, of which the second undoes the first.
+const PART: &[u8] = b"seth 5.100 0 M_MCOUNT 7\nundo\n";
+
+/// That a command line of so many letters, behind a plan without groups, has a run end so and print this.
+fn check_line(
+    rt: &impl Abort,
+    alloc: Global,
+    letters: u64,
+    ended: Result<Status, RunFault>,
+    output: &[u8],
+) {
+    let mut writer = Counted::new(Vec::new(alloc));
+    let answer = run_often(alloc, (FRONT, b"x", letters), &mut writer, PLAIN);
+    assert!(rt; answer == ended);
+    check_text(rt, &writer, output);
+}
+
 #[test]
 fn longest_line(rt: HostRuntime) {
-    for (letters, ended, output) in [
-        (
-            4_096,
-            Ok(Status::SomeRefused),
-            "refused 1 BadLine\nplan 1\n",
-        ),
-        (4_097, Err(RunFault::InputTooLong), ""),
-    ] {
-        let mut reader = Repeated::new(FRONT.as_bytes(), b"x", letters);
-        let mut writer = Counted::new(Vec::new(rt.alloc()));
-        let answer = run(rt.alloc(), &mut reader, &mut writer, Flags::default());
-        assert_eq!(rt; answer, ended);
-        assert_eq!(rt; writer.inner().as_slice(), output.as_bytes());
-    }
+    let output = b"refused 1 BadLine\nplan 1\n";
+    check_line(&rt, rt.alloc(), 4_096, Ok(Status::SomeRefused), output);
+    check_line(&rt, rt.alloc(), 4_097, Err(RunFault::InputTooLong), b"");
+}
+
+/// That the two commands so many times print two lines each time, and end so.
+fn check_lines(rt: &impl Abort, alloc: Global, times: u64, status: Status) {
+    let mut reader = Repeated::new(GROUP, PART, times);
+    let mut writer = Tally::new();
+    check_ended(rt, run(alloc, &mut reader, &mut writer, PLAIN), status);
+    assert!(rt; times < 1_000_000);
+    assert!(rt; writer.inner().lines == 2 * times + 3);
 }
 
 /// After 1,000,000 accepted commands each further one is refused.
 #[test]
 fn most_commands(rt: HostRuntime) {
-    let part = b"seth 5.100 0 M_MCOUNT 7\nundo\n";
-    for (times, status) in [(500_000, Status::Accepted), (500_001, Status::SomeRefused)] {
-        let mut reader = Repeated::new(GROUP, part, times);
-        let mut writer = Tally::new();
-        let answer = run(rt.alloc(), &mut reader, &mut writer, Flags::default());
-        assert_eq!(rt; answer, Ok(status));
-        assert_eq!(rt; writer.inner().lines, 2 * times + 3);
-    }
+    check_lines(&rt, rt.alloc(), 500_000, Status::Accepted);
+    check_lines(&rt, rt.alloc(), 500_001, Status::SomeRefused);
+}
+
+/// That a text is these replies and the plan.
+fn check_replies(rt: &impl Abort, text: &[u8], replies: &[u8]) {
+    assert!(rt; text.starts_with(replies));
+    assert!(rt; text.len() == replies.len().saturating_add(PLAN.len()));
+    assert!(rt; text.ends_with(PLAN));
+}
+
+/// That the two commands so many times are answered with these replies, quietly.
+fn check_quiet(rt: &impl Abort, alloc: Global, times: u64, replies: &[u8]) {
+    let mut writer = Counted::new(Vec::new(alloc));
+    let answer = run_often(alloc, (GROUP, PART, times), &mut writer, QUIET);
+    assert!(rt; answer.is_ok());
+    check_replies(rt, writer.inner().as_slice(), replies);
 }
 
 /// The millionth command is the last that is done, whatever comes behind it.
 #[test]
 fn replies_at_the_limit(rt: HostRuntime) {
-    let flags = Flags {
-        quiet: true,
-        ..Flags::default()
-    };
-    let part = b"seth 5.100 0 M_MCOUNT 7\nundo\n";
-    let plan = "plan 1\ngroup\na1007f80a0327fffffffffffffffffffffffffffffffffffffffc0\n";
-    for (times, replies) in [
-        (500_000, ""),
-        (500_001, "refused 28 Worn\nrefused 28 Worn\n"),
-    ] {
-        let mut reader = Repeated::new(GROUP, part, times);
-        let mut writer = Counted::new(Vec::new(rt.alloc()));
-        let answer = run(rt.alloc(), &mut reader, &mut writer, flags);
-        assert!(rt; answer.is_ok());
-        let text = writer.inner().as_slice();
-        assert!(rt; text.starts_with(replies.as_bytes()));
-        assert_eq!(rt; text.len(), replies.len().saturating_add(plan.len()));
-        assert!(rt; text.ends_with(plan.as_bytes()));
-    }
+    check_quiet(&rt, rt.alloc(), 500_000, b"");
+    check_quiet(
+        &rt,
+        rt.alloc(),
+        500_001,
+        b"refused 28 Worn\nrefused 28 Worn\n",
+    );
+}
+
+fn check_end(rt: &impl Abort, writer: &Counted<Vec<u8>>, end: &[u8]) {
+    assert!(rt; writer.inner().as_slice().ends_with(end));
 }
 
 /// A line that is no command is refused as that behind the millionth command, too.
 #[test]
 fn bad_lines_at_the_limit(rt: HostRuntime) {
-    let flags = Flags {
-        quiet: true,
-        ..Flags::default()
-    };
     let part = b"seth 5.100 0 M_MCOUNT 7\nundo\nfrobnicate\n";
     let end =
-        "refused 1 BadLine\nrefused 28 Worn\nrefused 28 Worn\nrefused 1 BadLine\nplan 1\ngroup\na1007f80a0327fffffffffffffffffffffffffffffffffffffffc0\n";
-    let mut reader = Repeated::new(GROUP, part, 500_001);
+        b"refused 1 BadLine\nrefused 28 Worn\nrefused 28 Worn\nrefused 1 BadLine\nplan 1\ngroup\na1007f80a0327fffffffffffffffffffffffffffffffffffffffc0\n";
     let mut writer = Counted::new(Vec::new(rt.alloc()));
-    let answer = run(rt.alloc(), &mut reader, &mut writer, flags);
-    assert_eq!(rt; answer, Ok(Status::SomeRefused));
-    assert!(rt; writer.inner().as_slice().ends_with(end.as_bytes()));
+    let answer = run_often(rt.alloc(), (GROUP, part, 500_001), &mut writer, QUIET);
+    check_ended(&rt, answer, Status::SomeRefused);
+    check_end(&rt, &writer, end);
+}
+
+fn push_often(rt: &impl Abort, text: &mut String, line: &str) {
+    for _ in 0..1_000 {
+        text.push_str(line).expect(rt, "memory");
+    }
 }
 
 /// 1,000 edits, all undone, give the plan that was read.
 #[test]
 fn a_thousand_edits_undone(rt: HostRuntime) {
-    let mut input = String::new(rt.alloc());
-    input
-        .push_str("plan 1\ngroup\na1007f80a0327fffffffffffffffffffffffffffffffffffffffc0\nedits\n")
-        .expect(&rt, "memory");
-    for _ in 0..1_000 {
-        input.push_str("turn 5.100\n").expect(&rt, "memory");
-    }
-    for _ in 0..1_000 {
-        input.push_str("undo\n").expect(&rt, "memory");
-    }
-    let flags = Flags {
-        quiet: true,
-        ..Flags::default()
-    };
-    let mut reader = Counted::new(input.as_bytes());
+    let mut edits = String::new(rt.alloc());
+    push_often(&rt, &mut edits, "turn 5.100\n");
+    push_often(&rt, &mut edits, "undo\n");
     let mut writer = Counted::new(Vec::new(rt.alloc()));
-    let answer = run(rt.alloc(), &mut reader, &mut writer, flags);
-    assert_eq!(rt; answer, Ok(Status::Accepted));
-    assert_eq!(rt;
-        writer.inner().as_slice(),
-        b"plan 1\ngroup\na1007f80a0327fffffffffffffffffffffffffffffffffffffffc0\n".as_slice()
-    );
+    let answer = run_often(rt.alloc(), (GROUP, edits.as_bytes(), 1), &mut writer, QUIET);
+    check_ended(&rt, answer, Status::Accepted);
+    check_text(&rt, &writer, PLAN);
 }
 
 /// An input without end is too long at last.
@@ -113,8 +120,8 @@ fn a_thousand_edits_undone(rt: HostRuntime) {
 fn longest_input(rt: HostRuntime) {
     let mut reader = Repeated::new(GROUP, b"undo\n", u64::MAX);
     let mut writer = Tally::new();
-    let answer = run(rt.alloc(), &mut reader, &mut writer, Flags::default());
-    assert_eq!(rt; answer, Err(RunFault::InputTooLong));
-    assert_eq!(rt; reader.failed(), 0);
-    assert_eq!(rt; writer.failed(), 0);
+    let answer = run(rt.alloc(), &mut reader, &mut writer, PLAIN);
+    assert!(rt; answer == Err(RunFault::InputTooLong));
+    assert!(rt; reader.failed() == 0);
+    assert!(rt; writer.failed() == 0);
 }

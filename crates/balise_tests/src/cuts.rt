@@ -1,7 +1,8 @@
 //! An input with a turn, an insertion and a strike, cut behind each byte.
 
-use crate::devices::Slow;
-use balise_cli::{Counted, Flags, Status, run};
+use crate::runs;
+use crate::runs::{PLAIN, Row};
+use balise_cli::Status;
 use std::alloc::Global;
 use std::process::Abort;
 
@@ -26,7 +27,7 @@ const TURN: &str =
 type Lengths = (usize, usize, bool);
 
 /// What the plan is refused for where so many bytes are left of the input.
-const REFUSED: [(Lengths, &str); 20] = [
+const REFUSED: &[(Lengths, &str)] = &[
     ((0, 5, true), "bad 1 1 BadLine\n"),
     ((6, 11, true), "bad 2 1 BadLine\n"),
     ((12, 13, true), "bad 2 10 GroupSize\n"),
@@ -50,7 +51,7 @@ const REFUSED: [(Lengths, &str); 20] = [
 ];
 
 /// What is printed where the commands are reached: whether the turn is answered, what else is, and the plan.
-const ANSWERED: [(Lengths, bool, &str, &str, Status); 10] = [
+const ANSWERED: &[(Lengths, bool, &str, &str, Status)] = &[
     ((244, 245, true), false, "", READ, Status::Accepted),
     (
         (246, 252, true),
@@ -110,35 +111,63 @@ fn holds(lengths: Lengths, length: usize) -> bool {
     first <= length && length <= last && (is_each || length % 2 == first % 2)
 }
 
+/// That this is printed for an input of this length.
 fn check(rt: &impl Abort, alloc: Global, length: usize, due: &str, status: Status) {
-    for step in [1, 4096] {
-        let mut reader = Slow::new(INPUT.get(..length).unwrap_or(&[]), step);
-        let mut writer = Counted::new(Vec::new(alloc));
-        let ended = run(alloc, &mut reader, &mut writer, Flags::default());
-        assert_eq!(rt; ended, Ok(status), "{length}");
-        assert_eq!(rt; writer.inner().as_slice(), due.as_bytes(), "{length}");
+    let row = Row {
+        flags: PLAIN,
+        input: INPUT.get(..length).unwrap_or(&[]),
+        output: due.as_bytes(),
+        status,
+    };
+    runs::check(rt, alloc, &row, 1);
+    runs::check(rt, alloc, &row, 4096);
+}
+
+/// Looks at the rows of a plan that is refused which hold a length, and answers how many there are.
+fn check_refused(rt: &impl Abort, alloc: Global, length: usize) -> u32 {
+    let mut rows: u32 = 0;
+    for (lengths, text) in REFUSED.iter() {
+        if holds(*lengths, length) {
+            rows = rows.saturating_add(1);
+            check(rt, alloc, length, *text, Status::BadInput);
+        }
     }
+    rows
+}
+
+/// The same of the rows where the commands are reached.
+fn check_answered(rt: &impl Abort, alloc: Global, length: usize) -> u32 {
+    let mut rows: u32 = 0;
+    for (lengths, is_turned, text, plan, status) in ANSWERED.iter() {
+        if holds(*lengths, length) {
+            rows = rows.saturating_add(1);
+            let due = due_of(rt, alloc, *is_turned, *text, *plan);
+            check(rt, alloc, length, due.as_str(), *status);
+        }
+    }
+    rows
+}
+
+fn due_of(rt: &impl Abort, alloc: Global, is_turned: bool, text: &str, plan: &str) -> String {
+    let mut due = String::new(alloc);
+    if is_turned {
+        push(rt, &mut due, TURN);
+    }
+    push(rt, &mut due, text);
+    push(rt, &mut due, plan);
+    due
+}
+
+fn push(rt: &impl Abort, due: &mut String, text: &str) {
+    due.push_str(text).expect(rt, "memory");
 }
 
 /// Each length is in one row of the tables, and what stands there is printed.
 #[test]
 fn each_cut(rt: HostRuntime) {
     for length in 0..=INPUT.len() {
-        let mut rows: u32 = 0;
-        for (lengths, text) in REFUSED {
-            if holds(lengths, length) {
-                rows = rows.saturating_add(1);
-                check(&rt, rt.alloc(), length, text, Status::BadInput);
-            }
-        }
-        for (lengths, is_turned, text, plan, status) in ANSWERED {
-            if holds(lengths, length) {
-                rows = rows.saturating_add(1);
-                let turn = if is_turned { TURN } else { "" };
-                let due = format!(in rt.alloc(); "{turn}{text}{plan}").expect(&rt, "memory");
-                check(&rt, rt.alloc(), length, due.as_str(), status);
-            }
-        }
-        assert_eq!(rt; rows, 1, "{length}");
+        let refused = check_refused(&rt, rt.alloc(), length);
+        let answered = check_answered(&rt, rt.alloc(), length);
+        assert!(rt; refused.saturating_add(answered) == 1);
     }
 }

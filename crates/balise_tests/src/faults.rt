@@ -1,6 +1,7 @@
 //! Readers that give few bytes a call and writers that take few, and each call of either failing in turn.
 
 use crate::devices::{Failure, Narrow, Slow};
+use crate::runs::{check_ended, check_text};
 use balise_cli::{Counted, Flags, RunFault, Status, run};
 use std::alloc::Global;
 use std::io::ErrorKind;
@@ -63,7 +64,7 @@ const CASES: [Case; 3] = [
 ];
 
 /// How many bytes a call gives or takes.
-const STEPS: [usize; 4] = [1, 2, 3, 4096];
+const STEPS: &[usize] = &[1, 2, 3, 4096];
 
 /// What has been written where so many lines were read, and the input goes on.
 fn written(rt: &impl Abort, alloc: Global, case: &Case, lines: usize) -> String {
@@ -97,26 +98,67 @@ fn lines_in(bytes: &[u8]) -> usize {
 fn reads_of(rt: &impl Abort, alloc: Global, case: &Case, step: usize) -> u64 {
     let mut reader = Slow::new(case.input, step);
     let mut writer = Counted::new(Vec::new(alloc));
-    let answer = run(alloc, &mut reader, &mut writer, case.flags);
-    assert_eq!(rt; answer, Ok(case.status));
-    assert_eq!(rt;
-        writer.inner().as_slice(),
-        output(rt, alloc, case).as_bytes()
-    );
+    let ended = run(alloc, &mut reader, &mut writer, case.flags);
+    check_ended(rt, ended, case.status);
+    check_text(rt, &writer, output(rt, alloc, case).as_bytes());
     reader.inner().calls
 }
 
 /// Runs with writes of so many bytes, and answers how many there were.
 fn writes_of(rt: &impl Abort, alloc: Global, case: &Case, step: usize) -> u64 {
-    let mut reader = Slow::new(case.input, 4096);
     let mut writer = Narrow::new(alloc, step, 0, Failure::Nothing);
-    let answer = run(alloc, &mut reader, &mut writer, case.flags);
-    assert_eq!(rt; answer, Ok(case.status));
-    assert_eq!(rt;
-        writer.inner().text.as_slice(),
-        output(rt, alloc, case).as_bytes()
-    );
+    check_ended(rt, write(alloc, case, &mut writer), case.status);
+    check_narrow(rt, &writer, output(rt, alloc, case).as_bytes());
     writer.inner().calls
+}
+
+/// Runs with reads of all that is asked for.
+fn write(alloc: Global, case: &Case, writer: &mut Counted<Narrow>) -> Result<Status, RunFault> {
+    let mut reader = Slow::new(case.input, 4096);
+    run(alloc, &mut reader, writer, case.flags)
+}
+
+/// That this was written.
+fn check_narrow(rt: &impl Abort, writer: &Counted<Narrow>, text: &[u8]) {
+    assert!(rt; writer.inner().text.as_slice() == text);
+}
+
+/// That the read of this number fails, and no read comes behind it; answers how many lines were given before.
+fn lines_given(rt: &impl Abort, case: &Case, reader: &Counted<Slow>, call: u64) -> usize {
+    assert!(rt; reader.failed() == 1);
+    assert!(rt; reader.inner().calls == call);
+    let given = case.input.len().saturating_sub(reader.inner().bytes.len());
+    lines_in(case.input.get(..given).unwrap_or(case.input))
+}
+
+/// That the replies to the commands of so many lines have been written, and nothing else.
+fn check_replies(
+    rt: &impl Abort,
+    alloc: Global,
+    case: &Case,
+    writer: &Counted<Vec<u8>>,
+    lines: usize,
+) {
+    assert!(rt; writer.failed() == 0);
+    check_text(rt, writer, written(rt, alloc, case, lines).as_bytes());
+}
+
+/// Runs with reads of so many bytes, of which the one of a number fails so.
+fn fail_read(rt: &impl Abort, alloc: Global, case: &Case, step: usize, call: u64, kind: ErrorKind) {
+    let mut reader = Slow::failing(case.input, step, call, kind);
+    let mut writer = Counted::new(Vec::new(alloc));
+    let answer = run(alloc, &mut reader, &mut writer, case.flags);
+    assert!(rt; answer == Err(RunFault::ReadFault));
+    let lines = lines_given(rt, case, &reader, call);
+    check_replies(rt, alloc, case, &writer, lines);
+}
+
+fn fail_reads(rt: &impl Abort, alloc: Global, case: &Case, step: usize) {
+    for call in 1..=reads_of(rt, alloc, case, step) {
+        fail_read(rt, alloc, case, step, call, ErrorKind::Other);
+        fail_read(rt, alloc, case, step, call, ErrorKind::Interrupted);
+        fail_read(rt, alloc, case, step, call, ErrorKind::WouldBlock);
+    }
 }
 
 /// The replies to the commands whose lines came before the failing call have been written, and nothing else. No read
@@ -124,26 +166,51 @@ fn writes_of(rt: &impl Abort, alloc: Global, case: &Case, step: usize) -> u64 {
 #[test]
 fn each_read_fails(rt: HostRuntime) {
     for case in &CASES {
-        for step in STEPS {
-            for call in 1..=reads_of(&rt, rt.alloc(), case, step) {
-                for kind in [
-                    ErrorKind::Other,
-                    ErrorKind::Interrupted,
-                    ErrorKind::WouldBlock,
-                ] {
-                    let mut reader = Slow::failing(case.input, step, call, kind);
-                    let mut writer = Counted::new(Vec::new(rt.alloc()));
-                    let answer = run(rt.alloc(), &mut reader, &mut writer, case.flags);
-                    assert_eq!(rt; answer, Err(RunFault::ReadFault));
-                    assert_eq!(rt; (reader.failed(), reader.inner().calls), (1, call));
-                    assert_eq!(rt; writer.failed(), 0);
-                    let given = case.input.len().saturating_sub(reader.inner().bytes.len());
-                    let lines = lines_in(case.input.get(..given).unwrap_or(case.input));
-                    let due = written(&rt, rt.alloc(), case, lines);
-                    assert_eq!(rt; writer.inner().as_slice(), due.as_bytes());
-                }
-            }
+        for step in STEPS.iter() {
+            fail_reads(&rt, rt.alloc(), case, *step);
         }
+    }
+}
+
+/// That the write of this number fails, and no write comes behind it; and that what was written is a beginning.
+fn check_beginning(rt: &impl Abort, writer: &Counted<Narrow>, whole: &[u8], call: u64) {
+    assert!(rt; writer.failed() == 1);
+    assert!(rt; writer.inner().calls == call);
+    let text = writer.inner().text.as_slice();
+    assert!(rt; text.len() < whole.len());
+    assert!(rt; whole.starts_with(text));
+}
+
+/// Runs with writes of so many bytes, of which the one of a number fails so.
+fn fail_write(
+    rt: &impl Abort,
+    alloc: Global,
+    case: &Case,
+    whole: &[u8],
+    step: usize,
+    call: u64,
+    how: Failure,
+) {
+    let mut writer = Narrow::new(alloc, step, call, how);
+    let answer = write(alloc, case, &mut writer);
+    assert!(rt; answer == Err(RunFault::WriteFault));
+    check_beginning(rt, &writer, whole, call);
+}
+
+fn fail_writes(rt: &impl Abort, alloc: Global, case: &Case, whole: &[u8], step: usize) {
+    let (other, interrupted) = (ErrorKind::Other, ErrorKind::Interrupted);
+    for call in 1..=writes_of(rt, alloc, case, step) {
+        fail_write(rt, alloc, case, whole, step, call, Failure::Error(other));
+        fail_write(
+            rt,
+            alloc,
+            case,
+            whole,
+            step,
+            call,
+            Failure::Error(interrupted),
+        );
+        fail_write(rt, alloc, case, whole, step, call, Failure::Nothing);
     }
 }
 
@@ -152,23 +219,8 @@ fn each_read_fails(rt: HostRuntime) {
 fn each_write_fails(rt: HostRuntime) {
     for case in &CASES {
         let whole = output(&rt, rt.alloc(), case);
-        for step in STEPS {
-            for call in 1..=writes_of(&rt, rt.alloc(), case, step) {
-                for how in [
-                    Failure::Error(ErrorKind::Other),
-                    Failure::Error(ErrorKind::Interrupted),
-                    Failure::Nothing,
-                ] {
-                    let mut reader = Slow::new(case.input, 4096);
-                    let mut writer = Narrow::new(rt.alloc(), step, call, how);
-                    let answer = run(rt.alloc(), &mut reader, &mut writer, case.flags);
-                    assert_eq!(rt; answer, Err(RunFault::WriteFault));
-                    assert_eq!(rt; (writer.failed(), writer.inner().calls), (1, call));
-                    let text = writer.inner().text.as_slice();
-                    assert!(rt; text.len() < whole.len());
-                    assert!(rt; whole.as_bytes().starts_with(text));
-                }
-            }
+        for step in STEPS.iter() {
+            fail_writes(&rt, rt.alloc(), case, whole.as_bytes(), *step);
         }
     }
 }
@@ -176,10 +228,8 @@ fn each_write_fails(rt: HostRuntime) {
 /// Three bytes in one call, and then a fault: `ok` and a space are held.
 #[test]
 fn a_beginning_is_written(rt: HostRuntime) {
-    let [case, _, _] = &CASES;
-    let mut reader = Slow::new(case.input, 4096);
     let mut writer = Narrow::new(rt.alloc(), 3, 2, Failure::Error(ErrorKind::Other));
-    let answer = run(rt.alloc(), &mut reader, &mut writer, case.flags);
-    assert_eq!(rt; answer, Err(RunFault::WriteFault));
-    assert_eq!(rt; writer.inner().text.as_slice(), b"ok ".as_slice());
+    let answer = write(rt.alloc(), &CASES[0], &mut writer);
+    assert!(rt; answer == Err(RunFault::WriteFault));
+    check_narrow(&rt, &writer, b"ok ");
 }

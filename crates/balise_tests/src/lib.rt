@@ -14,4 +14,6 @@ mod plans;
 #[cfg(test)]
 mod rows;
 #[cfg(test)]
+mod runs;
+#[cfg(test)]
 mod sessions;

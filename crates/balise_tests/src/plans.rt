@@ -1,6 +1,8 @@
 //! Plans: read and printed, or refused on a line.
 
-use balise_cli::{Counted, Flags, Status, run};
+use crate::runs;
+use crate::runs::{PLAIN, Row};
+use balise_cli::Status;
 use std::alloc::Global;
 use std::process::Abort;
 
@@ -10,7 +12,7 @@ const LONG_INPUT: &str =
 const LONG_OUTPUT: &str =
     "plan 1\ngroup\na1007f80a0327ffffffffffffffffffffffffffffffffffffffffffffffffffffffffffffffffffffffffffffffffffffffffffffffffffffffffffffffffffffffffffffffffffffffffffffffffffffffffffffffffffffffffffffffffffffffffffffffffffc\n";
 
-const REFUSED: [(&str, &str); 22] = [
+const REFUSED: &[(&str, &str)] = &[
     ("", "bad 1 1 BadLine\n"),
     ("plan 2\n", "bad 1 1 BadLine\n"),
     ("plan 1", "bad 2 1 BadLine\n"),
@@ -78,28 +80,25 @@ const REFUSED: [(&str, &str); 22] = [
 ];
 
 fn check(rt: &impl Abort, alloc: Global, input: &str, output: &str, status: Status) {
-    let mut reader = Counted::new(input.as_bytes());
-    let mut writer = Counted::new(Vec::new(alloc));
-    let ended = run(alloc, &mut reader, &mut writer, Flags::default());
-    assert_eq!(rt; ended, Ok(status), "{input}");
-    assert_eq!(rt; writer.inner().as_slice(), output.as_bytes(), "{input}");
+    let row = Row {
+        flags: PLAIN,
+        input: input.as_bytes(),
+        output: output.as_bytes(),
+        status,
+    };
+    runs::check(rt, alloc, &row, 4096);
 }
 
 #[test]
 fn prints_what_was_read(rt: HostRuntime) {
-    check(
-        &rt,
-        rt.alloc(),
-        "plan 1\nedits\n",
-        "plan 1\n",
-        Status::Accepted,
-    );
-    check(&rt, rt.alloc(), LONG_INPUT, LONG_OUTPUT, Status::Accepted);
+    let accepted = Status::Accepted;
+    check(&rt, rt.alloc(), "plan 1\nedits\n", "plan 1\n", accepted);
+    check(&rt, rt.alloc(), LONG_INPUT, LONG_OUTPUT, accepted);
 }
 
 #[test]
 fn refuses_plans(rt: HostRuntime) {
-    for (input, output) in REFUSED {
-        check(&rt, rt.alloc(), input, output, Status::BadInput);
+    for (input, output) in REFUSED.iter() {
+        check(&rt, rt.alloc(), *input, *output, Status::BadInput);
     }
 }

@@ -9,8 +9,8 @@ mod plans;
 #[cfg(test)]
 mod strikes;
 
-use crate::devices::Slow;
-use balise_cli::{Counted, Flags, Status, run};
+use crate::runs;
+use balise_cli::{Flags, Status};
 use std::alloc::Global;
 use std::process::Abort;
 
@@ -25,17 +25,19 @@ pub(crate) struct Row {
 /// Runs over each input, by reads of 1, 2, 3 and 4,096 bytes.
 pub(crate) fn check_rows(rt: &impl Abort, alloc: Global, rows: &[Row]) {
     for row in rows {
-        for step in [1, 2, 3, 4096] {
-            let mut reader = Slow::new(row.input.as_bytes(), step);
-            let mut writer = Counted::new(Vec::new(alloc));
-            let ended = run(alloc, &mut reader, &mut writer, row.flags);
-            assert_eq!(rt; ended, Ok(row.status), "{}", row.input);
-            assert_eq!(rt;
-                writer.inner().as_slice(),
-                row.output.as_bytes(),
-                "{}",
-                row.input
-            );
-        }
+        check(rt, alloc, row);
     }
+}
+
+fn check(rt: &impl Abort, alloc: Global, row: &Row) {
+    let row = runs::Row {
+        flags: row.flags,
+        input: row.input.as_bytes(),
+        output: row.output.as_bytes(),
+        status: row.status,
+    };
+    runs::check(rt, alloc, &row, 1);
+    runs::check(rt, alloc, &row, 2);
+    runs::check(rt, alloc, &row, 3);
+    runs::check(rt, alloc, &row, 4096);
 }

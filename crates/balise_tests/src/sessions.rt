@@ -1,6 +1,7 @@
 //! Commands over a plan of one telegram: replies, and the plan that is printed.
 
-use balise_cli::{Counted, Flags, Status, run};
+use crate::runs::{PLAIN, check_ended, check_text};
+use balise_cli::{Counted, Status, run};
 use std::alloc::Global;
 use std::process::Abort;
 
@@ -100,17 +101,37 @@ const ROWS: [Row; 10] = [
 ];
 
 fn check(rt: &impl Abort, alloc: Global, row: &Row) {
-    let input = format!(in alloc; "plan 1\ngroup\n{}\nedits\n{}", row.before, row.commands).expect(
-        rt, "memory",
-    );
-    let output = format!(in alloc; "{}plan 1\ngroup\n{}\n", row.replies, row.after).expect(
-        rt, "memory",
-    );
-    let mut reader = Counted::new(input.as_bytes());
+    let mut input = String::new(alloc);
+    push_input(rt, &mut input, row);
+    let mut output = String::new(alloc);
+    push_output(rt, &mut output, row);
+    check_run(rt, alloc, input.as_bytes(), output.as_bytes(), row.status);
+}
+
+fn push_input(rt: &impl Abort, text: &mut String, row: &Row) {
+    push(rt, text, "plan 1\ngroup\n");
+    push(rt, text, row.before);
+    push(rt, text, "\nedits\n");
+    push(rt, text, row.commands);
+}
+
+fn push_output(rt: &impl Abort, text: &mut String, row: &Row) {
+    push(rt, text, row.replies);
+    push(rt, text, "plan 1\ngroup\n");
+    push(rt, text, row.after);
+    push(rt, text, "\n");
+}
+
+fn push(rt: &impl Abort, text: &mut String, more: &str) {
+    text.push_str(more).expect(rt, "memory");
+}
+
+/// That a run over an input that is read at once prints this and ends so.
+fn check_run(rt: &impl Abort, alloc: Global, input: &[u8], output: &[u8], status: Status) {
+    let mut reader = Counted::new(input);
     let mut writer = Counted::new(Vec::new(alloc));
-    let ended = run(alloc, &mut reader, &mut writer, Flags::default());
-    assert_eq!(rt; ended, Ok(row.status));
-    assert_eq!(rt; writer.inner().as_slice(), output.as_bytes());
+    check_ended(rt, run(alloc, &mut reader, &mut writer, PLAIN), status);
+    check_text(rt, &writer, output);
 }
 
 #[test]

@@ -10,179 +10,209 @@ use std::process::Abort;
 const LONG: &str =
     "a1007f80a0327ffffffffffffffffffffffffffffffffffffffffffffffffffffffffffffffffffffffffffffffffffffffffffffffffffffffffffffffffffffffffffffffffffffffffffffffffffffffffffffffffffffffffffffffffffffffffffffffffffc";
 
-// The line is read, and printed as the other.
-fn check_printed<R: Abort>(rt: &R, alloc: Global, part: Part, line: &str, printed: &str) {
-    let mut writer = Counted::new(Vec::new(alloc));
-    match read_journal_line(alloc, part, line.as_bytes()).expect(rt, "memory") {
-        JournalLine::Entry(entry) => put_entry(&mut writer, &entry).expect(rt, "memory"),
-        JournalLine::Undone(serial) => put_undone(&mut writer, serial).expect(rt, "memory"),
+fn put(rt: &impl Abort, writer: &mut Counted<Vec<u8>>, line: &JournalLine) {
+    match line {
+        JournalLine::Entry(entry) => put_entry(writer, entry).expect(rt, "memory"),
+        JournalLine::Undone(serial) => put_undone(writer, *serial).expect(rt, "memory"),
         JournalLine::Edits => {}
     }
-    assert!(rt; writer.inner().as_slice() == printed.as_bytes(), "{line}");
 }
+
+fn check_text(rt: &impl Abort, writer: &Counted<Vec<u8>>, text: &[u8]) {
+    assert!(rt; writer.inner().as_slice() == text);
+}
+
+// The line is read, and printed as the other.
+fn check_printed(rt: &impl Abort, alloc: Global, part: Part, line: &str, printed: &str) {
+    let mut writer = Counted::new(Vec::new(alloc));
+    let read = read_journal_line(alloc, part, line.as_bytes()).expect(rt, "memory");
+    put(rt, &mut writer, &read);
+    check_text(rt, &writer, printed.as_bytes());
+}
+
+const ENTRIES: &[(&str, &str)] = &[
+    (
+        "1 set b0/0/b0 NID_TSR 0 9 5",
+        "1 set b0/0/b0 NID_TSR 0 9 5\n",
+    ),
+    (
+        "2 seth n4294967295/7 M_DUP 0 255",
+        "2 seth n4294967295/7 M_DUP 0 255\n",
+    ),
+    ("3 insert b0/0 ^ 42403E0C", "3 insert b0/0 ^ 42403e0c\n"),
+    ("4 insert b0/0 n3 42403e0c", "4 insert b0/0 n3 42403e0c\n"),
+    ("5 delete b0/0/n3 $", "5 delete b0/0/n3 $\n"),
+    ("6 move b0/0/b1 ^ $", "6 move b0/0/b1 ^ $\n"),
+    ("7 move b0/0/b1 n4 b7", "7 move b0/0/b1 n4 b7\n"),
+    ("8 drop b0 b1", "8 drop b0 b1\n"),
+    ("9 renumber b0 101 100", "9 renumber b0 101 100\n"),
+    ("10 turn n10", "10 turn n10\n"),
+    (
+        "11 add ^ A1007f80a0327fffffffffffffffffffffffffffffffffffffffc0",
+        "11 add ^ a1007f80a0327fffffffffffffffffffffffffffffffffffffffc0\n",
+    ),
+];
 
 #[test]
 fn each_kind_of_entry(rt: HostRuntime) {
-    for (line, printed) in [
-        (
-            "1 set b0/0/b0 NID_TSR 0 9 5",
-            "1 set b0/0/b0 NID_TSR 0 9 5\n",
-        ),
-        (
-            "2 seth n4294967295/7 M_DUP 0 255",
-            "2 seth n4294967295/7 M_DUP 0 255\n",
-        ),
-        ("3 insert b0/0 ^ 42403E0C", "3 insert b0/0 ^ 42403e0c\n"),
-        ("4 insert b0/0 n3 42403e0c", "4 insert b0/0 n3 42403e0c\n"),
-        ("5 delete b0/0/n3 $", "5 delete b0/0/n3 $\n"),
-        ("6 move b0/0/b1 ^ $", "6 move b0/0/b1 ^ $\n"),
-        ("7 move b0/0/b1 n4 b7", "7 move b0/0/b1 n4 b7\n"),
-        ("8 drop b0 b1", "8 drop b0 b1\n"),
-        ("9 renumber b0 101 100", "9 renumber b0 101 100\n"),
-        ("10 turn n10", "10 turn n10\n"),
-        (
-            "11 add ^ A1007f80a0327fffffffffffffffffffffffffffffffffffffffc0",
-            "11 add ^ a1007f80a0327fffffffffffffffffffffffffffffffffffffffc0\n",
-        ),
-    ] {
-        check_printed(&rt, rt.alloc(), Part::Entries(Version::One), line, printed);
+    for (line, printed) in ENTRIES.iter() {
+        check_printed(
+            &rt,
+            rt.alloc(),
+            Part::Entries(Version::One),
+            *line,
+            *printed,
+        );
     }
+}
+
+fn push(rt: &impl Abort, text: &mut String, more: &str) {
+    text.push_str(more).expect(rt, "memory");
+}
+
+// A line that adds a group of two telegrams.
+fn two_added(rt: &impl Abort, alloc: Global, end: &str) -> String {
+    let mut line = String::new(alloc);
+    push(rt, &mut line, "1 add b3 ");
+    push(rt, &mut line, LONG);
+    push(rt, &mut line, " ");
+    push(rt, &mut line, LONG);
+    push(rt, &mut line, end);
+    line
+}
+
+fn check_two(rt: &impl Abort, alloc: Global) {
+    let line = two_added(rt, alloc, "");
+    let printed = two_added(rt, alloc, "\n");
+    let part = Part::Entries(Version::Two);
+    check_printed(rt, alloc, part, line.as_str(), printed.as_str());
 }
 
 #[test]
 fn a_group_of_two(rt: HostRuntime) {
-    let alloc = rt.alloc();
-    let line = format!(in alloc; "1 add b3 {LONG} {LONG}").expect(&rt, "memory");
-    let printed = format!(in alloc; "1 add b3 {LONG} {LONG}\n").expect(&rt, "memory");
-    check_printed(
-        &rt,
-        alloc,
-        Part::Entries(Version::Two),
-        line.as_str(),
-        printed.as_str(),
-    )
+    check_two(&rt, rt.alloc());
 }
 
 #[test]
 fn undone_edits(rt: HostRuntime) {
     let alloc = rt.alloc();
-    check_printed(
-        &rt,
-        alloc,
-        Part::Entries(Version::Two),
-        "undone 3",
-        "undone 3\n",
-    );
-    check_printed(
-        &rt,
-        alloc,
-        Part::Undone,
-        "undone 4294967295",
-        "undone 4294967295\n",
-    );
+    let (entries, last) = (Part::Entries(Version::Two), "undone 4294967295");
+    check_printed(&rt, alloc, entries, "undone 3", "undone 3\n");
+    check_printed(&rt, alloc, Part::Undone, last, "undone 4294967295\n");
     check_printed(&rt, alloc, Part::Undone, "edits", "")
 }
 
-fn check_refused<R: Abort>(rt: &R, alloc: Global, part: Part, line: &str, refusal: Refusal) {
-    let answer = read_journal_line(alloc, part, line.as_bytes());
-    assert!(rt;
-        matches!(&answer, Err(found) if *found == refusal),
-        "{line}"
-    );
+fn is_refused(answer: &Result<JournalLine, Refusal>, refusal: Refusal) -> bool {
+    match answer {
+        Ok(_) => false,
+        Err(found) => *found == refusal,
+    }
 }
+
+fn check_refused(rt: &impl Abort, alloc: Global, part: Part, line: &str, refusal: Refusal) {
+    assert!(rt; is_refused(&read_journal_line(alloc, part, line.as_bytes()), refusal));
+}
+
+const BAD: &[&str] = &[
+    "",
+    "1",
+    "x turn b0",
+    "01 turn b0",
+    "1 turn c0",
+    "1 turn b",
+    "1 turn b0 ",
+    "1  turn b0",
+    "1 turn b0 b1",
+    "1 set b0/0 NID_TSR 0 9 5",
+    "1 set b0/0/b0 NID_TSX 0 9 5",
+    "1 set b0/0/b0 NID_TSR 0 9",
+    "1 delete b0/0/b0 ^",
+    "1 move b0/0/b0 $ $",
+    "1 insert b0/0 ^",
+    "1 insert b0/0 ^ ",
+    "1 insert b0/0 ^ zz x",
+    "1 add ^",
+    "1 add ^ zz ",
+    "undone 3",
+    "edits ",
+];
 
 #[test]
 fn lines_outside_the_grammar(rt: HostRuntime) {
-    for line in [
-        "",
-        "1",
-        "x turn b0",
-        "01 turn b0",
-        "1 turn c0",
-        "1 turn b",
-        "1 turn b0 ",
-        "1  turn b0",
-        "1 turn b0 b1",
-        "1 set b0/0 NID_TSR 0 9 5",
-        "1 set b0/0/b0 NID_TSX 0 9 5",
-        "1 set b0/0/b0 NID_TSR 0 9",
-        "1 delete b0/0/b0 ^",
-        "1 move b0/0/b0 $ $",
-        "1 insert b0/0 ^",
-        "1 insert b0/0 ^ ",
-        "1 insert b0/0 ^ zz x",
-        "1 add ^",
-        "1 add ^ zz ",
-        "undone 3",
-        "edits ",
-    ] {
-        check_refused(
-            &rt,
-            rt.alloc(),
-            Part::Entries(Version::One),
-            line,
-            Refusal::BadLine,
-        );
+    for line in BAD.iter() {
+        let part = Part::Entries(Version::One);
+        check_refused(&rt, rt.alloc(), part, *line, Refusal::BadLine);
     }
 }
+
+const DIGITS: &[(&str, Refusal)] = &[
+    ("1 insert b0/0 ^ zz", Refusal::BadHex),
+    ("1 insert b0/0 ^ 4", Refusal::BadHex),
+    ("1 add ^ zz", Refusal::BadHex),
+    ("1 add ^ zz 00", Refusal::BadHex),
+    ("1 add ^ 00 zz", Refusal::JournalMismatch),
+    (
+        "1 add ^ a1007f80a0327fffffffffffffffffffffffffffffffffffffffc1",
+        Refusal::JournalMismatch,
+    ),
+];
 
 #[test]
 fn digits_are_judged_behind_the_grammar(rt: HostRuntime) {
-    for (line, refusal) in [
-        ("1 insert b0/0 ^ zz", Refusal::BadHex),
-        ("1 insert b0/0 ^ 4", Refusal::BadHex),
-        ("1 add ^ zz", Refusal::BadHex),
-        ("1 add ^ zz 00", Refusal::BadHex),
-        ("1 add ^ 00 zz", Refusal::JournalMismatch),
-        (
-            "1 add ^ a1007f80a0327fffffffffffffffffffffffffffffffffffffffc1",
-            Refusal::JournalMismatch,
-        ),
-    ] {
-        check_refused(&rt, rt.alloc(), Part::Entries(Version::Two), line, refusal);
+    for (line, refusal) in DIGITS.iter() {
+        let part = Part::Entries(Version::Two);
+        check_refused(&rt, rt.alloc(), part, *line, *refusal);
     }
 }
 
+const BEHIND: &[&str] = &[
+    "1 turn b0",
+    "1 insert b0/0 ^ zz",
+    "undone",
+    "undone 1 2",
+    "",
+];
+
 #[test]
 fn behind_the_first_undone_edit(rt: HostRuntime) {
-    for line in [
-        "1 turn b0",
-        "1 insert b0/0 ^ zz",
-        "undone",
-        "undone 1 2",
-        "",
-    ] {
-        check_refused(&rt, rt.alloc(), Part::Undone, line, Refusal::BadLine);
+    for line in BEHIND.iter() {
+        check_refused(&rt, rt.alloc(), Part::Undone, *line, Refusal::BadLine);
     }
+}
+
+const HEADS: &[(&str, Version, u32)] = &[
+    ("journal 1 1", Version::One, 1),
+    ("journal 2 0", Version::Two, 0),
+    ("journal 2 4000000001", Version::Two, 4_000_000_001),
+];
+
+const BAD_HEADS: &[&str] = &[
+    "journal 3 0",
+    "journal 1 4294967296",
+    "journal 1 02",
+    "journal 2 2 ",
+    "journal 2",
+    "journal ",
+    "journals 2 1",
+];
+
+fn check_head(rt: &impl Abort, line: &str, answer: Result<Head, Refusal>) {
+    assert!(rt; read_head(line.as_bytes()) == answer);
+}
+
+fn put_last_head(rt: &impl Abort, writer: &mut Counted<Vec<u8>>) {
+    put_head(writer, 4_000_000_000).expect(rt, "memory");
+    check_text(rt, writer, b"journal 2 4000000000\n");
 }
 
 #[test]
 fn heads(rt: HostRuntime) {
-    for (line, version, next) in [
-        ("journal 1 1", Version::One, 1),
-        ("journal 2 0", Version::Two, 0),
-        ("journal 2 4000000001", Version::Two, 4_000_000_001),
-    ] {
-        assert!(rt;
-            read_head(line.as_bytes()) == Ok(Head { version, next }),
-            "{line}"
-        );
+    for (line, version, next) in HEADS.iter() {
+        let (version, next) = (*version, *next);
+        check_head(&rt, *line, Ok(Head { version, next }));
     }
-    for line in [
-        "journal 3 0",
-        "journal 1 4294967296",
-        "journal 1 02",
-        "journal 2 2 ",
-        "journal 2",
-        "journal ",
-        "journals 2 1",
-    ] {
-        assert!(rt;
-            read_head(line.as_bytes()) == Err(Refusal::BadLine),
-            "{line}"
-        );
+    for line in BAD_HEADS.iter() {
+        check_head(&rt, *line, Err(Refusal::BadLine));
     }
-    let mut writer = Counted::new(Vec::new(rt.alloc()));
-    put_head(&mut writer, 4_000_000_000).expect(&rt, "memory");
-    assert!(rt; writer.inner().as_slice() == b"journal 2 4000000000\n".as_slice());
+    put_last_head(&rt, &mut Counted::new(Vec::new(rt.alloc())));
 }

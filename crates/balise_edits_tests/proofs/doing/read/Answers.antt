@@ -1,5 +1,5 @@
 use Rattle.balise_edit_laws.proofs.PlansRead.{plan_read}
-use Rattle.balise_edits_tests.proofs.doing.plan_of.Goals as goal
+use Rattle.balise_edits_tests.proofs.doing.read.Goals as goal
 
 pub returns : goal.returns
 returns g c n h =

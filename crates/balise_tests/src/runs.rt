@@ -1,0 +1,68 @@
+//! Runs over an input, with what they print and end with.
+
+use crate::devices::{Repeated, Slow};
+use balise_cli::{Counted, Flags, RunFault, Status, run};
+use std::alloc::Global;
+use std::process::Abort;
+
+pub(crate) const PLAIN: Flags = Flags {
+    quiet: false,
+    stop: false,
+    journal: false,
+    json: false,
+};
+
+pub(crate) const QUIET: Flags = Flags {
+    quiet: true,
+    stop: false,
+    journal: false,
+    json: false,
+};
+
+/// An input with its flags, and what a run over it prints and ends with.
+#[derive(Clone, Copy)]
+pub(crate) struct Row<'a> {
+    pub(crate) flags: Flags,
+    pub(crate) input: &'a [u8],
+    pub(crate) output: &'a [u8],
+    pub(crate) status: Status,
+}
+
+/// Runs over an input, by reads of so many bytes.
+pub(crate) fn check(rt: &impl Abort, alloc: Global, row: &Row, step: usize) {
+    let mut writer = Counted::new(Vec::new(alloc));
+    let ended = run_slowly(alloc, row, step, &mut writer);
+    check_ended(rt, ended, row.status);
+    check_text(rt, &writer, row.output);
+}
+
+fn run_slowly(
+    alloc: Global,
+    row: &Row,
+    step: usize,
+    writer: &mut Counted<Vec<u8>>,
+) -> Result<Status, RunFault> {
+    let mut reader = Slow::new(row.input, step);
+    run(alloc, &mut reader, writer, row.flags)
+}
+
+pub(crate) fn check_ended(rt: &impl Abort, ended: Result<Status, RunFault>, status: Status) {
+    assert!(rt; ended == Ok(status));
+}
+
+/// That this was written.
+pub(crate) fn check_text(rt: &impl Abort, writer: &Counted<Vec<u8>>, text: &[u8]) {
+    assert!(rt; writer.inner().as_slice() == text);
+}
+
+/// Runs over a text and a part of it so many times.
+pub(crate) fn run_often(
+    alloc: Global,
+    text: (&[u8], &[u8], u64),
+    writer: &mut Counted<Vec<u8>>,
+    flags: Flags,
+) -> Result<Status, RunFault> {
+    let (front, part, times) = text;
+    let mut reader = Repeated::new(front, part, times);
+    run(alloc, &mut reader, writer, flags)
+}

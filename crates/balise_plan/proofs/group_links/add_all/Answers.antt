@@ -1,4 +1,4 @@
-use Rattle.std.proofs.Common.{arith}
+use Rattle.std.proofs.Common.{arith, rules}
 use Rattle.balise_plan.proofs.GroupLists.{adds_one, put_back}
 use Rattle.balise_plan.proofs.group_links.add_all.Goals as goal
 
@@ -13,3 +13,6 @@ loop-i-preserved c = record {
   added = adds_one c.args.links.now.items c.loop-i.i c.index.result.now c.args.names.now c.loop-i.names c.add.new.names (omega (arith, c.loop-i-test.true, c.len-i-end.ensures)) c.index.ensures c.loop-i.invariant.added c.in_default.ensures.added;
   full = λ f. c.add.ensures.full (c.loop-i.invariant.full f);
 }
+
+pub loop-i-init : goal.loop-i-init
+loop-i-init c = search rules

@@ -1,4 +1,4 @@
-use Rattle.std.proofs.Common.{◌∙◌, ◌+◌, ◌++◌, [], ◌∷◌, ℕ, Bool, List, map, drop, ap, sym, append_assoc}
+use Rattle.std.proofs.Common.{◌∙◌, ◌+◌, ◌++◌, [], ◌∷◌, ℕ, Bool, List, map, drop, ap, sym, append_assoc, rules}
 use Rattle.balise_rules.specs.Telegram.{Telegram, shown}
 use Rattle.balise_plan.proofs.GroupLists.{drop_found}
 use Rattle.balise_plan.proofs.plan.showing.shown_group.Goals as goal
@@ -15,3 +15,6 @@ loop-i-preserved c =
     ∙ append_assoc c.loop-i.telegrams.items (shown c.in-Some.balise.now ∷ []) rest
     ∙ ap (λ (l : List (List Bool)). c.loop-i.telegrams.items ++ l) (sym here)
     ∙ c.loop-i.invariant
+
+pub loop-i-init : goal.loop-i-init
+loop-i-init c = search rules

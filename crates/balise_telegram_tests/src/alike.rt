@@ -226,7 +226,13 @@ fn set_values(
 /// That both set each variable of the packet at a place alike.
 fn set_packet(rt: &impl Abort, balise: &mut Balise, telegram: &mut Balise, place: u32) {
     let Some((tag, _)) = balise.packet_at(place as usize) else {
-        return set_field(rt, balise, telegram, (PacketTag::Base(place), Var::NidC, 0), 1024);
+        return set_field(
+            rt,
+            balise,
+            telegram,
+            (PacketTag::Base(place), Var::NidC, 0),
+            1024,
+        );
     };
     if let Some(fields) = fields_at(rt, balise, place as usize) {
         set_fields(rt, balise, telegram, tag, fields.as_slice());
@@ -247,13 +253,7 @@ fn set_fields(
 }
 
 /// That both change an element alike.
-fn turn_link(
-    rt: &impl Abort,
-    balise: &mut Balise,
-    telegram: &mut Balise,
-    tag: PacketTag,
-    k: u32,
-) {
+fn turn_link(rt: &impl Abort, balise: &mut Balise, telegram: &mut Balise, tag: PacketTag, k: u32) {
     balise.flip_link(tag, k);
     telegram.flip_link(tag, k);
     check_shown(rt, balise, telegram);
@@ -306,7 +306,13 @@ fn check_changes(rt: &impl Abort, balise: &mut Balise, telegram: &mut Balise) {
         set_packet(rt, balise, telegram, place);
         turn_packet(rt, balise, telegram, PacketTag::Base(place));
     }
-    set_field(rt, balise, telegram, (PacketTag::Fresh(0), Var::NidC, 0), 1024);
+    set_field(
+        rt,
+        balise,
+        telegram,
+        (PacketTag::Fresh(0), Var::NidC, 0),
+        1024,
+    );
     turn_packet(rt, balise, telegram, PacketTag::Fresh(0));
     check_alike(rt, balise, telegram);
 }

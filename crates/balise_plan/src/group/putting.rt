@@ -46,7 +46,12 @@ impl Group {
     }
 
     /// Moves a packet within one telegram.
-    pub(crate) fn shift_packet(&mut self, t: u32, p: Tag, spot: Spot<Tag>) -> Result<Option<Tag>, Refusal>
+    pub(crate) fn shift_packet(
+        &mut self,
+        t: u32,
+        p: Tag,
+        spot: Spot<Tag>,
+    ) -> Result<Option<Tag>, Refusal>
         ensures { Within eqb t lacking (Passed (OrWants (ShiftsIn spot p))) self.old result self.new }
     {
         let Some(i) = find(&self.telegrams, t) else {

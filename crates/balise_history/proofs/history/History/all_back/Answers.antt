@@ -1,4 +1,4 @@
-use Rattle.std.proofs.Common.{◌≡◌, ◌<◌, ◌-◌, ◌∙◌, ℕ, suc, List, ◌∷◌, length, sym, ap, subst, arith}
+use Rattle.std.proofs.Common.{◌≡◌, ◌<◌, ◌-◌, ◌∙◌, ℕ, suc, List, ◌∷◌, length, sym, ap, subst, arith, rules}
 use Rattle.balise_rules.specs.Paths.{Entry}
 use Rattle.balise_history.specs.declared.history.Undone.{Undone}
 use Rattle.balise_history.specs.Lists.{History, Gone, gone_of}
@@ -59,3 +59,6 @@ loop-left-preserved c =
       rest = c.loop-left.invariant.rest ∙ ap (λ (rs : List Gone). all_returned rs c.loop-left.entries.items) r ∙ ap (all_returned (remaining us n)) (sym p);
       returns = subst (λ (xs : List Entry). AllReturn (remaining us n) xs) (sym p) a.2;
     }
+
+pub returns-clause-ok : goal.returns-clause-ok
+returns-clause-ok c = search rules

@@ -1,7 +1,7 @@
 //! What the view of a group prints: worked rows, computed by a program that shares nothing with this one.
 
 use balise_bits::Bits;
-use balise_plan::{Group, PacketTag, Spot};
+use balise_plan::{Group, GroupTag, PacketTag, Plan, Spot};
 use balise_view::group_line;
 use std::alloc::Global;
 use std::process::Abort;
@@ -95,17 +95,35 @@ fn lines_of_groups(rt: HostRuntime) {
 const MOVED: &str =
     "{\"country\":5,\"number\":100,\"telegrams\":[{\"bits\":210,\"m_dup\":0,\"m_mcount\":255,\"m_version\":33,\"packets\":[{\"fields\":[[\"NID_PACKET\",66],[\"Q_DIR\",1],[\"L_PACKET\",31],[\"NID_TSR\",7]],\"known\":true},{\"fields\":[[\"NID_PACKET\",66],[\"Q_DIR\",1],[\"L_PACKET\",31],[\"NID_TSR\",5]],\"known\":true}],\"q_link\":1,\"used\":120}]}";
 
+const GROUP: GroupTag = GroupTag::Base(0);
+
+/// A plan of this one group.
+fn plan_of(rt: &impl Abort, alloc: Global, text: &str) -> Plan {
+    let mut telegrams = Vec::new(alloc);
+    push_words(rt, alloc, &mut telegrams, text);
+    let mut plan = Plan::empty(alloc);
+    assert!(rt; plan.push(telegrams).is_ok());
+    plan
+}
+
 /// Moves the second packet to the front.
-fn move_second(rt: &impl Abort, alloc: Global, group: &mut Group) {
+fn move_second(rt: &impl Abort, plan: &mut Plan) {
+    assert!(rt; plan.changes() < 1_000_000);
     let spot = Spot::After(None);
-    assert!(rt; group.shift_packet(0, PacketTag::Base(1), spot).is_ok());
-    check_line(rt, alloc, group, MOVED);
+    assert!(rt;
+        plan.shift_packet(GROUP, 0, PacketTag::Base(1), spot)
+            .is_ok()
+    );
+}
+
+fn check_moved(rt: &impl Abort, alloc: Global, plan: &mut Plan) {
+    move_second(rt, plan);
+    check_line(rt, alloc, plan.group(GROUP).expect(rt, "a group"), MOVED);
 }
 
 // Two packets 66, the second moved to the front: the telegram is held as its packets then.
 #[test]
 fn packets_moved(rt: HostRuntime) {
     let text = "a1007f80a03250900f82a1201f07ffffffffffffffffffffffffc0";
-    let mut group = read(&rt, rt.alloc(), text);
-    move_second(&rt, rt.alloc(), &mut group);
+    check_moved(&rt, rt.alloc(), &mut plan_of(&rt, rt.alloc(), text));
 }

@@ -187,21 +187,6 @@ fn bits_are_joined(rt: HostRuntime) {
     check_joined(&rt, 48, &bits, hex);
 }
 
-// The same with 61 of them behind.
-fn check_part_joined(rt: &impl Abort, len: usize, other: &Bits, from: usize, hex: &str) {
-    let mut joined = slice(rt, other, 0, len);
-    assert!(rt; other.len() == 210 && from <= 149);
-    joined.append_part(other, from, 61).expect(rt, "memory");
-    check_hex(rt, &joined, hex);
-}
-
-#[test]
-fn parts_are_joined(rt: HostRuntime) {
-    let bits = read(&rt, rt.alloc(), SHORT, 210);
-    check_part_joined(&rt, 50, &bits, 13, "a1007f80a03243fc050193fffffe");
-    check_part_joined(&rt, 48, &bits, 8, "a1007f80a032007f80a0327ffff8");
-}
-
 fn push_numbers(rt: &impl Abort, bits: &mut Bits) {
     bits.push(2, 1).expect(rt, "memory");
     bits.push(8, 66).expect(rt, "memory");

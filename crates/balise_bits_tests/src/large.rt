@@ -88,22 +88,12 @@ fn check_joined(rt: &impl Abort, bits: &Bits, behind: &Bits, twice: usize) {
     check_repeated(rt, &joined, PART, twice);
 }
 
-/// That a part that is all of some bits is joined.
-fn check_part_joined(rt: &impl Abort, bits: &Bits, behind: &Bits, count: usize) {
-    let mut joined = slice(rt, bits, 0, 3);
-    joined
-        .append_part(behind, 0, behind.len())
-        .expect(rt, "memory");
-    check_repeated(rt, &joined, PART, count);
-}
-
 #[test]
 fn many_bits_are_joined(rt: HostRuntime) {
     for count in COUNTS {
         let bits = parts(&rt, rt.alloc(), count);
         let behind = slice(&rt, &bits, 3, 64 * count - 3);
         check_joined(&rt, &bits, &behind, 2 * count);
-        check_part_joined(&rt, &bits, &behind, count);
     }
 }
 

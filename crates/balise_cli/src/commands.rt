@@ -3,7 +3,7 @@
 ghost use Rattle.std.specs.Prelude.{◌≡◌, IfOk, IsOkUnless, map};
 ghost use Rattle.balise_cli.specs.Output.{group_review};
 ghost use Rattle.balise_cli.specs.Private.{answer_text, turned_by, DidAnswer, DidDo, TurnsWith};
-ghost use Rattle.balise_history.specs.Commands.{command_of};
+ghost use Rattle.balise_commands.specs.Commands.{command_of};
 ghost use Rattle.balise_lines.specs.Writing.{Writes};
 ghost use Rattle.balise_rules.specs.Plan.{group_named};
 ghost use Rattle.balise_rules.specs.Session as rules;

@@ -4,6 +4,5 @@ pub mod Places
 pub mod Needs
 pub mod Homes
 pub mod Anchors
-pub mod Lines
 pub mod Standing
 pub mod Reviews

@@ -18,7 +18,7 @@ use std::marker::Model;
 
 /// An edit that was done, its serial, and what it noted of the plan before it. Edit and note have a place of their own,
 /// so that a list of entries is short: it is gone through, and entries are moved in it.
-#[derive(Debug, Drop)]
+#[derive(Drop)]
 pub struct Entry {
     serial: u32,
     home: Home,
@@ -26,7 +26,7 @@ pub struct Entry {
 }
 
 /// An edit, and what it noted of the plan before it.
-#[derive(Debug, Drop)]
+#[derive(Drop)]
 pub(crate) struct Done {
     pub(crate) edit: Edit,
     pub(crate) note: Note,

@@ -10,7 +10,7 @@ use crate::note::Note;
 use balise_rules::Tag;
 
 /// What an edit is of: a telegram, where it noted no identity or some, or a group.
-#[derive(Clone, Copy, Debug)]
+#[derive(Clone, Copy)]
 pub(crate) enum Extent {
     Unnamed,
     Named,
@@ -19,7 +19,7 @@ pub(crate) enum Extent {
 
 /// Where an edit lies: its group by the last 16 bits of the number in its tag, and its telegram by the last 8 bits of
 /// its own. It takes four bytes; two groups may share one.
-#[derive(Clone, Copy, Debug)]
+#[derive(Clone, Copy)]
 pub(crate) struct Home {
     group: u16,
     telegram: u8,

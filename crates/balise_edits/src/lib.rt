@@ -8,17 +8,16 @@ mod entry;
 mod home;
 mod independence;
 mod kinds;
-pub mod laws;
 mod line;
-mod listing;
 mod meeting;
 mod naming;
 mod note;
 mod path;
 mod reviewing;
 
+pub use balise_commands::{Line, LineEdit, Noted};
 pub use balise_plan::{
-    Address, Balise, Bits, Group, GroupTag, Id, LinkPlace, Packet, PacketTag, Place, Plan, Refusal,
+    Balise, Bits, Group, GroupTag, Id, LinkPlace, Packet, PacketTag, Plan, Refusal,
     Refusal as EditFault, Spot, Tag, Var,
 };
 pub use balise_rules::{ReviewLine, Reviewed};
@@ -26,7 +25,4 @@ pub use doing::{again, apply, take_back};
 pub use edit::Edit;
 pub use entry::Entry;
 pub use independence::{apart, independent, re_anchor, stands_behind};
-pub use line::{Line, LineEdit, Noted};
-pub use listing::{changed_places, needed_places};
-pub use path::{InGroup, InPacket, InTelegram, Path};
 pub use reviewing::review;

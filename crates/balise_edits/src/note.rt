@@ -9,7 +9,7 @@ use balise_plan::Group;
 use balise_rules::{Id, Refusal, Tag};
 
 /// The identities that a setting has to do with: the old and the new one of a link, or of an orientation the link's.
-#[derive(Clone, Copy, Debug)]
+#[derive(Clone, Copy)]
 pub(crate) enum Names {
     Neither([Id; 0]),
     One([Id; 1]),
@@ -30,14 +30,14 @@ impl Names {
 }
 
 /// A packet that was taken out of the plan, while it isn't there, and the identities that it names.
-#[derive(Debug, Drop)]
+#[derive(Drop)]
 pub(crate) struct TakenPacket {
     pub(crate) names: Vec<Id>,
     pub(crate) packet: Option<Packet>,
 }
 
 /// A group that was taken out of the plan, while it isn't there, and the identities that it names.
-#[derive(Debug, Drop)]
+#[derive(Drop)]
 pub(crate) struct TakenGroup {
     pub(crate) names: Vec<Id>,
     pub(crate) group: Option<Group>,
@@ -45,7 +45,7 @@ pub(crate) struct TakenGroup {
 
 /// What an edit notes of the plan before it is done, by the kind of the edit. `before` is the old next neighbour, or
 /// none for the end. What was taken out of the plan is here while the edit stands, and in the plan once it is taken back.
-#[derive(Debug, Drop)]
+#[derive(Drop)]
 pub(crate) enum Note {
     /// A field set.
     Field {

@@ -7,8 +7,8 @@ ghost use Rattle.balise_edits.specs.Places.{in_group, in_packet, in_telegram, pa
 use balise_rules::{Id, Tag, Var};
 
 /// A place of a plan: what an edit changes, or needs as it is. It leads from a group down to what it stands for.
-#[derive(Clone, Copy, Debug, PartialEq, Eq)]
-pub enum Path {
+#[derive(Clone, Copy, PartialEq, Eq)]
+pub(crate) enum Path {
     /// A group, or a part of it.
     Group(Tag, InGroup),
     /// What comes directly after the start of the plan.
@@ -20,8 +20,8 @@ pub enum Path {
 }
 
 /// A group, or a part of it.
-#[derive(Clone, Copy, Debug, PartialEq, Eq)]
-pub enum InGroup {
+#[derive(Clone, Copy, PartialEq, Eq)]
+pub(crate) enum InGroup {
     /// The whole group, with its two sides.
     Whole,
     /// What comes directly after it.
@@ -37,8 +37,8 @@ pub enum InGroup {
 }
 
 /// A part of a telegram.
-#[derive(Clone, Copy, Debug, PartialEq, Eq)]
-pub enum InTelegram {
+#[derive(Clone, Copy, PartialEq, Eq)]
+pub(crate) enum InTelegram {
     /// A field of the header.
     Head(Var),
     /// What comes directly after the header: the first packet's place.
@@ -50,8 +50,8 @@ pub enum InTelegram {
 }
 
 /// A packet, or a part of it.
-#[derive(Clone, Copy, Debug, PartialEq, Eq)]
-pub enum InPacket {
+#[derive(Clone, Copy, PartialEq, Eq)]
+pub(crate) enum InPacket {
     /// The whole packet, with its two sides.
     Whole,
     /// What comes directly after it.
@@ -181,7 +181,7 @@ impl Path {
 
     /// Whether two places meet: one is the other, or lies in it.
     #[inline(always)]
-    pub fn meets(&self, other: &Path) -> bool
+    pub(crate) fn meets(&self, other: &Path) -> bool
         ensures { result ≡ meet (path_of self.now) (path_of other.now) }
     {
         match (self, other) {

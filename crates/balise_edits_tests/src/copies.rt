@@ -1,14 +1,11 @@
-//! An entry's places as lists, its copy and its line.
+//! An entry's copy and its line.
 
 ghost use Rattle.std.specs.Prelude.{◌≤◌, ℕ};
 ghost use Rattle.balise_rules.specs.Accepting.{Unused};
 
 use crate::doing::{made, read};
-use crate::edits::{ABROAD, EMPTY, FIRST, FOUR, LINK, LINKING, SECOND, Step, THIRD, edit_of, id};
-use balise_edits::{
-    Bits, Entry, InGroup, InPacket, InTelegram, Line, LineEdit, Noted, Path, Plan, Tag, Var,
-    changed_places, needed_places,
-};
+use crate::edits::{ABROAD, EMPTY, FIRST, FOUR, LINK, LINKING, SECOND, Step, THIRD, edit_of};
+use balise_edits::{Bits, Entry, Line, LineEdit, Noted, Plan, Tag, Var};
 use std::alloc::Global;
 use std::process::Abort;
 
@@ -21,27 +18,6 @@ fn entry_of(rt: &impl Abort, alloc: Global, groups: &[&str], step: Step) -> Entr
 // A link that is put in.
 const LINKED: Step = Step::Insert(FIRST, None, LINK);
 
-// That a link that is put in changes the packet and its link.
-fn check_changed(rt: &impl Abort, places: &[Path]) {
-    let packet = InTelegram::Packet(Tag::Fresh(7), InPacket::Whole);
-    assert!(rt; places.len() == 2);
-    assert!(rt; places[0] == Path::Group(FIRST, InGroup::Telegram(0, packet)));
-}
-
-// That it needs the group's direction and the identity that it names.
-fn check_needed(rt: &impl Abort, places: &[Path]) {
-    assert!(rt; places.len() == 2);
-    assert!(rt; places[0] == Path::Group(FIRST, InGroup::Turn));
-    assert!(rt; places[1].meets(&Path::Identity(id(100))));
-}
-
-fn check_places(rt: &impl Abort, alloc: Global, entry: &Entry) {
-    let changed = changed_places(alloc, entry).expect(rt, "places");
-    check_changed(rt, changed.as_slice());
-    let needed = needed_places(alloc, entry).expect(rt, "places");
-    check_needed(rt, needed.as_slice());
-}
-
 // That the line of a link that is put in has the packet's digits.
 fn check_line(rt: &impl Abort, line: &Line) {
     assert!(rt; line.serial == 7);
@@ -52,12 +28,11 @@ fn check_line(rt: &impl Abort, line: &Line) {
 }
 
 fn check_linked(rt: &impl Abort, alloc: Global, entry: &Entry) {
-    check_places(rt, alloc, entry);
     check_line(rt, &entry.line(alloc).expect(rt, "a line"));
 }
 
 #[test]
-fn lists_places_and_has_a_line_of_whole_bytes(rt: HostRuntime) {
+fn has_a_line_of_whole_bytes(rt: HostRuntime) {
     let alloc = rt.alloc();
     check_linked(&rt, alloc, &entry_of(&rt, alloc, &[EMPTY], LINKED));
 }
@@ -124,12 +99,8 @@ fn copies_of_entries(rt: HostRuntime) {
     }
 }
 
-// That an entry among four packets is copied, and its places listed.
-fn check_moved(rt: &impl Abort, alloc: Global, entry: &Entry) {
-    says(rt, alloc, entry, Noted::BeforePacket(Some(Tag::Base(3))));
-    assert!(rt; !changed_places(alloc, entry).expect(rt, "places").is_empty());
-    assert!(rt; needed_places(alloc, entry).is_ok());
-}
+// What a move and a deletion note that are before the fourth packet.
+const BEHIND: Noted = Noted::BeforePacket(Some(Tag::Base(3)));
 
 // The entries of a move and of a deletion.
 fn check_two(rt: &impl Abort, alloc: Global, plan: &mut Plan)
@@ -137,8 +108,8 @@ fn check_two(rt: &impl Abort, alloc: Global, plan: &mut Plan)
 {
     let first = made(rt, plan, 1, edit_of(rt, alloc, Step::Move(THIRD, None)));
     let second = made(rt, plan, 2, edit_of(rt, alloc, Step::Delete(SECOND)));
-    check_moved(rt, alloc, &first);
-    check_moved(rt, alloc, &second);
+    says(rt, alloc, &first, BEHIND);
+    says(rt, alloc, &second, BEHIND);
 }
 
 #[test]

@@ -1,4 +1,3 @@
-pub mod Commands
 pub mod Lists
 pub mod Held
 pub mod Tests

@@ -3,8 +3,8 @@
 mod entering;
 
 ghost use Rattle.std.specs.Prelude.{◌≡◌, ◌≢◌, ◌+◌, ◌<◌, ◌≤◌, ◌^◌, [], ℕ, length, map, reverse, IfNone, IfOk, IfSome, IsOkUnless, OnOk};
-ghost use Rattle.balise_edits.specs.Lines.{line_in};
-ghost use Rattle.balise_history.specs.Commands.{command_of};
+ghost use Rattle.balise_commands.specs.Lines.{line_in};
+ghost use Rattle.balise_commands.specs.Commands.{command_of};
 ghost use Rattle.balise_history.specs.Held.{Answered, state_at};
 ghost use Rattle.balise_history.specs.Lists.{items_of};
 ghost use Rattle.balise_rules.specs.Accepting.{Unused};
@@ -14,10 +14,11 @@ ghost use Rattle.balise_rules.specs.Session.{entries, later, made};
 ghost use Rattle.balise_rules.specs.Session as rules;
 ghost use Rattle.balise_strike_laws.specs.Headline.{Promised};
 
-use crate::command::Command;
 use crate::history::{History, place_of};
+use crate::resolving::edit_asked;
 use crate::struck::Struck;
 use crate::testing::serials_behind;
+use balise_commands::Command;
 use balise_edits::{Entry, Line, apply};
 use balise_plan::Plan;
 use balise_rules::Refusal;
@@ -146,7 +147,7 @@ impl EditedPlan {
         requires serial { self.old.serial + 1 < 2 ^ 32 }
         ensures { Answered (rules.Ask (command_of command)) rules.Done self.old result self.new }
     {
-        let edit = command.edit(&self.plan)?;
+        let edit = edit_asked(command, &self.plan)?;
         self.history.reserve()?;
         let serial = self.next;
         let entry = apply(&mut self.plan, edit, serial)?;

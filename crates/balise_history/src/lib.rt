@@ -1,7 +1,6 @@
 //! A session over a balise plan: edits by address, undo, redo and strike in place.
 #![tactic(auto)]
 
-mod command;
 mod digits;
 mod edited;
 mod history;
@@ -13,11 +12,11 @@ mod session;
 mod struck;
 mod testing;
 
+pub use balise_commands::Command;
 pub use balise_edits::{
     Bits, Edit, Entry, Group, GroupTag, Id, Line, LineEdit, Noted, Packet, PacketTag, Plan,
     Refusal, Tag, Var,
 };
-pub use command::Command;
 pub use journal_fault::JournalFault;
 pub use opening::{Opening, from_entries};
 pub use session::Session;

@@ -1,7 +1,7 @@
 //! A session read from a journal, line by line.
 
 ghost use Rattle.std.specs.Prelude.{◌≡◌, ◌<◌, ◌^◌, ℕ, map, None, Some, Ok, IfErr, IfOk, MatchResult};
-ghost use Rattle.balise_edits.specs.Lines.{line_in};
+ghost use Rattle.balise_commands.specs.Lines.{line_in};
 ghost use Rattle.balise_history.specs.Openings.{FailsAt, ReadsEntry, ReadsUndone};
 ghost use Rattle.balise_rules.specs.Accepting.{Unused};
 ghost use Rattle.balise_rules.specs.Opening.{from_entries, opened_at};

@@ -2,7 +2,7 @@
 
 ghost use Rattle.std.specs.Prelude.{◌≡◌, ◌≢◌, IfErr, IfOk, Some, None, Ok, Err, ok_or, slice_get};
 ghost use Rattle.balise_edits.specs.Edits.{edit_of};
-ghost use Rattle.balise_history.specs.Commands.{command_of};
+ghost use Rattle.balise_commands.specs.Commands.{command_of};
 ghost use Rattle.balise_rules.specs.Addresses as rules;
 ghost use Rattle.balise_rules.specs.Addresses.{anchor_at, find_group, find_packet, find_telegram, AskInsert, AskMove};
 ghost use Rattle.balise_rules.specs.Packet.{Packet};
@@ -10,9 +10,9 @@ ghost use Rattle.balise_rules.specs.Plan.{Group, IsSound};
 ghost use Rattle.balise_rules.specs.Tagged.{Distinct};
 ghost use Rattle.balise_rules.specs.Tags.{same_tag};
 
-use crate::command::Command;
 use crate::digits::packet_in;
 use balise_bits::Bits;
+use balise_commands::Command;
 use balise_edits::Edit;
 use balise_plan::Plan;
 use balise_rules::{Id, Refusal, Tag};
@@ -92,69 +92,67 @@ fn group_before(plan: &Plan, at: usize) -> Result<Option<Tag>, Refusal>
     }
 }
 
-impl Command {
-    /// The edit that it asks for on a plan. Refused by the first fault of its address and then of its digits, or as
-    /// `OutOfMemory`.
-    pub(crate) fn edit(self, plan: &Plan) -> Result<Edit, Refusal>
-        requires { IsSound plan.now.groups }
-        ensures ok { IfOk result (λ edit. rules.edit_of (command_of self) plan.now.groups ≡ Ok (edit_of edit)) }
-        ensures fault { IfErr result (λ r. r ≢ Refusal.OutOfMemory → rules.edit_of (command_of self) plan.now.groups ≡ Err r) }
-    {
-        match self {
-            Command::SetVar {
-                id,
-                pig,
-                pkt,
+/// The edit that a command asks for on a plan. Refused by the first fault of its address and then of its digits, or as
+/// `OutOfMemory`.
+pub(crate) fn edit_asked(command: Command, plan: &Plan) -> Result<Edit, Refusal>
+    requires { IsSound plan.now.groups }
+    ensures ok { IfOk result (λ edit. rules.edit_of (command_of command) plan.now.groups ≡ Ok (edit_of edit)) }
+    ensures fault { IfErr result (λ r. r ≢ Refusal.OutOfMemory → rules.edit_of (command_of command) plan.now.groups ≡ Err r) }
+{
+    match command {
+        Command::SetVar {
+            id,
+            pig,
+            pkt,
+            var,
+            k,
+            value,
+        } => {
+            let (g, t, _, p) = find_packet(plan, id, pig, pkt)?;
+            Ok(Edit::SetVar {
+                g,
+                t,
+                p,
                 var,
                 k,
                 value,
-            } => {
-                let (g, t, _, p) = find_packet(plan, id, pig, pkt)?;
-                Ok(Edit::SetVar {
-                    g,
-                    t,
-                    p,
-                    var,
-                    k,
-                    value,
-                })
-            }
-            Command::SetHead {
-                id,
-                pig,
-                var,
-                value,
-            } => {
-                let (g, t, _) = find_telegram(plan, id, pig)?;
-                Ok(Edit::SetHead { g, t, var, value })
-            }
-            Command::InsertPacket {
-                id,
-                pig,
-                at,
-                digits,
-            } => insert(plan, id, pig, at, &digits),
-            Command::DeletePacket { id, pig, pkt } => {
-                let (g, t, _, p) = find_packet(plan, id, pig, pkt)?;
-                Ok(Edit::DeletePacket { g, t, p })
-            }
-            Command::MovePacket { id, pig, pkt, at } => shift(plan, id, pig, pkt, at),
-            Command::AddGroup { at, telegrams } => {
-                let after = group_before(plan, at as usize)?;
-                Ok(Edit::AddGroup { after, telegrams })
-            }
-            Command::DropGroup { id } => {
-                let g = find_group(plan, id)?;
-                Ok(Edit::DropGroup { g })
-            }
-            Command::Renumber { id, number } => {
-                let g = find_group(plan, id)?;
-                Ok(Edit::Renumber { g, number })
-            }
-            Command::TurnGroup { id } => {
-                let g = find_group(plan, id)?;
-                Ok(Edit::TurnGroup { g })
-            }
+            })
+        }
+        Command::SetHead {
+            id,
+            pig,
+            var,
+            value,
+        } => {
+            let (g, t, _) = find_telegram(plan, id, pig)?;
+            Ok(Edit::SetHead { g, t, var, value })
+        }
+        Command::InsertPacket {
+            id,
+            pig,
+            at,
+            digits,
+        } => insert(plan, id, pig, at, &digits),
+        Command::DeletePacket { id, pig, pkt } => {
+            let (g, t, _, p) = find_packet(plan, id, pig, pkt)?;
+            Ok(Edit::DeletePacket { g, t, p })
+        }
+        Command::MovePacket { id, pig, pkt, at } => shift(plan, id, pig, pkt, at),
+        Command::AddGroup { at, telegrams } => {
+            let after = group_before(plan, at as usize)?;
+            Ok(Edit::AddGroup { after, telegrams })
+        }
+        Command::DropGroup { id } => {
+            let g = find_group(plan, id)?;
+            Ok(Edit::DropGroup { g })
+        }
+        Command::Renumber { id, number } => {
+            let g = find_group(plan, id)?;
+            Ok(Edit::Renumber { g, number })
+        }
+        Command::TurnGroup { id } => {
+            let g = find_group(plan, id)?;
+            Ok(Edit::TurnGroup { g })
         }
     }
 }

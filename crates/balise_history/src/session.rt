@@ -1,8 +1,8 @@
 //! A session: commands on a plan, undo, redo and strike in place.
 
 ghost use Rattle.std.specs.Prelude.{◌≡◌, ◌≢◌, ◌+◌, ◌<◌, ◌≤◌, ◌^◌, [], ℕ, length, map, nat_le, Err, IfNone, IfOk, IfSome, IsOkUnless};
-ghost use Rattle.balise_edits.specs.Lines.{line_in};
-ghost use Rattle.balise_history.specs.Commands.{command_of};
+ghost use Rattle.balise_commands.specs.Lines.{line_in};
+ghost use Rattle.balise_commands.specs.Commands.{command_of};
 ghost use Rattle.balise_history.specs.Sessions.{reply_of, seen_at, ChangesOnce, IsWorn};
 ghost use Rattle.balise_rules.specs.Accepting.{Unused};
 ghost use Rattle.balise_rules.specs.Journal.{line_of, lines, undone};
@@ -11,9 +11,9 @@ ghost use Rattle.balise_rules.specs.Session.{entries, held, later, most_commands
 ghost use Rattle.balise_rules.specs.Session as rules;
 ghost use Rattle.balise_strike_laws.specs.Headline.{Promised};
 
-use crate::command::Command;
 use crate::edited::EditedPlan;
 use crate::struck::Struck;
+use balise_commands::Command;
 use balise_edits::{Entry, Line};
 use balise_plan::Plan;
 use balise_rules::Refusal;

@@ -62,7 +62,7 @@ fn a_million_edits(rt: HostRuntime) {
 }
 
 /// That so many edits are undone, the last one done first.
-fn check_undone(rt: &impl Abort, undone: &[u32], count: usize, first: u32) {
+fn check_undone(rt: &impl Abort, undone: &Vec<u32>, count: usize, first: u32) {
     assert!(rt; undone.len() == count);
     assert!(rt; undone.first().copied() == Some(first));
 }
@@ -72,8 +72,7 @@ fn undo_half_a_million(rt: &impl Abort, session: &mut Session) {
     undo_each(rt, session, 500_000);
     assert!(rt; is_worn(session));
     check_standing(rt, session, 0);
-    let undone = session.undone().expect(rt, "memory");
-    check_undone(rt, undone.as_slice(), 500_000, 500_000);
+    check_undone(rt, &session.undone().expect(rt, "memory"), 500_000, 500_000);
 }
 
 #[test]
@@ -120,6 +119,11 @@ fn shown_as_read(rt: &impl Abort, alloc: Global) -> Vec<Vec<Bits>> {
     read.shown().expect(rt, "memory")
 }
 
+/// Whether two sessions show the same groups.
+fn show_the_same(rt: &impl Abort, one: &Session, other: &Session) -> bool {
+    shown(rt, one) == shown(rt, other)
+}
+
 /// Redoes so many edits, the first one first.
 fn redo_each(rt: &impl Abort, session: &mut Session, count: u32) {
     for i in 0..count {
@@ -145,10 +149,13 @@ fn undo_and_redo(
 #[test]
 fn a_thousand_edits_of_all_kinds_undone_and_redone(rt: HostRuntime) {
     let alloc = rt.alloc();
-    let mut session = busy(&rt, alloc);
-    let made = shown(&rt, &session);
-    check_next(&rt, &session, 1001);
-    undo_and_redo(&rt, &mut session, &shown_as_read(&rt, alloc), &made);
+    check_undone_and_redone(&rt, alloc, &mut busy(&rt, alloc));
+}
+
+fn check_undone_and_redone(rt: &impl Abort, alloc: Global, session: &mut Session) {
+    check_next(rt, session, 1001);
+    let made = shown(rt, session);
+    undo_and_redo(rt, session, &shown_as_read(rt, alloc), &made);
 }
 
 fn check_next(rt: &impl Abort, session: &Session, serial: u32) {
@@ -172,7 +179,7 @@ fn redo_500(rt: &impl Abort, session: &mut Session) {
 fn check_read_back(rt: &impl Abort, again: &mut Session, session: &Session, made: &Vec<Vec<Bits>>) {
     check_next(rt, again, 1001);
     check_standing(rt, again, 500);
-    assert!(rt; shown(rt, again) == shown(rt, session));
+    assert!(rt; show_the_same(rt, again, session));
     redo_500(rt, again);
     assert!(rt; shown(rt, again) == *made);
 }
@@ -180,11 +187,18 @@ fn check_read_back(rt: &impl Abort, again: &mut Session, session: &Session, made
 #[test]
 fn a_journal_of_a_thousand_edits_read_back(rt: HostRuntime) {
     let alloc = rt.alloc();
-    let mut session = busy(&rt, alloc);
-    let made = shown(&rt, &session);
-    undo_500(&rt, &mut session);
-    let mut again = read_back(&rt, alloc, &[REVOCATION, LINKING], &session);
-    check_read_back(&rt, &mut again, &session, &made);
+    undo_and_read_back(&rt, alloc, &mut busy(&rt, alloc));
+}
+
+fn undo_and_read_back(rt: &impl Abort, alloc: Global, session: &mut Session) {
+    let made = shown(rt, session);
+    undo_500(rt, session);
+    check_journal(rt, alloc, session, &made);
+}
+
+fn check_journal(rt: &impl Abort, alloc: Global, session: &Session, made: &Vec<Vec<Bits>>) {
+    let mut again = read_back(rt, alloc, &[REVOCATION, LINKING], session);
+    check_read_back(rt, &mut again, session, made);
 }
 
 fn put_number(rt: &impl Abort, bits: &mut Bits, number: u32) {
@@ -219,8 +233,11 @@ fn strike_first(rt: &impl Abort, session: &mut Session) {
 
 /// That a session shows the same once its journal was read back.
 fn check_again(rt: &impl Abort, alloc: Global, session: &Session) {
-    let again = read_back(rt, alloc, &[EMPTY], session);
-    assert!(rt; shown(rt, &again) == shown(rt, session));
+    check_same(rt, &read_back(rt, alloc, &[EMPTY], session), session);
+}
+
+fn check_same(rt: &impl Abort, one: &Session, other: &Session) {
+    assert!(rt; show_the_same(rt, one, other));
 }
 
 /// Strikes the first edit out and does it again, which leaves what was made.
@@ -234,8 +251,11 @@ fn strike_and_redo(rt: &impl Abort, alloc: Global, session: &mut Session, made: 
 #[test]
 fn struck_under_a_thousand_later_neighbours(rt: HostRuntime) {
     let alloc = rt.alloc();
-    let mut session = session_of(&rt, alloc, &[EMPTY]);
-    add_groups(&rt, alloc, &mut session);
-    let made = shown(&rt, &session);
-    strike_and_redo(&rt, alloc, &mut session, &made);
+    strike_under_many(&rt, alloc, &mut session_of(&rt, alloc, &[EMPTY]));
+}
+
+fn strike_under_many(rt: &impl Abort, alloc: Global, session: &mut Session) {
+    add_groups(rt, alloc, session);
+    let made = shown(rt, session);
+    strike_and_redo(rt, alloc, session, &made);
 }

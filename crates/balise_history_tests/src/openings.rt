@@ -74,7 +74,11 @@ pub(crate) fn read_back(
 
 /// Reads the lines of a session's journal, which are accepted.
 fn enter_each(rt: &impl Abort, opening: &mut Opening, session: &Session) {
-    for line in session.lines().expect(rt, "memory") {
+    enter_all(rt, opening, session.lines().expect(rt, "memory"));
+}
+
+fn enter_all(rt: &impl Abort, opening: &mut Opening, lines: Vec<Line>) {
+    for line in lines {
         enter(rt, opening, line);
     }
 }
@@ -110,7 +114,10 @@ fn next_serials(rt: HostRuntime) {
 
 /// That a line fits as the first one of a journal, or is refused.
 fn check_line(rt: &impl Abort, alloc: Global, line: Line, answer: Result<(), Refusal>) {
-    let mut opening = opened(rt, alloc, &[REVOCATION], 3);
+    check_entry(rt, &mut opened(rt, alloc, &[REVOCATION], 3), line, answer);
+}
+
+fn check_entry(rt: &impl Abort, opening: &mut Opening, line: Line, answer: Result<(), Refusal>) {
     assert!(rt; opening.entry(line) == answer);
 }
 
@@ -203,19 +210,27 @@ fn what_was_undone_is_done_again(rt: HostRuntime) {
     check_again(&rt, alloc, &mut opening.done());
 }
 
+fn check_undone(rt: &impl Abort, opening: &mut Opening, answer: Result<(), Refusal>) {
+    assert!(rt; opening.undone(7) == answer);
+}
+
+fn check_shown(rt: &impl Abort, alloc: Global, session: &Session, groups: &[&str]) {
+    assert!(rt; shows(rt, alloc, session, groups));
+}
+
 #[test]
 fn nothing_is_struck_that_does_not_stand(rt: HostRuntime) {
     let alloc = rt.alloc();
     let mut opening = opened(&rt, alloc, &[REVOCATION], 2);
-    assert!(rt; opening.undone(7) == MISMATCH);
-    assert!(rt; shows(&rt, alloc, &opening.done(), &[REVOCATION]));
+    check_undone(&rt, &mut opening, MISMATCH);
+    check_shown(&rt, alloc, &opening.done(), &[REVOCATION]);
 }
 
 #[test]
 fn no_entry_behind_one_undone(rt: HostRuntime) {
     let mut opening = opened(&rt, rt.alloc(), &[REVOCATION], 3);
     undo_one(&rt, &mut opening);
-    assert!(rt; opening.entry(set(2, FIRST, 9, 5)) == MISMATCH);
+    check_entry(&rt, &mut opening, set(2, FIRST, 9, 5), MISMATCH);
 }
 
 /// Puts two packets in and strikes the first of them.
@@ -238,9 +253,13 @@ fn check_struck(rt: &impl Abort, alloc: Global, session: &mut Session) {
 #[test]
 fn what_stood_behind_is_read_back(rt: HostRuntime) {
     let alloc = rt.alloc();
-    let mut session = session_of(&rt, alloc, &[EMPTY]);
-    insert_and_strike(&rt, alloc, &mut session);
-    check_struck(&rt, alloc, &mut read_back(&rt, alloc, &[EMPTY], &session));
+    check_read_back(&rt, alloc, &mut session_of(&rt, alloc, &[EMPTY]));
+}
+
+// That the session that a journal of one with a struck insertion is read as does it again.
+fn check_read_back(rt: &impl Abort, alloc: Global, session: &mut Session) {
+    insert_and_strike(rt, alloc, session);
+    check_struck(rt, alloc, &mut read_back(rt, alloc, &[EMPTY], session));
 }
 
 /// That a session's journal tells so many entries, and that they are lent, where all of them stand.

@@ -250,11 +250,14 @@ fn strike_first(rt: &impl Abort, session: &mut Session) {
 #[test]
 fn strikes_a_link(rt: HostRuntime) {
     let alloc = rt.alloc();
-    let mut session = session_of(&rt, alloc, &[EMPTY, LINKING]);
-    edit_linking(&rt, alloc, &mut session);
-    strike_first(&rt, &mut session);
+    strike_link(&rt, alloc, &mut session_of(&rt, alloc, &[EMPTY, LINKING]));
+}
+
+fn strike_link(rt: &impl Abort, alloc: Global, session: &mut Session) {
+    edit_linking(rt, alloc, session);
+    strike_first(rt, session);
     let struck = "a1007f80a09650900f8282a04540fa0064c603ffffffffffffffc0";
-    assert!(rt; shows(&rt, alloc, &session, &[EMPTY, struck]));
+    assert!(rt; shows(rt, alloc, session, &[EMPTY, struck]));
 }
 
 const DROPPED_AND_ADDED: &[Stage] = &[(

@@ -16,7 +16,7 @@ const ROOM: usize = 4097;
 
 /// What stands at the front of the bytes: a line with its end, of so many bytes without it; the last line, which has no
 /// end and is all that is held; nothing, at the input's end; or a longer line than there may be.
-#[derive(Clone, Copy, Debug, PartialEq, Eq)]
+#[derive(Clone, Copy)]
 pub(crate) enum Look {
     Line(usize),
     Last,

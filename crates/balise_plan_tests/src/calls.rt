@@ -141,71 +141,83 @@ const ANYWHERE: &[Row] = &[
     ),
 ];
 
-/// That the group at a place has this tag and this identity.
-fn check_at(rt: &impl Abort, plan: &Plan, i: usize, tag: GroupTag, id: Id) {
-    let (there, group) = plan.at(i).expect(rt, "a group");
-    assert!(rt; there == tag);
-    assert!(rt; group.identity() == id);
-    assert!(rt; plan.place_of(tag) == Some(i));
-    assert!(rt; plan.tag_of(id) == Some(tag));
+/// Whether the group at a place has this tag and this identity.
+pub(crate) fn is_at(plan: &Plan, i: usize, tag: GroupTag, id: Id) -> bool {
+    match plan.at(i) {
+        Some((there, group)) => {
+            (there == tag)
+                & (group.identity() == id)
+                & (plan.place_of(tag) == Some(i))
+                & (plan.tag_of(id) == Some(tag))
+        }
+        None => false,
+    }
 }
 
-/// That there are two groups, found by place, by tag and by identity.
-fn check_groups(rt: &impl Abort, plan: &Plan) {
-    check_at(rt, plan, 0, FIRST, id(5, 100));
-    check_at(rt, plan, 1, SECOND, id(5, 101));
-    assert!(rt; plan.count() == 2);
-    assert!(rt; plan.at(2).is_none());
-    assert!(rt; plan.place_of(NEW).is_none());
-    assert!(rt; plan.group(NEW).is_none());
+/// Whether there are two groups, found by place, by tag and by identity.
+fn tells_groups(plan: &Plan) -> bool {
+    is_at(plan, 0, FIRST, id(5, 100))
+        & is_at(plan, 1, SECOND, id(5, 101))
+        & (plan.count() == 2)
+        & plan.at(2).is_none()
+        & plan.place_of(NEW).is_none()
+        & plan.group(NEW).is_none()
 }
 
-/// That a group tells what it holds.
-fn check_group(rt: &impl Abort, group: &Group) {
-    assert!(rt; group.count() == 1);
-    assert!(rt; group.country(0) == Some(5));
-    assert!(rt; group.country(1).is_none());
-    assert!(rt; group.at(1).is_none());
+/// Whether a group of one telegram tells what it holds.
+fn tells_one(group: &Group, id: Id) -> bool {
+    (group.identity() == id)
+        & (group.count() == 1)
+        & (group.country(0) == Some(5))
+        & group.country(1).is_none()
+        & group.at(1).is_none()
 }
 
-fn check_identity(rt: &impl Abort, group: &Group, id: Id) {
-    assert!(rt; group.identity() == id);
+/// Whether a group and its copy tell what they hold.
+fn tells_group(rt: &impl Abort, plan: &Plan) -> bool {
+    match plan.group(SECOND) {
+        Some(group) => tells_one(group, id(5, 101)) & copy_tells(rt, group, id(5, 101)),
+        None => false,
+    }
 }
 
-/// That a copy of a group has this identity.
-fn check_copy(rt: &impl Abort, group: &Group, id: Id) {
-    check_identity(rt, &group.copy().expect(rt, "memory"), id);
+fn copy_tells(rt: &impl Abort, group: &Group, id: Id) -> bool {
+    tells_one(&group.copy().expect(rt, "memory"), id)
 }
 
-/// That a link is found by what it names.
-fn check_links(rt: &impl Abort, plan: &Plan) {
-    assert!(rt; plan.links_to(id(5, 101)).is_none());
-    let named = plan.links_to(id(5, 100)).expect(rt, "a link");
-    let place = LinkPlace {
-        group: SECOND,
-        telegram: 0,
-        packet: PacketTag::Base(0),
-        element: 0,
-    };
-    assert!(rt; named.contains(&place));
+const LINK: LinkPlace = LinkPlace {
+    group: SECOND,
+    telegram: 0,
+    packet: PacketTag::Base(0),
+    element: 0,
+};
+
+/// Whether a link is found by what it names.
+fn tells_links(plan: &Plan) -> bool {
+    match plan.links_to(id(5, 100)) {
+        Some(named) => named.contains(&LINK) & plan.links_to(id(5, 101)).is_none(),
+        None => false,
+    }
 }
 
-/// That a telegram is found in its group.
-fn check_telegram(rt: &impl Abort, plan: &Plan) {
-    let balise = plan.telegram(SECOND, 0).expect(rt, "a telegram");
-    assert!(rt; balise.head(Var::NidBg) == Some(101));
-    assert!(rt; plan.telegram(SECOND, 1).is_none());
-    assert!(rt; plan.telegram(NEW, 0).is_none());
+/// Whether a telegram is found in its group.
+fn tells_telegram(plan: &Plan) -> bool {
+    match plan.telegram(SECOND, 0) {
+        Some(balise) => {
+            (balise.head(Var::NidBg) == Some(101))
+                & plan.telegram(SECOND, 1).is_none()
+                & plan.telegram(NEW, 0).is_none()
+        }
+        None => false,
+    }
 }
 
 /// That a plan of two groups, of which the second names the first, tells what it holds.
 fn check_told(rt: &impl Abort, plan: &Plan) {
-    check_groups(rt, plan);
-    let group = plan.group(SECOND).expect(rt, "a group");
-    check_group(rt, group);
-    check_copy(rt, group, id(5, 101));
-    check_links(rt, plan);
-    check_telegram(rt, plan);
+    assert!(rt; tells_groups(plan));
+    assert!(rt; tells_group(rt, plan));
+    assert!(rt; tells_links(plan));
+    assert!(rt; tells_telegram(plan));
 }
 
 /// Tells that, and takes groups in at each place.
@@ -214,9 +226,12 @@ fn tell_and_put(rt: &impl Abort, alloc: Global, plan: &mut Plan) {
     follow_each(rt, alloc, plan, ANYWHERE);
 }
 
+fn read_and_tell(rt: &impl Abort, alloc: Global) {
+    let mut plan = plan_of(rt, alloc, &[EMPTY, LINKING]);
+    tell_and_put(rt, alloc, &mut plan);
+}
+
 #[test]
 fn tells_what_it_holds_and_takes_groups_in_anywhere(rt: HostRuntime) {
-    let alloc = rt.alloc();
-    let mut plan = plan_of(&rt, alloc, &[EMPTY, LINKING]);
-    tell_and_put(&rt, alloc, &mut plan);
+    read_and_tell(&rt, rt.alloc());
 }

@@ -1,7 +1,7 @@
 //! Groups read telegram by telegram.
 
 use crate::digits::{EMPTY, LINKING, LONG, THREE};
-use crate::plans::{one_of_eight, shows, telegrams};
+use crate::plans::{check_texts, one_of_eight, telegrams};
 use balise_plan::{Bits, Group, GroupReader, Plan, Refusal};
 use std::alloc::Global;
 use std::process::Abort;
@@ -12,19 +12,24 @@ const ONE_OF_TWO: &str = "a1027f80a0327fffffffffffffffffffffffffffffffffffffffc0
 /// The number that no group has.
 const RESERVED: &str = "a1007f80bfffffffffffffffffffffffffffffffffffffffffffc0";
 
-/// Reads a telegram, with which there are so many.
-fn read_next(rt: &impl Abort, reader: &mut GroupReader, bits: Bits, count: usize) {
-    reader.push(bits).expect(rt, "a telegram");
-    assert!(rt; reader.count() == count);
+/// Whether a telegram is read, with which there are so many.
+fn reads(reader: &mut GroupReader, bits: Bits, count: usize) -> bool {
+    reader.push(bits).is_ok() & (reader.count() == count)
 }
 
-/// Reads the telegrams of these digits one by one.
-fn read_each(rt: &impl Abort, alloc: Global, reader: &mut GroupReader, text: &str) {
+/// Whether the telegrams of these digits are read one by one.
+fn reads_each(rt: &impl Abort, alloc: Global, reader: &mut GroupReader, text: &str) -> bool {
+    let mut same = true;
     let mut count: usize = 0;
     for bits in telegrams(rt, alloc, text) {
         count = count.saturating_add(1);
-        read_next(rt, reader, bits, count);
+        same &= reads(reader, bits, count);
     }
+    same
+}
+
+fn read_each(rt: &impl Abort, alloc: Global, reader: &mut GroupReader, text: &str) {
+    assert!(rt; reads_each(rt, alloc, reader, text));
 }
 
 /// Pushes a group of these digits.
@@ -48,7 +53,7 @@ fn push_each(rt: &impl Abort, alloc: Global, plan: &mut Plan) {
     push(rt, alloc, plan, ONE_OF_TWO, Err(Refusal::HeaderDisagrees));
     push(rt, alloc, plan, RESERVED, Err(Refusal::NumberReserved));
     assert!(rt; plan.changes() == 0);
-    assert!(rt; shows(rt, alloc, plan, &[THREE, LINKING]));
+    check_texts(rt, alloc, plan, &[THREE, LINKING]);
 }
 
 #[test]

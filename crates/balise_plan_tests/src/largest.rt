@@ -3,10 +3,9 @@
 use crate::digits::LONG;
 use crate::plans;
 use crate::plans::{
-    bits_of, check_shown, groups_of, id, one_of_eight, plan_of, push_alone, push_bits, push_group,
-    shows,
+    bits_of, check_texts, id, one_of_eight, plan_of, push_alone, push_bits, push_group,
 };
-use crate::steps::{Answer, Step, make, put_back};
+use crate::steps::{Answer, Step, follow, put_back};
 use crate::walking::names;
 use balise_plan::{Bits, GroupTag, PacketTag, Plan, Refusal, Spot};
 use std::alloc::Global;
@@ -68,7 +67,7 @@ fn check(rt: &impl Abort, alloc: Global, plan: &Plan, text: &str, other: &str) {
 
 /// Makes a change that is accepted.
 fn change(rt: &impl Abort, alloc: Global, plan: &mut Plan, step: Step, answer: Answer) {
-    assert!(rt; make(rt, alloc, plan, step) == Ok(answer));
+    follow(rt, alloc, plan, step, Ok(answer));
 }
 
 /// Puts 20 packets that name 5.100 into each of eight telegrams.
@@ -119,23 +118,25 @@ fn nine_plan(rt: &impl Abort, alloc: Global) -> Plan {
     Plan::read(alloc, nine(rt, alloc, LONG, ELEMENTS)).expect(rt, "a plan")
 }
 
-#[test]
-fn renumbers_179_links_at_once(rt: HostRuntime) {
-    let alloc = rt.alloc();
-    let mut plan = nine_plan(&rt, alloc);
-    change_179_links(&rt, alloc, &mut plan);
+fn read_nine(rt: &impl Abort, alloc: Global) {
+    let mut plan = nine_plan(rt, alloc);
+    change_179_links(rt, alloc, &mut plan);
 }
 
-/// Puts 33 packets in, each before the others, and no further one.
+#[test]
+fn renumbers_179_links_at_once(rt: HostRuntime) {
+    read_nine(&rt, rt.alloc());
+}
+
+/// Puts 33 packets in, each before the others.
 fn put_33(rt: &impl Abort, alloc: Global, plan: &mut Plan) {
     for n in 0..33 {
         let step = Step::Put(FIRST, 0, Spot::After(None), PacketTag::Fresh(n), "2c402e");
         change(rt, alloc, plan, step, Answer::Done);
     }
-    assert!(rt; shows(rt, alloc, plan, &[FULL]));
-    let step = Step::Put(FIRST, 0, Spot::Before(None), PacketTag::Fresh(33), "2c402e");
-    assert!(rt; make(rt, alloc, plan, step) == Err(Refusal::NoRoom));
 }
+
+const FURTHER: Step = Step::Put(FIRST, 0, Spot::Before(None), PacketTag::Fresh(33), "2c402e");
 
 const FIRST_PACKET: PacketTag = PacketTag::Fresh(32);
 
@@ -170,18 +171,23 @@ fn take_33(rt: &impl Abort, alloc: Global, plan: &mut Plan) {
     }
 }
 
-/// Puts 33 packets in, moves them and takes them out.
+/// Puts 33 packets in and no further one, moves them and takes them out.
 fn change_33_packets(rt: &impl Abort, alloc: Global, plan: &mut Plan) {
     put_33(rt, alloc, plan);
+    check_texts(rt, alloc, plan, &[FULL]);
+    follow(rt, alloc, plan, FURTHER, Err(Refusal::NoRoom));
     shift_ends(rt, alloc, plan);
-    check_shown(rt, plan, &groups_of(rt, alloc, &[FULL]));
+    check_texts(rt, alloc, plan, &[FULL]);
     take_33(rt, alloc, plan);
-    assert!(rt; shows(rt, alloc, plan, &[LONG]));
+    check_texts(rt, alloc, plan, &[LONG]);
+}
+
+fn read_long(rt: &impl Abort, alloc: Global) {
+    let mut plan = plan_of(rt, alloc, &[LONG]);
+    change_33_packets(rt, alloc, &mut plan);
 }
 
 #[test]
 fn puts_33_packets_into_a_telegram(rt: HostRuntime) {
-    let alloc = rt.alloc();
-    let mut plan = plan_of(&rt, alloc, &[LONG]);
-    change_33_packets(&rt, alloc, &mut plan);
+    read_long(&rt, rt.alloc());
 }

@@ -1,22 +1,15 @@
 //! Plans of many groups.
 
+use crate::calls::is_at;
 use crate::digits::LINKING;
-use crate::plans::{bits_of, check, check_shown, id, push_alone};
-use crate::steps::{Answer, Step, make, put_back, put_there};
+use crate::plans::{bits_of, check, check_shown, id, push_alone, put_number};
+use crate::steps::{Answer, Step, follow, put_back, put_there};
 use crate::walking::names;
 use balise_plan::{Bits, Group, GroupTag, Plan, Spot};
 use std::alloc::Global;
 use std::process::Abort;
 
 const FIRST: GroupTag = GroupTag::Base(0);
-
-/// Puts a number of 14 bits into a telegram.
-fn put_number(rt: &impl Abort, bits: &mut Bits, at: usize, number: u32) {
-    assert!(rt; number < 1000);
-    assert!(rt; at < 100);
-    assert!(rt; bits.len() == 210);
-    bits.put(at, 14, number);
-}
 
 fn linking(rt: &impl Abort, alloc: Global, number: u32, named: u32) -> Bits {
     let mut bits = bits_of(rt, alloc, LINKING);
@@ -87,37 +80,41 @@ fn put_each_in(rt: &impl Abort, alloc: Global, plan: &mut Plan) {
     }
 }
 
-/// That the groups stand in the opposite order, behind the first.
-fn check_order(rt: &impl Abort, plan: &Plan) {
+/// Whether the groups stand in the opposite order, behind the first.
+fn is_turned_round(plan: &Plan) -> bool {
+    let mut same = true;
     for n in 1..1000 {
-        check_place(rt, plan, GroupTag::Fresh(n), 1000 - n as usize);
+        same &= is_at(plan, 1000 - n as usize, GroupTag::Fresh(n), id(5, n));
     }
-}
-
-fn check_place(rt: &impl Abort, plan: &Plan, tag: GroupTag, place: usize) {
-    assert!(rt; plan.place_of(tag) == Some(place));
-    assert!(rt; matches!(plan.at(place), Some((there, _)) if there == tag));
+    same
 }
 
 fn put_all_in(rt: &impl Abort, alloc: Global, plan: &mut Plan) {
     put_each_in(rt, alloc, plan);
-    check_order(rt, plan);
+    assert!(rt; is_turned_round(plan));
+}
+
+fn put_into_empty(rt: &impl Abort, alloc: Global) {
+    let mut plan = Plan::empty(alloc);
+    put_all_in(rt, alloc, &mut plan);
 }
 
 #[test]
 fn puts_1000_groups_in_behind_the_first(rt: HostRuntime) {
-    let alloc = rt.alloc();
-    let mut plan = Plan::empty(alloc);
-    put_all_in(&rt, alloc, &mut plan);
+    put_into_empty(&rt, rt.alloc());
+}
+
+/// Whether 1,000 links name the one number and none the other.
+fn all_name(plan: &Plan, number: u32, old: u32) -> bool {
+    names(plan, id(5, number), 1000) & plan.links_to(id(5, old)).is_none()
 }
 
 /// Renumbers the group that 1,000 links name, and turns it.
 fn renumber(rt: &impl Abort, alloc: Global, plan: &mut Plan, number: u32, old: u32) {
     let step = Step::Rename(FIRST, number);
-    assert!(rt; make(rt, alloc, plan, step) == Ok(Answer::Old(old)));
-    assert!(rt; names(plan, id(5, number), 1000));
-    assert!(rt; plan.links_to(id(5, old)).is_none());
-    assert!(rt; make(rt, alloc, plan, Step::Turn(FIRST)) == Ok(Answer::Done));
+    follow(rt, alloc, plan, step, Ok(Answer::Old(old)));
+    assert!(rt; all_name(plan, number, old));
+    follow(rt, alloc, plan, Step::Turn(FIRST), Ok(Answer::Done));
 }
 
 fn renumber_twice(rt: &impl Abort, alloc: Global, plan: &mut Plan) {
@@ -126,9 +123,12 @@ fn renumber_twice(rt: &impl Abort, alloc: Global, plan: &mut Plan) {
     check_shown(rt, plan, &thousand(rt, alloc, false));
 }
 
+fn read_and_renumber(rt: &impl Abort, alloc: Global) {
+    let mut plan = thousand_plan(rt, alloc, false);
+    renumber_twice(rt, alloc, &mut plan);
+}
+
 #[test]
 fn renumbers_1000_links_at_once(rt: HostRuntime) {
-    let alloc = rt.alloc();
-    let mut plan = thousand_plan(&rt, alloc, false);
-    renumber_twice(&rt, alloc, &mut plan);
+    read_and_renumber(&rt, rt.alloc());
 }

@@ -27,15 +27,17 @@ pub(crate) fn bits_of(rt: &impl Abort, alloc: Global, digits: &str) -> Bits {
 /// The bits of this one of eight telegrams of 830 bits, which differ in N_PIG alone.
 pub(crate) fn one_of_eight(rt: &impl Abort, alloc: Global, digits: &str, pig: u32) -> Bits {
     let mut bits = bits_of(rt, alloc, digits);
-    put_pig(rt, &mut bits, pig);
+    // N_PIG, and behind it N_TOTAL of 7, M_DUP of 0 and six bits of M_MCOUNT.
+    put_number(rt, &mut bits, 9, (pig << 11) | 1855);
     bits
 }
 
-fn put_pig(rt: &impl Abort, bits: &mut Bits, pig: u32) {
-    assert!(rt; pig < 8);
-    assert!(rt; bits.len() == 830);
-    // N_PIG, and behind it N_TOTAL of 7.
-    bits.put(9, 6, 8 * pig + 7);
+/// Puts a number of 14 bits into a telegram.
+pub(crate) fn put_number(rt: &impl Abort, bits: &mut Bits, at: usize, number: u32) {
+    assert!(rt; number < 16384);
+    assert!(rt; at < 100);
+    assert!(rt; bits.len() >= 210);
+    bits.put(at, 14, number);
 }
 
 /// Puts the bits of a telegram behind the others.
@@ -92,23 +94,18 @@ pub(crate) fn plan_of(rt: &impl Abort, alloc: Global, texts: &[&str]) -> Plan {
 }
 
 /// Whether a plan shows these bits.
-pub(crate) fn shows_bits(rt: &impl Abort, plan: &Plan, groups: &Vec<Vec<Bits>>) -> bool {
+fn shows_bits(rt: &impl Abort, plan: &Plan, groups: &Vec<Vec<Bits>>) -> bool {
     plan.shown().expect(rt, "memory") == *groups
-}
-
-/// Whether a plan shows these groups.
-pub(crate) fn shows(rt: &impl Abort, alloc: Global, plan: &Plan, texts: &[&str]) -> bool {
-    shows_bits(rt, plan, &groups_of(rt, alloc, texts))
-}
-
-/// What a plan shows.
-pub(crate) fn shown(rt: &impl Abort, plan: &Plan) -> Vec<Vec<Bits>> {
-    plan.shown().expect(rt, "memory")
 }
 
 /// That a plan shows these bits.
 pub(crate) fn check_shown(rt: &impl Abort, plan: &Plan, groups: &Vec<Vec<Bits>>) {
     assert!(rt; shows_bits(rt, plan, groups));
+}
+
+/// That a plan shows these groups.
+pub(crate) fn check_texts(rt: &impl Abort, alloc: Global, plan: &Plan, texts: &[&str]) {
+    check_shown(rt, plan, &groups_of(rt, alloc, texts));
 }
 
 /// That a plan shows these bits, and that its names agree.

@@ -55,23 +55,28 @@ fn bits_of_each(rt: &impl Abort, alloc: Global, words: &[&str]) -> Vec<Bits> {
     telegrams
 }
 
-/// That reading these telegrams gave a group that shows them, or this refusal.
-fn check_read(
+/// Whether reading these telegrams gave a group that shows them, or this refusal.
+fn is_read(
     rt: &impl Abort,
     group: &Result<Group, Refusal>,
     telegrams: &Vec<Bits>,
     refusal: Option<Refusal>,
-) {
+) -> bool {
     match group {
-        Ok(group) => assert!(rt; refusal.is_none() & group_shows(rt, group, telegrams)),
-        Err(fault) => assert!(rt; refusal == Some(*fault)),
+        Ok(group) => refusal.is_none() & group_shows(rt, group, telegrams),
+        Err(fault) => refusal == Some(*fault),
     }
+}
+
+/// Whether a group of these telegrams is refused for this reason, or read.
+fn reads(rt: &impl Abort, alloc: Global, words: &[&str], refusal: Option<Refusal>) -> bool {
+    let group = Group::read(alloc, bits_of_each(rt, alloc, words));
+    is_read(rt, &group, &bits_of_each(rt, alloc, words), refusal)
 }
 
 /// That a group of these telegrams is refused for this reason, or read.
 fn check(rt: &impl Abort, alloc: Global, words: &[&str], refusal: Option<Refusal>) {
-    let group = Group::read(alloc, bits_of_each(rt, alloc, words));
-    check_read(rt, &group, &bits_of_each(rt, alloc, words), refusal);
+    assert!(rt; reads(rt, alloc, words, refusal));
 }
 
 /// Groups that are read.
@@ -107,14 +112,18 @@ const REFUSED: &[(&[&str], Refusal)] = &[
     (&["a1007f80"], Refusal::BadLength),
 ];
 
-#[test]
-fn reads_groups(rt: HostRuntime) {
+fn read_each(rt: &impl Abort, alloc: Global) {
     for words in GROUPS.iter() {
-        check(&rt, rt.alloc(), *words, None);
+        check(rt, alloc, *words, None);
     }
     for (words, refusal) in REFUSED.iter() {
-        check(&rt, rt.alloc(), *words, Some(*refusal));
+        check(rt, alloc, *words, Some(*refusal));
     }
+}
+
+#[test]
+fn reads_groups(rt: HostRuntime) {
+    read_each(&rt, rt.alloc());
 }
 
 /// A plan that is read shows its groups again.
@@ -142,9 +151,13 @@ fn check_refused(rt: &impl Abort, alloc: Global, texts: &[&str], refusal: Refusa
     assert!(rt; read(rt, alloc, texts).err() == Some(refusal));
 }
 
+fn refuse_each(rt: &impl Abort, alloc: Global) {
+    for (texts, refusal) in REFUSED_PLANS.iter() {
+        check_refused(rt, alloc, *texts, *refusal);
+    }
+}
+
 #[test]
 fn refuses_plans_of_groups(rt: HostRuntime) {
-    for (texts, refusal) in REFUSED_PLANS.iter() {
-        check_refused(&rt, rt.alloc(), *texts, *refusal);
-    }
+    refuse_each(&rt, rt.alloc());
 }

@@ -7,7 +7,7 @@ ghost use Rattle.balise_rules.specs.Tagged.{find};
 ghost use Rattle.balise_rules.specs.Tags.{same_tag};
 ghost use Rattle.balise_rules.specs.Telegram.{Telegram, version_of};
 
-use crate::plans::{plan_of, shows, telegrams};
+use crate::plans::{check_texts, plan_of, telegrams};
 use crate::walking::agrees;
 use balise_plan::{Balise, Bits, Group, GroupTag, Packet, PacketTag, Plan, Refusal, Spot, Var};
 use balise_telegram::TelegramFault;
@@ -60,20 +60,20 @@ pub(crate) fn follow_over(rt: &impl Abort, alloc: Global, texts: &[&str], rows: 
 }
 
 fn follow_from(rt: &impl Abort, alloc: Global, plan: &mut Plan, texts: &[&str], rows: &[Row]) {
-    assert!(rt; shows(rt, alloc, plan, texts));
+    check_texts(rt, alloc, plan, texts);
     follow_each(rt, alloc, plan, rows);
 }
 
 pub(crate) fn follow_each(rt: &impl Abort, alloc: Global, plan: &mut Plan, rows: &[Row]) {
     for (step, answer, texts) in rows.iter() {
         follow(rt, alloc, plan, *step, *answer);
-        assert!(rt; shows(rt, alloc, plan, *texts));
+        check_texts(rt, alloc, plan, *texts);
         assert!(rt; agrees(rt, alloc, plan, KNOWN));
     }
 }
 
 /// Makes a change, and looks at its answer and at the count of changes.
-fn follow(
+pub(crate) fn follow(
     rt: &impl Abort,
     alloc: Global,
     plan: &mut Plan,
@@ -88,12 +88,7 @@ fn follow(
 }
 
 /// Makes a change.
-pub(crate) fn make(
-    rt: &impl Abort,
-    alloc: Global,
-    plan: &mut Plan,
-    step: Step,
-) -> Result<Answer, Refusal> {
+fn make(rt: &impl Abort, alloc: Global, plan: &mut Plan, step: Step) -> Result<Answer, Refusal> {
     assert!(rt; plan.changes() < 1000);
     match step {
         Step::Field(g, t, p, var, k, value) => old(plan.set_field(g, t, p, var, k, value)),
@@ -186,19 +181,17 @@ fn put_packet(
 
 /// That a packet that came back has the bits that it was read from.
 fn check_back(rt: &impl Abort, alloc: Global, packet: &Packet, bits: &Bits, end: usize) {
+    assert!(rt; is_back(rt, alloc, packet, bits, end));
+}
+
+fn is_back(rt: &impl Abort, alloc: Global, packet: &Packet, bits: &Bits, end: usize) -> bool {
     let mut back = Bits::new(alloc);
-    write(rt, packet, &mut back);
-    check_start(rt, &back, bits, end);
+    packet.write(&mut back).is_ok() & starts(rt, &back, bits, end)
 }
 
-fn write(rt: &impl Abort, packet: &Packet, out: &mut Bits) {
-    assert!(rt; packet.write(out).is_ok());
-}
-
-/// That these are the first bits of others, up to a place.
-fn check_start(rt: &impl Abort, start: &Bits, bits: &Bits, end: usize) {
-    assert!(rt; end <= bits.len());
-    assert!(rt; *start == bits.slice(0, end).expect(rt, "memory"));
+/// Whether these are the first bits of others, up to a place.
+fn starts(rt: &impl Abort, start: &Bits, bits: &Bits, end: usize) -> bool {
+    (end <= bits.len()) && (*start == bits.slice(0, end).expect(rt, "memory"))
 }
 
 /// Puts a group in under a tag that is new. One that is refused comes back as it was.
@@ -214,7 +207,7 @@ fn put_group(
     match put_new(rt, plan, spot, g, group) {
         Ok(()) => Ok(Answer::Done),
         Err((fault, back)) => {
-            assert!(rt; group_shows(rt, &back, &telegrams(rt, alloc, text)));
+            check_group(rt, &back, &telegrams(rt, alloc, text));
             Err(fault)
         }
     }
@@ -259,6 +252,10 @@ fn take_group(rt: &impl Abort, plan: &mut Plan, tag: GroupTag) -> (Group, Option
 pub(crate) fn put_back(rt: &impl Abort, plan: &mut Plan, tag: GroupTag) {
     let (group, next) = take_group(rt, plan, tag);
     put_there(rt, plan, Spot::Before(next), tag, group);
+}
+
+fn check_group(rt: &impl Abort, group: &Group, wanted: &Vec<Bits>) {
+    assert!(rt; group_shows(rt, group, wanted));
 }
 
 /// Whether a group, as it was read, shows these telegrams.

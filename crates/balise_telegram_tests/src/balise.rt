@@ -1,22 +1,21 @@
 //! A balise's telegram: packed until packets are put in, taken out or moved, and open from then on.
 
-use crate::changes::{FLIPPED, HEADER_PUT, LINKING, NAMED, RENAMED, TURNED, check_links};
-use crate::full::FULL;
+use crate::changes::{FLIPPED, HEADER_PUT, LINKING, NAMED, RENAMED, TURNED, has_links};
+use crate::full::{FULL, holds};
 use crate::packets::EXCHANGED;
 use crate::put::{put_after, taken};
-use crate::telegrams::{TWO_PACKETS, balise, check_bits, check_shown};
+use crate::telegrams::{
+    HeadSet, SET, TWO_PACKETS, balise, check_shown, sets, sets_head, shows, shows_bits,
+};
 use balise_telegram::{Balise, Bits, PacketTag, TelegramFault, Var};
 use std::alloc::Global;
 use std::process::Abort;
 
-/// What reading these bits answers, where the telegram that holds them shows them again.
-pub(crate) fn read_packed(rt: &impl Abort, bits: &Bits) -> Option<TelegramFault> {
+/// Whether reading these bits answers this, and what is read shows them again.
+pub(crate) fn reads(rt: &impl Abort, bits: &Bits, fault: Option<TelegramFault>) -> bool {
     match Balise::read(bits.copy().expect(rt, "memory")) {
-        Ok(balise) => {
-            check_bits(rt, &balise, bits);
-            None
-        }
-        Err(fault) => Some(fault),
+        Ok(balise) => fault.is_none() & shows_bits(rt, &balise, bits),
+        Err(why) => fault == Some(why),
     }
 }
 
@@ -39,155 +38,168 @@ pub(crate) fn form(rt: &impl Abort, alloc: Global, is_open: bool) -> Balise {
 
 pub(crate) const FORMS: [bool; 2] = [false, true];
 
-/// That the telegram tells the packet at a place, which takes back this restriction.
-fn check_told(rt: &impl Abort, balise: &Balise, i: u32, restriction: u32) {
+/// Whether the telegram tells the packet at a place, which takes back this restriction.
+fn tells(rt: &impl Abort, balise: &Balise, i: u32, restriction: u32) -> bool {
     let tag = PacketTag::Base(i);
-    assert!(rt; balise.packet_at(i as usize) == Some((tag, 66)));
-    check_tagged(rt, balise, tag, restriction);
-    check_fields_at(rt, balise, i as usize, restriction);
+    (balise.packet_at(i as usize) == Some((tag, 66)))
+        & (balise.field(tag, Var::NidTsr, 0) == Some(restriction))
+        & balise.field(tag, Var::NidTsr, 1).is_none()
+        & has_links(rt, balise, tag, &[])
+        & has_fields_at(rt, balise, i as usize, restriction)
 }
 
-/// That the telegram tells the packet with this tag.
-fn check_tagged(rt: &impl Abort, balise: &Balise, tag: PacketTag, restriction: u32) {
-    assert!(rt; balise.field(tag, Var::NidTsr, 0) == Some(restriction));
-    assert!(rt; balise.field(tag, Var::NidTsr, 1).is_none());
-    check_links(rt, balise, tag, &[]);
+fn has_fields_at(rt: &impl Abort, balise: &Balise, i: usize, restriction: u32) -> bool {
+    match balise.fields_at(i).expect(rt, "memory") {
+        Some(fields) => are_fields(fields.as_slice(), restriction),
+        None => false,
+    }
 }
 
-fn check_fields_at(rt: &impl Abort, balise: &Balise, i: usize, restriction: u32) {
-    let fields = balise.fields_at(i).expect(rt, "memory");
-    check_fields(rt, fields.expect(rt, "a packet").as_slice(), restriction);
+/// Whether these are the fields of a packet that takes back this restriction.
+fn are_fields(fields: &[(Var, u32, u32)], restriction: u32) -> bool {
+    (fields.len() == 4)
+        && (fields[0] == (Var::NidPacket, 0, 66))
+        && (fields[3] == (Var::NidTsr, 0, restriction))
 }
 
-/// That these are the fields of a packet that takes back this restriction.
-fn check_fields(rt: &impl Abort, fields: &[(Var, u32, u32)], restriction: u32) {
-    assert!(rt; fields.len() == 4);
-    assert!(rt; fields[0] == (Var::NidPacket, 0, 66));
-    assert!(rt; fields[3] == (Var::NidTsr, 0, restriction));
+/// Whether the telegram has no packet under this tag.
+fn lacks(rt: &impl Abort, balise: &Balise, tag: PacketTag) -> bool {
+    balise.field(tag, Var::NidTsr, 0).is_none() & has_links(rt, balise, tag, &[])
 }
 
-/// That the telegram has no packet under this tag.
-fn check_lacking(rt: &impl Abort, balise: &Balise, tag: PacketTag) {
-    assert!(rt; balise.field(tag, Var::NidTsr, 0).is_none());
-    check_links(rt, balise, tag, &[]);
+/// Variables and what a header has for them.
+const VALUES: [(Var, Option<u32>); 7] = [
+    (Var::QUpdown, Some(1)),
+    (Var::MVersion, Some(33)),
+    (Var::MMcount, Some(255)),
+    (Var::NidC, Some(5)),
+    (Var::NidBg, Some(100)),
+    (Var::QLink, Some(1)),
+    (Var::NidTsr, None),
+];
+
+/// Whether its header is told.
+fn tells_head(balise: &Balise) -> bool {
+    let mut same = (balise.version() == 33) & (balise.identity() == NAMED);
+    for (var, value) in &VALUES {
+        same &= balise.head(*var) == *value;
+    }
+    same
 }
 
-/// That the telegram of two packets is as wide and as full as it is.
-fn check_sizes(rt: &impl Abort, balise: &Balise) {
-    assert!(rt; balise.width() == 210);
-    assert!(rt; balise.count() == 2);
-    assert!(rt; balise.used() == 120);
-    assert!(rt; balise.room() == 90);
-    assert!(rt; balise.version() == 33);
+/// Whether no third packet is told.
+fn tells_no_third(rt: &impl Abort, balise: &Balise) -> bool {
+    balise.packet_at(2).is_none()
+        & balise.packet_at(4294967296).is_none()
+        & balise.fields_at(2).expect(rt, "memory").is_none()
+        & lacks(rt, balise, PacketTag::Base(2))
+        & lacks(rt, balise, PacketTag::Fresh(0))
 }
 
-/// That its header is told.
-fn check_head(rt: &impl Abort, balise: &Balise) {
-    assert!(rt; balise.identity() == NAMED);
-    assert!(rt; balise.head(Var::MMcount) == Some(255));
-    assert!(rt; balise.head(Var::NidTsr).is_none());
+/// Whether the telegram of two packets tells what it holds.
+fn answers(rt: &impl Abort, balise: &Balise) -> bool {
+    shows(rt, balise, TWO_PACKETS)
+        & holds(balise, 2, 120, 90, 210)
+        & tells_head(balise)
+        & tells(rt, balise, 0, 5)
+        & tells(rt, balise, 1, 7)
+        & tells_no_third(rt, balise)
 }
 
-/// That no third packet is told.
-fn check_no_third(rt: &impl Abort, balise: &Balise) {
-    assert!(rt; balise.packet_at(2).is_none());
-    assert!(rt; balise.packet_at(4294967296).is_none());
-    assert!(rt; balise.fields_at(2).expect(rt, "memory").is_none());
-    check_lacking(rt, balise, PacketTag::Base(2));
-    check_lacking(rt, balise, PacketTag::Fresh(0));
-}
-
-/// That the telegram of two packets tells what it holds.
 fn check_answers(rt: &impl Abort, balise: &Balise) {
-    check_shown(rt, balise, TWO_PACKETS);
-    check_sizes(rt, balise);
-    check_head(rt, balise);
-    check_told(rt, balise, 0, 5);
-    check_told(rt, balise, 1, 7);
-    check_no_third(rt, balise);
+    assert!(rt; answers(rt, balise));
+}
+
+fn check_answers_of_each(rt: &impl Abort, alloc: Global) {
+    for is_open in &FORMS {
+        check_answers(rt, &form(rt, alloc, *is_open));
+    }
 }
 
 #[test]
 fn answers_in_either_form(rt: HostRuntime) {
-    for is_open in &FORMS {
-        check_answers(&rt, &form(&rt, rt.alloc(), *is_open));
-    }
+    check_answers_of_each(&rt, rt.alloc());
 }
 
 /// Puts two variables into the header.
 #[tactic(auto, unfolding(balise_rules::specs::Variables::width_of))]
-fn put_header(rt: &impl Abort, balise: &mut Balise) {
+fn put_header(balise: &mut Balise) {
     balise.put_head(Var::NPig, 3);
     balise.put_head(Var::NidBg, 777);
-    assert!(rt; balise.head(Var::NPig) == Some(3));
-    assert!(rt; balise.head(Var::NidBg) == Some(777));
 }
 
-/// That the second packet's restriction is set, and set back.
-fn check_set(rt: &impl Abort, balise: &mut Balise) {
-    let second = PacketTag::Base(1);
-    assert!(rt; balise.set_field(second, Var::NidTsr, 0, 9) == Ok(7));
-    let set = "a1007f80a03250900f82a1201f09ffffffffffffffffffffffffc0";
-    check_shown(rt, balise, set);
-    assert!(rt; balise.set_field(second, Var::NidTsr, 0, 7) == Ok(9));
+/// Whether two variables that are put into the header are told.
+fn puts_header(balise: &mut Balise) -> bool {
+    put_header(balise);
+    (balise.head(Var::NPig) == Some(3)) & (balise.head(Var::NidBg) == Some(777))
 }
 
-/// That the first packet is turned, and turned back.
-fn check_turned(rt: &impl Abort, balise: &mut Balise) {
+/// Whether the first packet is turned, and turned back.
+fn turns(rt: &impl Abort, balise: &mut Balise) -> bool {
     let first = PacketTag::Base(0);
     balise.flip_dir(first);
-    check_shown(rt, balise, TURNED);
+    let turned = shows(rt, balise, TURNED);
     balise.flip_dir(first);
+    turned & shows(rt, balise, TWO_PACKETS)
 }
 
 /// Variables of the header, values for them, and the ones before.
-const HEAD_SET: [(Var, u32, u32); 4] = [
+const HEAD_SET: [HeadSet; 4] = [
     (Var::MMcount, 7, 255),
     (Var::MMcount, 255, 7),
     (Var::MDup, 2, 0),
     (Var::MDup, 0, 2),
 ];
 
-fn set_head(rt: &impl Abort, balise: &mut Balise, var: Var, value: u32, old: u32) {
-    assert!(rt; balise.set_head(var, value) == Ok(old));
-    assert!(rt; balise.head(var) == Some(value));
+fn sets_heads(balise: &mut Balise) -> bool {
+    let mut same = true;
+    for row in &HEAD_SET {
+        same &= sets_head(balise, row);
+    }
+    same
 }
 
-/// That a field, a direction and variables of the header of two packets' telegram are changed, and changed back but
+/// Whether a field, a direction and variables of the header of two packets' telegram are changed, and changed back but
 /// for the last ones.
+fn changes(rt: &impl Abort, balise: &mut Balise) -> bool {
+    sets(rt, balise, 9, 7, SET)
+        & sets(rt, balise, 7, 9, TWO_PACKETS)
+        & turns(rt, balise)
+        & sets_heads(balise)
+        & shows(rt, balise, TWO_PACKETS)
+        & puts_header(balise)
+        & shows(rt, balise, HEADER_PUT)
+}
+
 fn check_changes(rt: &impl Abort, balise: &mut Balise) {
-    check_set(rt, balise);
-    check_turned(rt, balise);
-    for (var, value, old) in &HEAD_SET {
-        set_head(rt, balise, *var, *value, *old);
+    assert!(rt; changes(rt, balise));
+}
+
+fn check_changes_of_each(rt: &impl Abort, alloc: Global) {
+    for is_open in &FORMS {
+        check_changes(rt, &mut form(rt, alloc, *is_open));
     }
-    check_shown(rt, balise, TWO_PACKETS);
-    put_header(rt, balise);
-    check_shown(rt, balise, HEADER_PUT);
 }
 
 #[test]
 fn changes_in_place_in_either_form(rt: HostRuntime) {
-    for is_open in &FORMS {
-        check_changes(&rt, &mut form(&rt, rt.alloc(), *is_open));
-    }
+    check_changes_of_each(&rt, rt.alloc());
 }
 
-/// That the one element is flipped, flipped back and renamed.
-fn change_element(rt: &impl Abort, balise: &mut Balise, element: PacketTag) {
+/// Whether the one element is flipped, flipped back and renamed.
+fn changes_element(rt: &impl Abort, balise: &mut Balise, element: PacketTag) -> bool {
     balise.flip_link(element, 0);
-    check_shown(rt, balise, FLIPPED);
+    let flipped = shows(rt, balise, FLIPPED);
     balise.flip_link(element, 0);
     balise.name_link(element, 0, 777);
-    check_shown(rt, balise, RENAMED);
+    flipped & shows(rt, balise, RENAMED)
 }
 
 /// That the one element and the header of a telegram are changed.
 fn check_element(rt: &impl Abort, balise: &mut Balise) {
     let element = PacketTag::Base(0);
-    check_links(rt, balise, element, &[NAMED]);
-    change_element(rt, balise, element);
-    put_header(rt, balise);
+    assert!(rt; has_links(rt, balise, element, &[NAMED]));
+    assert!(rt; changes_element(rt, balise, element) & puts_header(balise));
 }
 
 /// Opens a telegram of one packet, which takes it out and puts it in.
@@ -197,62 +209,79 @@ fn open_one(rt: &impl Abort, balise: &mut Balise) {
     assert!(rt; put_after(rt, balise, None, element, packet).is_ok());
 }
 
-#[test]
-fn changes_elements_and_header_in_either_form(rt: HostRuntime) {
+fn check_form(rt: &impl Abort, balise: &mut Balise, is_open: bool) {
+    if is_open {
+        open_one(rt, balise);
+    }
+    check_element(rt, balise);
+}
+
+fn check_elements_of_each(rt: &impl Abort, alloc: Global) {
     for is_open in &FORMS {
-        let mut balise = balise(&rt, rt.alloc(), LINKING);
-        if *is_open {
-            open_one(&rt, &mut balise);
-        }
-        check_element(&rt, &mut balise);
+        check_form(rt, &mut balise(rt, alloc, LINKING), *is_open);
     }
 }
 
-/// That a telegram of two packets shows them when a copy is changed.
-fn check_copy_changed(rt: &impl Abort, balise: &Balise) {
-    check_changes(rt, &mut balise.copy().expect(rt, "memory"));
-    check_shown(rt, balise, TWO_PACKETS);
+#[test]
+fn changes_elements_and_header_in_either_form(rt: HostRuntime) {
+    check_elements_of_each(&rt, rt.alloc());
 }
 
-/// That a copy shows two packets when the telegram is changed.
-fn check_copy(rt: &impl Abort, balise: &mut Balise) {
-    check_copy_changed(rt, balise);
+/// Whether a telegram of two packets shows them when a copy is changed.
+fn stays(rt: &impl Abort, balise: &Balise) -> bool {
+    changes(rt, &mut balise.copy().expect(rt, "memory")) & shows(rt, balise, TWO_PACKETS)
+}
+
+/// Whether a copy shows two packets when the telegram is changed.
+fn copy_stays(rt: &impl Abort, balise: &mut Balise) -> bool {
     let copy = balise.copy().expect(rt, "memory");
-    change(rt, balise);
-    check_shown(rt, &copy, TWO_PACKETS);
+    change(balise) & shows(rt, &copy, TWO_PACKETS)
 }
 
-fn change(rt: &impl Abort, balise: &mut Balise) {
-    assert!(rt; balise.set_field(PacketTag::Base(0), Var::NidTsr, 0, 9) == Ok(5));
-    assert!(rt; balise.take(PacketTag::Base(1)).is_ok());
-    assert!(rt; balise.set_head(Var::MDup, 2) == Ok(0));
+fn change(balise: &mut Balise) -> bool {
+    (balise.set_field(PacketTag::Base(0), Var::NidTsr, 0, 9) == Ok(5))
+        & balise.take(PacketTag::Base(1)).is_ok()
+        & (balise.set_head(Var::MDup, 2) == Ok(0))
+}
+
+fn check_copy(rt: &impl Abort, balise: &mut Balise) {
+    assert!(rt; stays(rt, balise) & copy_stays(rt, balise));
+}
+
+fn check_copy_of_each(rt: &impl Abort, alloc: Global) {
+    for is_open in &FORMS {
+        check_copy(rt, &mut form(rt, alloc, *is_open));
+    }
 }
 
 #[test]
 fn copies_either_form(rt: HostRuntime) {
+    check_copy_of_each(&rt, rt.alloc());
+}
+
+/// Whether the digits are written in place of what was written.
+fn writes(balise: &Balise, digits: &mut Vec<u8>, text: &str) -> bool {
+    balise.hex_into(digits).is_ok() & (digits.as_slice() == text.as_bytes())
+}
+
+/// That they are so twice.
+fn check_written(rt: &impl Abort, balise: &Balise, digits: &mut Vec<u8>, text: &str) {
+    assert!(rt; writes(balise, digits, text) & writes(balise, digits, text));
+}
+
+fn write_each(rt: &impl Abort, alloc: Global, digits: &mut Vec<u8>) {
+    check_written(rt, &balise(rt, alloc, FULL), digits, FULL);
     for is_open in &FORMS {
-        check_copy(&rt, &mut form(&rt, rt.alloc(), *is_open));
+        check_written(rt, &form(rt, alloc, *is_open), digits, TWO_PACKETS);
     }
 }
 
-/// That the digits are written in place of what was written.
-fn check_written(rt: &impl Abort, balise: &Balise, digits: &mut Vec<u8>, text: &str) {
-    assert!(rt; balise.hex_into(digits).is_ok());
-    assert!(rt; digits.as_slice() == text.as_bytes());
-}
-
-/// The same twice.
-fn check_written_twice(rt: &impl Abort, balise: &Balise, digits: &mut Vec<u8>, text: &str) {
-    check_written(rt, balise, digits, text);
-    check_written(rt, balise, digits, text);
+fn check_digits(rt: &impl Abort, alloc: Global) {
+    let mut digits = Vec::new(alloc);
+    write_each(rt, alloc, &mut digits);
 }
 
 #[test]
 fn writes_the_digits_of_either_form(rt: HostRuntime) {
-    let alloc = rt.alloc();
-    let mut digits = Vec::new(alloc);
-    check_written_twice(&rt, &balise(&rt, alloc, FULL), &mut digits, FULL);
-    for is_open in &FORMS {
-        check_written_twice(&rt, &form(&rt, alloc, *is_open), &mut digits, TWO_PACKETS);
-    }
+    check_digits(&rt, rt.alloc());
 }

@@ -25,16 +25,15 @@ pub(crate) const TURNED: &str = "a1007f80a03250800f82a1201f07fffffffffffffffffff
 /// The two packets under a header with N_PIG 3 and NID_BG 777.
 pub(crate) const HEADER_PUT: &str = "a1307f80a184d0900f82a1201f07ffffffffffffffffffffffffc0";
 
-/// That the packet with this tag has these elements.
-pub(crate) fn check_links(rt: &impl Abort, telegram: &Balise, tag: PacketTag, links: &[Id]) {
-    let told = telegram.links(tag).expect(rt, "memory");
-    assert!(rt; told.as_slice() == links);
+/// Whether the packet with this tag has these elements.
+pub(crate) fn has_links(rt: &impl Abort, telegram: &Balise, tag: PacketTag, links: &[Id]) -> bool {
+    telegram.links(tag).expect(rt, "memory").as_slice() == links
 }
 
 /// That changes of an element or a packet that isn't there change nothing.
 fn change_lacking(rt: &impl Abort, telegram: &mut Balise) {
     let (first, lacking) = (PacketTag::Base(0), PacketTag::Base(1));
-    check_links(rt, telegram, lacking, &[]);
+    assert!(rt; has_links(rt, telegram, lacking, &[]));
     telegram.flip_link(first, 1);
     telegram.flip_link(lacking, 0);
     telegram.name_link(first, 1, 777);

@@ -1,9 +1,9 @@
 //! The fullest telegrams: 33 packets, and packets as long as the room. No contract says that memory is
 //! there, so each call that takes it is made on them.
 
-use crate::packets::{read_packet, shift_after, shift_before};
-use crate::put::{check_handed_back, put_after, put_before};
-use crate::telegrams::{balise, check_shown};
+use crate::packets::{Moved, check_moves, read_packet};
+use crate::put::{hands_back, put_after, put_before, put_beside};
+use crate::telegrams::{balise, check_shown, shows};
 use balise_telegram::{Balise, Bits, Packet, PacketTag, TelegramFault};
 use std::alloc::Global;
 use std::process::Abort;
@@ -43,12 +43,12 @@ fn taken(rt: &impl Abort, telegram: &mut Balise, tag: PacketTag) -> Packet {
     telegram.take(tag).expect(rt, "a packet").0
 }
 
-/// That the telegram tells of 33 packets.
-fn check_filled(rt: &impl Abort, telegram: &Balise) {
-    assert!(rt; telegram.width() == 830);
-    assert!(rt; telegram.count() == 33);
-    assert!(rt; telegram.used() == 817);
-    assert!(rt; telegram.room() == 13);
+/// Whether the telegram holds so many packets, and bits used and left of so many.
+pub(crate) fn holds(balise: &Balise, count: usize, used: usize, room: usize, width: usize) -> bool {
+    (balise.count() == count)
+        & (balise.used() == used)
+        & (balise.room() == room)
+        & (balise.width() == width)
 }
 
 /// That the telegram and a copy show 33 packets.
@@ -57,11 +57,13 @@ fn check_copy(rt: &impl Abort, telegram: &Balise) {
     check_shown(rt, &telegram.copy().expect(rt, "memory"), FULL);
 }
 
+fn check_full(rt: &impl Abort, alloc: Global) {
+    check_copy(rt, &balise(rt, alloc, FULL));
+}
+
 #[test]
 fn shows_and_copies_33_packets(rt: HostRuntime) {
-    let telegram = balise(&rt, rt.alloc(), FULL);
-    check_filled(&rt, &telegram);
-    check_copy(&rt, &telegram);
+    check_full(&rt, rt.alloc());
 }
 
 /// Moves a packet into another telegram, behind the last one.
@@ -87,10 +89,8 @@ fn fill_from_front(rt: &impl Abort, from: &mut Balise, to: &mut Balise) {
     check_shown(rt, from, LONG);
 }
 
-#[test]
-fn fills_a_telegram_from_the_front(rt: HostRuntime) {
-    let mut from = balise(&rt, rt.alloc(), FULL);
-    fill_from_front(&rt, &mut from, &mut balise(&rt, rt.alloc(), LONG));
+fn check_front(rt: &impl Abort, alloc: Global, from: &mut Balise) {
+    fill_from_front(rt, from, &mut balise(rt, alloc, LONG));
 }
 
 /// Moves a packet into another telegram, before the first one.
@@ -118,80 +118,85 @@ fn fill_from_back(rt: &impl Abort, from: &mut Balise, to: &mut Balise) {
     check_shown(rt, from, LONG);
 }
 
+fn check_back(rt: &impl Abort, alloc: Global, from: &mut Balise) {
+    fill_from_back(rt, from, &mut balise(rt, alloc, LONG));
+}
+
+fn check_both(rt: &impl Abort, alloc: Global) {
+    check_front(rt, alloc, &mut balise(rt, alloc, FULL));
+    check_back(rt, alloc, &mut balise(rt, alloc, FULL));
+}
+
 #[test]
-fn fills_a_telegram_from_the_back(rt: HostRuntime) {
-    let mut from = balise(&rt, rt.alloc(), FULL);
-    fill_from_back(&rt, &mut from, &mut balise(&rt, rt.alloc(), LONG));
+fn fills_a_telegram_from_either_end(rt: HostRuntime) {
+    check_both(&rt, rt.alloc());
 }
 
 const LAST: PacketTag = PacketTag::Base(32);
 
-/// That the last packet is moved to the front and back.
-fn check_moved_after(rt: &impl Abort, telegram: &mut Balise) {
-    shift_after(rt, telegram, LAST, None, None);
-    check_shown(rt, telegram, LAST_FIRST);
-    let (first, before) = (PacketTag::Base(0), PacketTag::Base(31));
-    shift_after(rt, telegram, LAST, Some(before), Some(first));
-    check_shown(rt, telegram, FULL);
-}
-
-/// The same, told the neighbour that it is moved before.
-fn check_moved_before(rt: &impl Abort, telegram: &mut Balise) {
-    let first = Some(PacketTag::Base(0));
-    shift_before(rt, telegram, LAST, first, None);
-    check_shown(rt, telegram, LAST_FIRST);
-    shift_before(rt, telegram, LAST, None, first);
-    check_shown(rt, telegram, FULL);
-}
+const AMONG_33: &[Moved] = &[
+    (false, LAST, None, None, LAST_FIRST),
+    (
+        false,
+        LAST,
+        Some(PacketTag::Base(31)),
+        Some(PacketTag::Base(0)),
+        FULL,
+    ),
+    (true, LAST, Some(PacketTag::Base(0)), None, LAST_FIRST),
+    (true, LAST, None, Some(PacketTag::Base(0)), FULL),
+];
 
 #[test]
 fn moves_among_33_packets(rt: HostRuntime) {
-    let mut telegram = balise(&rt, rt.alloc(), FULL);
-    check_moved_after(&rt, &mut telegram);
-    check_moved_before(&rt, &mut telegram);
+    check_moves(&rt, rt.alloc(), FULL, AMONG_33);
+}
+
+/// Whether a packet is put in that is as long as the room.
+fn fills(rt: &impl Abort, telegram: &mut Balise, ahead: bool, packet: Packet, after: &str) -> bool {
+    let put = put_beside(rt, telegram, ahead, None, PacketTag::Fresh(1), packet);
+    put.is_ok() & shows(rt, telegram, after) & (telegram.room() == 0)
+}
+
+/// That a packet that is as long as the room is put in, taken out and put in again.
+fn check_fitting(rt: &impl Abort, telegram: &mut Balise, fitting: &Bits, after: &str) {
+    assert!(rt; fills(rt, telegram, false, read_packet(rt, fitting), after));
+    let packet = taken(rt, telegram, PacketTag::Fresh(1));
+    assert!(rt; fills(rt, telegram, true, packet, after));
 }
 
 /// That a packet that is longer than the room is handed back.
 fn check_longer(rt: &impl Abort, telegram: &mut Balise, longer: &Bits, before: &str) {
-    check_handed_back(rt, telegram, longer, None, TelegramFault::NoRoom);
+    assert!(rt; hands_back(rt, telegram, longer, None, TelegramFault::NoRoom));
     check_shown(rt, telegram, before);
 }
 
-/// That a packet that is as long as the room is put in.
-fn check_fitting(rt: &impl Abort, telegram: &mut Balise, fitting: &Bits, after: &str) {
-    let packet = read_packet(rt, fitting);
-    assert!(rt; put_after(rt, telegram, None, PacketTag::Fresh(1), packet).is_ok());
-    check_shown(rt, telegram, after);
-    assert!(rt; telegram.room() == 0);
-}
+/// The digits of a telegram, the width of a packet that fits, and the digits with it.
+type Room = (&'static str, u32, &'static str);
 
-/// That it is taken out and put in again.
-fn check_again(rt: &impl Abort, telegram: &mut Balise, after: &str) {
-    let tag = PacketTag::Fresh(1);
-    let packet = taken(rt, telegram, tag);
-    assert!(rt; put_before(rt, telegram, None, tag, packet).is_ok());
-    check_shown(rt, telegram, after);
-}
-
-/// The digits of a telegram, the widths of a packet that is too long and of one that fits, and the digits with the
-/// latter.
-type Room = (&'static str, u32, u32, &'static str);
-
-const ROOMS: [Room; 2] = [
-    (SHORT, 153, 152, SHORT_FILLED),
-    (LONG, 773, 772, LONG_FILLED),
-];
+const ROOMS: [Room; 2] = [(SHORT, 152, SHORT_FILLED), (LONG, 772, LONG_FILLED)];
 
 fn check_room(rt: &impl Abort, alloc: Global, telegram: &mut Balise, row: &Room) {
+    check_fitting(rt, telegram, &opaque(rt, alloc, row.1), row.2);
+}
+
+/// The digits of a telegram, and the width of a packet that is too long.
+const LONGER: [(&str, u32); 3] = [(SHORT, 153), (LONG, 773), (FULL, 23)];
+
+fn check_no_room(rt: &impl Abort, alloc: Global, telegram: &mut Balise, row: &(&str, u32)) {
     check_longer(rt, telegram, &opaque(rt, alloc, row.1), row.0);
-    check_fitting(rt, telegram, &opaque(rt, alloc, row.2), row.3);
-    check_again(rt, telegram, row.3);
+}
+
+fn check_rooms(rt: &impl Abort, alloc: Global) {
+    for row in &ROOMS {
+        check_room(rt, alloc, &mut balise(rt, alloc, row.0), row);
+    }
+    for row in &LONGER {
+        check_no_room(rt, alloc, &mut balise(rt, alloc, row.0), row);
+    }
 }
 
 #[test]
 fn fills_the_room_exactly(rt: HostRuntime) {
-    let alloc = rt.alloc();
-    for row in &ROOMS {
-        check_room(&rt, alloc, &mut balise(&rt, alloc, row.0), row);
-    }
+    check_rooms(&rt, rt.alloc());
 }

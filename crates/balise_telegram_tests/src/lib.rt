@@ -14,4 +14,6 @@ mod packets;
 #[cfg(test)]
 mod put;
 #[cfg(test)]
+mod same;
+#[cfg(test)]
 mod telegrams;

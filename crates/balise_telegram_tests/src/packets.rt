@@ -1,8 +1,9 @@
 //! Packets taken out and put in, with digits made by hand.
 
+use crate::balise::{FORMS, form};
 use crate::full::SHORT;
-use crate::put::{check_handed_back, put_after, put_before};
-use crate::telegrams::{TWO_PACKETS, balise, check_shown};
+use crate::put::{hands_back, put_beside};
+use crate::telegrams::{TWO_PACKETS, balise, check_shown, shows};
 use balise_telegram::{Balise, Bits, Packet, PacketTag, TelegramFault, Var};
 use std::alloc::Global;
 use std::process::Abort;
@@ -42,280 +43,325 @@ pub(crate) fn read_packet(rt: &impl Abort, bits: &Bits) -> Packet {
 
 pub(crate) type Outcome = Result<(), (TelegramFault, Packet)>;
 
-/// That a packet of these bits was handed back, and why.
-pub(crate) fn check_back(rt: &impl Abort, outcome: Outcome, bits: &Bits, fault: TelegramFault) {
-    let (why, packet) = outcome.err().expect(rt, "a fault");
-    assert!(rt; why == fault);
-    check_packet(rt, &packet, bits);
-}
-
-/// That the packet has these bits.
-fn check_packet(rt: &impl Abort, packet: &Packet, bits: &Bits) {
-    let mut given = bits.slice(0, 0).expect(rt, "memory");
-    packet.write(&mut given).expect(rt, "memory");
-    assert!(rt; given == *bits);
-}
-
-/// That the packets have these restrictions, in order.
-fn check_order(rt: &impl Abort, telegram: &Balise, restrictions: &[u32]) {
-    assert!(rt; telegram.count() == restrictions.len());
-    for (i, restriction) in restrictions.iter().enumerate() {
-        let (tag, _) = telegram.packet_at(i).expect(rt, "a packet");
-        assert!(rt; telegram.field(tag, Var::NidTsr, 0) == Some(*restriction));
+/// Whether a packet of these bits was handed back for this reason.
+pub(crate) fn is_back(
+    rt: &impl Abort,
+    outcome: Outcome,
+    bits: &Bits,
+    fault: TelegramFault,
+) -> bool {
+    match outcome {
+        Err((why, packet)) => (why == fault) & has_bits(rt, &packet, bits),
+        Ok(()) => false,
     }
 }
 
-/// Puts a packet in after the anchor.
-fn put_behind(
+/// Whether the packet has these bits.
+fn has_bits(rt: &impl Abort, packet: &Packet, bits: &Bits) -> bool {
+    let mut given = bits.slice(0, 0).expect(rt, "memory");
+    packet.write(&mut given).is_ok() & (given == *bits)
+}
+
+/// Whether the packets have these restrictions, in order.
+fn has_order(telegram: &Balise, restrictions: &[u32]) -> bool {
+    let mut same = telegram.count() == restrictions.len();
+    for (i, restriction) in restrictions.iter().enumerate() {
+        match telegram.packet_at(i) {
+            Some((tag, _)) => same &= telegram.field(tag, Var::NidTsr, 0) == Some(*restriction),
+            None => same = false,
+        }
+    }
+    same
+}
+
+/// Puts a packet in before the one beside it, or after it.
+fn put(
     rt: &impl Abort,
     alloc: Global,
     telegram: &mut Balise,
+    ahead: bool,
     text: &str,
-    anchor: Option<PacketTag>,
+    beside: Option<PacketTag>,
     tag: PacketTag,
 ) {
     let packet = packet(rt, alloc, text);
-    assert!(rt; put_after(rt, telegram, anchor, tag, packet).is_ok());
+    assert!(rt; put_beside(rt, telegram, ahead, beside, tag, packet).is_ok());
 }
 
-/// Puts a packet in before the neighbour.
-fn put_ahead(
-    rt: &impl Abort,
-    alloc: Global,
-    telegram: &mut Balise,
-    text: &str,
-    next: Option<PacketTag>,
-    tag: PacketTag,
-) {
-    let packet = packet(rt, alloc, text);
-    assert!(rt; put_before(rt, telegram, next, tag, packet).is_ok());
-}
-
-/// That a packet is put into a telegram that shows these digits, and then those, and taken out again.
-fn check_put(rt: &impl Abort, alloc: Global, telegram: &mut Balise, before: &str, after: &str) {
-    let tag = PacketTag::Fresh(1);
-    put_behind(rt, alloc, telegram, FIVE, None, tag);
-    check_shown(rt, telegram, after);
-    take_last(rt, telegram, tag);
-    check_shown(rt, telegram, before);
-    assert!(rt; telegram.take(tag).is_err());
-}
-
-/// Takes the last packet out, which takes back restriction 5.
-fn take_last(rt: &impl Abort, telegram: &mut Balise, tag: PacketTag) {
+/// Whether the one packet is taken out, which takes back restriction 5.
+fn takes(rt: &impl Abort, telegram: &mut Balise, tag: PacketTag) -> bool {
     let (packet, next) = telegram.take(tag).expect(rt, "a packet");
-    assert!(rt; packet.field(Var::NidTsr, 0) == Some(5));
-    assert!(rt; next.is_none());
+    (packet.field(Var::NidTsr, 0) == Some(5)) & next.is_none()
+}
+
+/// Whether a telegram shows its one packet, and without it these digits.
+fn takes_out(
+    rt: &impl Abort,
+    telegram: &mut Balise,
+    tag: PacketTag,
+    before: &str,
+    after: &str,
+) -> bool {
+    shows(rt, telegram, after)
+        & (telegram.packet_at(0) == Some((tag, 66)))
+        & takes(rt, telegram, tag)
+        & shows(rt, telegram, before)
+        & telegram.take(tag).is_err()
+}
+
+/// Whether a packet is put in last, the digits of a telegram, and those with the packet.
+const EMPTY: &[(bool, &str, &str)] = &[
+    (false, SHORT, ONE_PACKET),
+    (true, SHORT, ONE_PACKET),
+    (false, COLOURED, COLOURED_ONE),
+];
+
+/// That a packet is put in and taken out again.
+fn check_put(rt: &impl Abort, alloc: Global, telegram: &mut Balise, row: &(bool, &str, &str)) {
+    let tag = PacketTag::Fresh(1);
+    put(rt, alloc, telegram, row.0, FIVE, None, tag);
+    assert!(rt; takes_out(rt, telegram, tag, row.1, row.2));
+}
+
+fn check_each_put(rt: &impl Abort, alloc: Global) {
+    for row in EMPTY.iter() {
+        check_put(rt, alloc, &mut balise(rt, alloc, row.1), row);
+    }
 }
 
 #[test]
 fn puts_a_packet_in_and_takes_it_out(rt: HostRuntime) {
-    let alloc = rt.alloc();
-    for (before, after) in &[(SHORT, ONE_PACKET), (COLOURED, COLOURED_ONE)] {
-        let mut telegram = balise(&rt, alloc, before);
-        check_put(&rt, alloc, &mut telegram, before, after);
+    check_each_put(&rt, rt.alloc());
+}
+
+/// Whether a packet is put in before or after another one, which one, its tag, the restrictions of all packets then,
+/// and what stands behind it.
+type Row = (
+    bool,
+    Option<PacketTag>,
+    PacketTag,
+    [u32; 3],
+    Option<PacketTag>,
+);
+
+const BESIDE: &[Row] = &[
+    (
+        false,
+        Some(FIRST),
+        PacketTag::Fresh(1),
+        [5, 9, 7],
+        Some(SECOND),
+    ),
+    (false, Some(SECOND), PacketTag::Fresh(2), [5, 7, 9], None),
+    (false, None, PacketTag::Fresh(3), [9, 5, 7], Some(FIRST)),
+    (
+        true,
+        Some(FIRST),
+        PacketTag::Fresh(1),
+        [9, 5, 7],
+        Some(FIRST),
+    ),
+    (
+        true,
+        Some(SECOND),
+        PacketTag::Fresh(2),
+        [5, 9, 7],
+        Some(SECOND),
+    ),
+    (true, None, PacketTag::Fresh(3), [5, 7, 9], None),
+];
+
+/// What stands behind the packet that is taken out.
+pub(crate) fn behind(rt: &impl Abort, telegram: &mut Balise, tag: PacketTag) -> Option<PacketTag> {
+    telegram.take(tag).expect(rt, "a packet").1
+}
+
+/// Whether the packet that was put in is changed and taken out.
+fn changes_and_takes(rt: &impl Abort, telegram: &mut Balise, row: &Row) -> bool {
+    has_order(telegram, &row.3)
+        & (telegram.set_field(row.2, Var::NidTsr, 0, 8) == Ok(9))
+        & (behind(rt, telegram, row.2) == row.4)
+        & shows(rt, telegram, TWO_PACKETS)
+}
+
+/// That a packet is put in, changed and taken out.
+fn check_each_beside(rt: &impl Abort, alloc: Global, telegram: &mut Balise) {
+    for row in BESIDE.iter() {
+        put(rt, alloc, telegram, row.0, NINE, row.1, row.2);
+        assert!(rt; changes_and_takes(rt, telegram, row));
     }
 }
 
-/// The packet that one is put in beside, its tag, and the restrictions of all packets then.
-type Row = (Option<PacketTag>, PacketTag, [u32; 3]);
-
-const AFTER: [Row; 3] = [
-    (Some(FIRST), PacketTag::Fresh(1), [5, 9, 7]),
-    (Some(SECOND), PacketTag::Fresh(2), [5, 7, 9]),
-    (None, PacketTag::Fresh(3), [9, 5, 7]),
-];
-
-const BEFORE: [Row; 3] = [
-    (Some(FIRST), PacketTag::Fresh(1), [9, 5, 7]),
-    (Some(SECOND), PacketTag::Fresh(2), [5, 9, 7]),
-    (None, PacketTag::Fresh(3), [5, 7, 9]),
-];
-
-/// That a packet is put in after the anchor, changed and taken out.
-fn check_after(rt: &impl Abort, alloc: Global, telegram: &mut Balise, row: &Row) {
-    put_behind(rt, alloc, telegram, NINE, row.0, row.1);
-    check_order(rt, telegram, &row.2);
-    assert!(rt; telegram.set_field(row.1, Var::NidTsr, 0, 8) == Ok(9));
-    assert!(rt; telegram.take(row.1).is_ok());
-    check_shown(rt, telegram, TWO_PACKETS);
+fn check_beside(rt: &impl Abort, alloc: Global) {
+    check_each_beside(rt, alloc, &mut balise(rt, alloc, TWO_PACKETS));
 }
 
 #[test]
-fn puts_a_packet_in_after_another(rt: HostRuntime) {
-    let alloc = rt.alloc();
-    let mut telegram = balise(&rt, alloc, TWO_PACKETS);
-    for row in &AFTER {
-        check_after(&rt, alloc, &mut telegram, row);
-    }
-}
-
-/// That a packet is put in before the neighbour, and taken out.
-fn check_before(rt: &impl Abort, alloc: Global, telegram: &mut Balise, row: &Row) {
-    put_ahead(rt, alloc, telegram, NINE, row.0, row.1);
-    check_order(rt, telegram, &row.2);
-    let was = telegram.take(row.1).expect(rt, "a packet").1;
-    assert!(rt; was == row.0);
-    check_shown(rt, telegram, TWO_PACKETS);
-}
-
-#[test]
-fn puts_a_packet_in_before_another(rt: HostRuntime) {
-    let alloc = rt.alloc();
-    let mut telegram = balise(&rt, alloc, TWO_PACKETS);
-    for row in &BEFORE {
-        check_before(&rt, alloc, &mut telegram, row);
-    }
+fn puts_a_packet_in_beside_another(rt: HostRuntime) {
+    check_beside(&rt, rt.alloc());
 }
 
 /// Puts two packets in last.
 fn put_two_last(rt: &impl Abort, alloc: Global, telegram: &mut Balise) {
-    put_ahead(rt, alloc, telegram, FIVE, None, PacketTag::Fresh(0));
-    put_ahead(rt, alloc, telegram, FIVE, None, PacketTag::Fresh(1));
-    assert!(rt; telegram.room() == 28);
+    for n in 0..2 {
+        put(rt, alloc, telegram, true, FIVE, None, PacketTag::Fresh(n));
+    }
 }
 
-/// That a packet is handed back that is put in beside one that is lacking, or that there is no room for.
+/// That what is lacking isn't changed, and that a packet is handed back that is put in beside it, or that there is no
+/// room for.
 fn check_refused(rt: &impl Abort, alloc: Global, telegram: &mut Balise, given: &Bits) {
-    check_handed_back(
-        rt,
-        telegram,
-        given,
-        Some(LACKING),
-        TelegramFault::NoSuchPacket,
-    );
+    telegram.flip_dir(LACKING);
+    telegram.flip_link(FIRST, 0);
+    telegram.name_link(FIRST, 0, 777);
+    let (beside, lacking) = (Some(LACKING), TelegramFault::NoSuchPacket);
+    assert!(rt; hands_back(rt, telegram, given, beside, lacking));
     check_shown(rt, telegram, TWO_PACKETS);
     put_two_last(rt, alloc, telegram);
-    check_handed_back(rt, telegram, given, None, TelegramFault::NoRoom);
-    check_order(rt, telegram, &[5, 7, 5, 5]);
+    assert!(rt; telegram.room() == 28);
+    assert!(rt; hands_back(rt, telegram, given, None, TelegramFault::NoRoom));
+    assert!(rt; has_order(telegram, &[5, 7, 5, 5]));
+}
+
+fn check_each_refused(rt: &impl Abort, alloc: Global, given: &Bits) {
+    for is_open in &FORMS {
+        check_refused(rt, alloc, &mut form(rt, alloc, *is_open), given);
+    }
+}
+
+fn check_nine(rt: &impl Abort, alloc: Global) {
+    check_each_refused(rt, alloc, &packet_bits(rt, alloc, NINE));
 }
 
 #[test]
-fn hands_a_refused_packet_back(rt: HostRuntime) {
-    let alloc = rt.alloc();
-    let mut telegram = balise(&rt, alloc, TWO_PACKETS);
-    check_refused(&rt, alloc, &mut telegram, &packet_bits(&rt, alloc, NINE));
-    assert!(rt; TelegramFault::NoRoom.refusal().number() == 20);
+fn a_refused_change_leaves_either_form(rt: HostRuntime) {
+    check_nine(&rt, rt.alloc());
 }
 
-/// Moves a packet behind the anchor, and says what stood behind it.
-pub(crate) fn shift_after(
-    rt: &impl Abort,
+/// Moves a packet before the one beside it, or after it.
+fn shift(
     telegram: &mut Balise,
+    ahead: bool,
     tag: PacketTag,
-    anchor: Option<PacketTag>,
-    next: Option<PacketTag>,
-) {
-    assert!(rt; telegram.shift_after(tag, anchor) == Ok(next));
+    beside: Option<PacketTag>,
+) -> Result<Option<PacketTag>, TelegramFault> {
+    if ahead {
+        telegram.shift_before(tag, beside)
+    } else {
+        telegram.shift_after(tag, beside)
+    }
 }
 
-/// That one of two packets is moved behind the other and back.
-fn check_moved_after(rt: &impl Abort, telegram: &mut Balise) {
-    shift_after(rt, telegram, FIRST, Some(SECOND), Some(SECOND));
-    check_shown(rt, telegram, EXCHANGED);
-    shift_after(rt, telegram, FIRST, None, None);
-    check_shown(rt, telegram, TWO_PACKETS);
+/// Whether a packet is moved before or after another one, the two, what stood behind it, and the digits then.
+pub(crate) type Moved = (
+    bool,
+    PacketTag,
+    Option<PacketTag>,
+    Option<PacketTag>,
+    &'static str,
+);
+
+const MOVED: &[Moved] = &[
+    (false, FIRST, Some(SECOND), Some(SECOND), EXCHANGED),
+    (false, FIRST, None, None, TWO_PACKETS),
+    (true, SECOND, Some(FIRST), None, EXCHANGED),
+    (true, SECOND, None, Some(FIRST), TWO_PACKETS),
+];
+
+fn moves(rt: &impl Abort, telegram: &mut Balise, row: &Moved) -> bool {
+    (shift(telegram, row.0, row.1, row.2) == Ok(row.3)) & shows(rt, telegram, row.4)
 }
 
-/// A packet, what it is moved beside, what stood behind it, and the restrictions of all packets then.
-type Moved = (PacketTag, Option<PacketTag>, Option<PacketTag>, [u32; 3]);
+fn check_each_move(rt: &impl Abort, telegram: &mut Balise, rows: &[Moved]) {
+    for row in rows.iter() {
+        assert!(rt; moves(rt, telegram, row));
+    }
+}
+
+/// That packets of a telegram are moved.
+pub(crate) fn check_moves(rt: &impl Abort, alloc: Global, text: &str, rows: &[Moved]) {
+    check_each_move(rt, &mut balise(rt, alloc, text), rows);
+}
+
+#[test]
+fn moves_one_of_two_packets(rt: HostRuntime) {
+    check_moves(&rt, rt.alloc(), TWO_PACKETS, MOVED);
+}
 
 const THIRD: PacketTag = PacketTag::Fresh(1);
 
-const MOVED_AFTER: [Moved; 3] = [
-    (THIRD, Some(FIRST), None, [5, 9, 7]),
-    (FIRST, Some(THIRD), Some(THIRD), [9, 5, 7]),
-    (SECOND, None, None, [7, 9, 5]),
+/// The same with the restrictions of three packets.
+type Ordered = (
+    bool,
+    PacketTag,
+    Option<PacketTag>,
+    Option<PacketTag>,
+    [u32; 3],
+);
+
+const ORDERED: &[Ordered] = &[
+    (false, THIRD, Some(FIRST), None, [5, 9, 7]),
+    (false, FIRST, Some(THIRD), Some(THIRD), [9, 5, 7]),
+    (false, SECOND, None, None, [7, 9, 5]),
+    (true, FIRST, Some(SECOND), None, [5, 7, 9]),
+    (true, FIRST, Some(THIRD), Some(SECOND), [7, 5, 9]),
+    (true, THIRD, Some(FIRST), None, [7, 9, 5]),
 ];
 
-#[test]
-fn moves_a_packet(rt: HostRuntime) {
-    let mut telegram = balise(&rt, rt.alloc(), TWO_PACKETS);
-    check_moved_after(&rt, &mut telegram);
-    put_ahead(&rt, rt.alloc(), &mut telegram, NINE, None, THIRD);
-    for (tag, anchor, next, order) in &MOVED_AFTER {
-        shift_after(&rt, &mut telegram, *tag, *anchor, *next);
-        check_order(&rt, &telegram, order);
+fn orders(telegram: &mut Balise, row: &Ordered) -> bool {
+    (shift(telegram, row.0, row.1, row.2) == Ok(row.3)) & has_order(telegram, &row.4)
+}
+
+fn check_each_order(rt: &impl Abort, alloc: Global, telegram: &mut Balise) {
+    put(rt, alloc, telegram, true, NINE, None, THIRD);
+    for row in ORDERED.iter() {
+        assert!(rt; orders(telegram, row));
     }
 }
 
-/// Moves a packet before the neighbour, and says what stood behind it.
-pub(crate) fn shift_before(
-    rt: &impl Abort,
-    telegram: &mut Balise,
-    tag: PacketTag,
-    next: Option<PacketTag>,
-    was: Option<PacketTag>,
-) {
-    assert!(rt; telegram.shift_before(tag, next) == Ok(was));
+fn check_orders(rt: &impl Abort, alloc: Global) {
+    check_each_order(rt, alloc, &mut balise(rt, alloc, TWO_PACKETS));
 }
-
-/// That one of two packets is moved before the other and back.
-fn check_moved_before(rt: &impl Abort, telegram: &mut Balise) {
-    shift_before(rt, telegram, SECOND, Some(FIRST), None);
-    check_shown(rt, telegram, EXCHANGED);
-    shift_before(rt, telegram, SECOND, None, Some(FIRST));
-    check_shown(rt, telegram, TWO_PACKETS);
-}
-
-const MOVED_BEFORE: [Moved; 2] = [
-    (FIRST, Some(THIRD), Some(SECOND), [7, 5, 9]),
-    (THIRD, Some(FIRST), None, [7, 9, 5]),
-];
 
 #[test]
-fn moves_a_packet_before_a_neighbour(rt: HostRuntime) {
-    let mut telegram = balise(&rt, rt.alloc(), TWO_PACKETS);
-    check_moved_before(&rt, &mut telegram);
-    put_ahead(&rt, rt.alloc(), &mut telegram, NINE, None, THIRD);
-    for (tag, next, was, order) in &MOVED_BEFORE {
-        shift_before(&rt, &mut telegram, *tag, *next, *was);
-        check_order(&rt, &telegram, order);
+fn moves_one_of_three_packets(rt: HostRuntime) {
+    check_orders(&rt, rt.alloc());
+}
+
+/// Whether a packet is to be moved before or after another one, the two, and why it isn't.
+type Refused = (bool, PacketTag, Option<PacketTag>, TelegramFault);
+
+const NOT_MOVED: &[Refused] = &[
+    (true, LACKING, Some(LACKING), TelegramFault::NoSuchPacket),
+    (true, FIRST, Some(LACKING), TelegramFault::NoSuchPacket),
+    (true, SECOND, None, TelegramFault::SamePlace),
+    (true, FIRST, Some(SECOND), TelegramFault::SamePlace),
+    (true, SECOND, Some(SECOND), TelegramFault::SamePlace),
+    (false, LACKING, Some(LACKING), TelegramFault::NoSuchPacket),
+    (false, LACKING, None, TelegramFault::NoSuchPacket),
+    (false, FIRST, Some(LACKING), TelegramFault::NoSuchPacket),
+    (false, FIRST, None, TelegramFault::SamePlace),
+    (false, SECOND, Some(FIRST), TelegramFault::SamePlace),
+    (false, SECOND, Some(SECOND), TelegramFault::SamePlace),
+];
+
+fn is_not_moved(rt: &impl Abort, telegram: &mut Balise, row: &Refused) -> bool {
+    (shift(telegram, row.0, row.1, row.2) == Err(row.3)) & shows(rt, telegram, TWO_PACKETS)
+}
+
+fn check_each_not_moved(rt: &impl Abort, telegram: &mut Balise) {
+    for row in NOT_MOVED.iter() {
+        assert!(rt; is_not_moved(rt, telegram, row));
     }
 }
 
-/// A packet, what it is to be moved beside, and why it isn't.
-type Refused = (PacketTag, Option<PacketTag>, TelegramFault);
-
-const NOT_BEFORE: [Refused; 5] = [
-    (LACKING, Some(LACKING), TelegramFault::NoSuchPacket),
-    (FIRST, Some(LACKING), TelegramFault::NoSuchPacket),
-    (SECOND, None, TelegramFault::SamePlace),
-    (FIRST, Some(SECOND), TelegramFault::SamePlace),
-    (SECOND, Some(SECOND), TelegramFault::SamePlace),
-];
-
-const NOT_AFTER: [Refused; 5] = [
-    (LACKING, Some(LACKING), TelegramFault::NoSuchPacket),
-    (FIRST, Some(LACKING), TelegramFault::NoSuchPacket),
-    (FIRST, None, TelegramFault::SamePlace),
-    (SECOND, Some(FIRST), TelegramFault::SamePlace),
-    (SECOND, Some(SECOND), TelegramFault::SamePlace),
-];
-
-fn check_not_before(rt: &impl Abort, telegram: &mut Balise, row: &Refused) {
-    assert!(rt; telegram.shift_before(row.0, row.1) == Err(row.2));
-    check_shown(rt, telegram, TWO_PACKETS);
-}
-
-fn check_not_after(rt: &impl Abort, telegram: &mut Balise, row: &Refused) {
-    assert!(rt; telegram.shift_after(row.0, row.1) == Err(row.2));
-    check_shown(rt, telegram, TWO_PACKETS);
-}
-
-#[test]
-fn says_why_a_packet_is_not_moved_before(rt: HostRuntime) {
-    let mut telegram = balise(&rt, rt.alloc(), TWO_PACKETS);
-    for row in &NOT_BEFORE {
-        check_not_before(&rt, &mut telegram, row);
+fn check_not_moved(rt: &impl Abort, alloc: Global) {
+    for is_open in &FORMS {
+        check_each_not_moved(rt, &mut form(rt, alloc, *is_open));
     }
 }
 
 #[test]
 fn says_why_a_packet_is_not_moved(rt: HostRuntime) {
-    let mut telegram = balise(&rt, rt.alloc(), TWO_PACKETS);
-    for row in &NOT_AFTER {
-        check_not_after(&rt, &mut telegram, row);
-    }
-    assert!(rt; TelegramFault::SamePlace.refusal().number() == 22);
+    check_not_moved(&rt, rt.alloc());
 }

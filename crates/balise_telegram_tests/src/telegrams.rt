@@ -1,6 +1,6 @@
 //! Telegrams of known digits, each read and shown again.
 
-use crate::balise::{FORMS, form, read_packed};
+use crate::balise::{FORMS, form, reads};
 use crate::changes::LINKING;
 use crate::full::SHORT;
 use crate::packets::{COLOURED, ONE_PACKET};
@@ -8,9 +8,9 @@ use balise_telegram::{Balise, Bits, PacketTag, Refusal, TelegramFault, Var};
 use std::alloc::Global;
 use std::process::Abort;
 
-/// That the telegram shows these bits.
-pub(crate) fn check_bits(rt: &impl Abort, telegram: &Balise, bits: &Bits) {
-    assert!(rt; telegram.shown().expect(rt, "memory") == *bits);
+/// Whether the telegram shows these bits.
+pub(crate) fn shows_bits(rt: &impl Abort, telegram: &Balise, bits: &Bits) -> bool {
+    telegram.shown().expect(rt, "memory") == *bits
 }
 
 /// That reading these digits answers this, and that what is read shows them.
@@ -22,7 +22,7 @@ fn check_read(
     fault: Option<TelegramFault>,
 ) {
     let bits = Bits::from_hex(alloc, text, len).expect(rt, "digits");
-    assert!(rt; read_packed(rt, &bits) == fault);
+    assert!(rt; reads(rt, &bits, fault));
 }
 
 /// Digits of telegrams of 210 bits.
@@ -72,39 +72,23 @@ const FAULTS: [(&str, usize, TelegramFault); 6] = [
     ("a1007f80", 32, TelegramFault::BadLength),
 ];
 
+/// Whether faults are refusals of these numbers.
+fn tells_refusals() -> bool {
+    (TelegramFault::NoEnd.refusal().number() == 6)
+        & (TelegramFault::NoRoom.refusal().number() == 20)
+        & (TelegramFault::SamePlace.refusal().number() == 22)
+        & (Refusal::from(TelegramFault::PacketCut) == Refusal::PacketCut)
+}
+
 #[test]
 fn says_the_first_fault(rt: HostRuntime) {
     for (text, len, fault) in &FAULTS {
         check_read(&rt, rt.alloc(), text, *len, Some(*fault));
     }
-    assert!(rt; TelegramFault::NoEnd.refusal().number() == 6);
-    assert!(rt; Refusal::from(TelegramFault::PacketCut) == Refusal::PacketCut);
+    assert!(rt; tells_refusals());
 }
 
-/// Variables and what a header has for them.
-const VALUES: [(Var, Option<u32>); 7] = [
-    (Var::QUpdown, Some(1)),
-    (Var::MVersion, Some(33)),
-    (Var::MMcount, Some(255)),
-    (Var::NidC, Some(5)),
-    (Var::NidBg, Some(100)),
-    (Var::QLink, Some(1)),
-    (Var::NidTsr, None),
-];
-
-fn check_header(rt: &impl Abort, telegram: &Balise) {
-    for (var, value) in &VALUES {
-        assert!(rt; telegram.head(*var) == *value);
-    }
-    assert!(rt; telegram.version() == 33);
-}
-
-#[test]
-fn tells_the_header(rt: HostRuntime) {
-    check_header(&rt, &balise(&rt, rt.alloc(), SHORT));
-}
-
-// Two packets 66, which take back restrictions 5 and 7.
+/// Two packets 66, which take back restrictions 5 and 7.
 pub(crate) const TWO_PACKETS: &str = "a1007f80a03250900f82a1201f07ffffffffffffffffffffffffc0";
 
 /// The bits of a telegram's digits, 54 or 208 of them.
@@ -117,14 +101,19 @@ pub(crate) fn balise(rt: &impl Abort, alloc: Global, text: &str) -> Balise {
     Balise::read(bits(rt, alloc, text)).expect(rt, "a telegram")
 }
 
-/// That these are the bits of a telegram's digits.
-pub(crate) fn check_digits(rt: &impl Abort, shown: &Bits, text: &str) {
-    assert!(rt; *shown == bits(rt, shown.allocator(), text));
+/// Whether these are the bits of a telegram's digits.
+fn are_digits(rt: &impl Abort, shown: &Bits, text: &str) -> bool {
+    *shown == bits(rt, shown.allocator(), text)
+}
+
+/// Whether the telegram shows these digits.
+pub(crate) fn shows(rt: &impl Abort, telegram: &Balise, text: &str) -> bool {
+    are_digits(rt, &telegram.shown().expect(rt, "memory"), text)
 }
 
 /// That the telegram shows these digits.
 pub(crate) fn check_shown(rt: &impl Abort, telegram: &Balise, text: &str) {
-    check_digits(rt, &telegram.shown().expect(rt, "memory"), text);
+    assert!(rt; shows(rt, telegram, text));
 }
 
 /// A variable of a packet, a value, and why it isn't set.
@@ -153,31 +142,32 @@ const NOT_SET: [NotSet; 6] = [
     (SECOND, Var::NidTsr, 0, 256, TelegramFault::ValueTooWide),
 ];
 
-fn check_not_set(rt: &impl Abort, telegram: &mut Balise, row: &NotSet) {
-    assert!(rt; telegram.set_field(row.0, row.1, row.2, row.3) == Err(row.4));
-    check_shown(rt, telegram, TWO_PACKETS);
+/// Whether a field isn't set, and nothing changes.
+fn is_not_set(rt: &impl Abort, telegram: &mut Balise, row: &NotSet) -> bool {
+    (telegram.set_field(row.0, row.1, row.2, row.3) == Err(row.4))
+        & shows(rt, telegram, TWO_PACKETS)
 }
 
-/// That the second packet's restriction is set, and that these digits are shown then.
-fn check_set(rt: &impl Abort, telegram: &mut Balise, value: u32, old: u32, text: &str) {
-    assert!(rt; telegram.set_field(SECOND, Var::NidTsr, 0, value) == Ok(old));
-    check_shown(rt, telegram, text);
+/// Whether the second packet's restriction is set, and these digits are shown then.
+pub(crate) fn sets(
+    rt: &impl Abort,
+    telegram: &mut Balise,
+    value: u32,
+    old: u32,
+    text: &str,
+) -> bool {
+    (telegram.set_field(SECOND, Var::NidTsr, 0, value) == Ok(old)) & shows(rt, telegram, text)
 }
 
-fn set_fields(rt: &impl Abort, telegram: &mut Balise) {
+/// The two packets, the second one with restriction 9.
+pub(crate) const SET: &str = "a1007f80a03250900f82a1201f09ffffffffffffffffffffffffc0";
+
+fn set_fields(rt: &impl Abort, telegram: &mut Balise) -> bool {
+    let mut same = true;
     for row in &NOT_SET {
-        check_not_set(rt, telegram, row);
+        same &= is_not_set(rt, telegram, row);
     }
-    let set = "a1007f80a03250900f82a1201f09ffffffffffffffffffffffffc0";
-    check_set(rt, telegram, 9, 7, set);
-    check_set(rt, telegram, 7, 9, TWO_PACKETS);
-}
-
-#[test]
-fn sets_a_field_of_a_packet(rt: HostRuntime) {
-    for is_open in &FORMS {
-        set_fields(&rt, &mut form(&rt, rt.alloc(), *is_open));
-    }
+    same & sets(rt, telegram, 9, 7, SET) & sets(rt, telegram, 7, 9, TWO_PACKETS)
 }
 
 /// A variable of the header, a value, and why it isn't set.
@@ -192,13 +182,13 @@ const HEAD_NOT_SET: [HeadNotSet; 6] = [
     (Var::QLink, 2, TelegramFault::ValueTooWide),
 ];
 
-fn check_head_not_set(rt: &impl Abort, telegram: &mut Balise, row: &HeadNotSet) {
-    assert!(rt; telegram.set_head(row.0, row.1) == Err(row.2));
-    check_shown(rt, telegram, TWO_PACKETS);
+/// Whether a variable of the header isn't set, and nothing changes.
+fn head_is_not_set(rt: &impl Abort, telegram: &mut Balise, row: &HeadNotSet) -> bool {
+    (telegram.set_head(row.0, row.1) == Err(row.2)) & shows(rt, telegram, TWO_PACKETS)
 }
 
 /// A variable of the header, a value, and the one before.
-type HeadSet = (Var, u32, u32);
+pub(crate) type HeadSet = (Var, u32, u32);
 
 const HEAD_SET: [HeadSet; 3] = [
     (Var::MDup, 2, 0),
@@ -206,25 +196,36 @@ const HEAD_SET: [HeadSet; 3] = [
     (Var::QLink, 0, 1),
 ];
 
-fn check_head_set(rt: &impl Abort, telegram: &mut Balise, row: &HeadSet) {
-    assert!(rt; telegram.set_head(row.0, row.1) == Ok(row.2));
-    assert!(rt; telegram.head(row.0) == Some(row.1));
+/// Whether a variable of the header is set.
+pub(crate) fn sets_head(telegram: &mut Balise, row: &HeadSet) -> bool {
+    (telegram.set_head(row.0, row.1) == Ok(row.2)) & (telegram.head(row.0) == Some(row.1))
 }
 
-fn set_heads(rt: &impl Abort, telegram: &mut Balise) {
+/// The two packets under the header that was set.
+const HEAD_IS_SET: &str = "a1010380a03210900f82a1201f07ffffffffffffffffffffffffc0";
+
+fn set_heads(rt: &impl Abort, telegram: &mut Balise) -> bool {
+    let mut same = true;
     for row in &HEAD_NOT_SET {
-        check_head_not_set(rt, telegram, row);
+        same &= head_is_not_set(rt, telegram, row);
     }
     for row in &HEAD_SET {
-        check_head_set(rt, telegram, row);
+        same &= sets_head(telegram, row);
     }
-    let set = "a1010380a03210900f82a1201f07ffffffffffffffffffffffffc0";
-    check_shown(rt, telegram, set);
+    same & shows(rt, telegram, HEAD_IS_SET)
+}
+
+fn check_set(rt: &impl Abort, telegram: &mut Balise) {
+    assert!(rt; set_fields(rt, telegram) & set_heads(rt, telegram));
+}
+
+fn check_set_of_each(rt: &impl Abort, alloc: Global) {
+    for is_open in &FORMS {
+        check_set(rt, &mut form(rt, alloc, *is_open));
+    }
 }
 
 #[test]
-fn sets_a_variable_of_the_header(rt: HostRuntime) {
-    for is_open in &FORMS {
-        set_heads(&rt, &mut form(&rt, rt.alloc(), *is_open));
-    }
+fn sets_variables_of_packets_and_of_the_header(rt: HostRuntime) {
+    check_set_of_each(&rt, rt.alloc());
 }

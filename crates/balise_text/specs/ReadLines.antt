@@ -1,5 +1,5 @@
 -- The lines that this crate reads, as those of the definitions.
-use Rattle.balise_edits.specs.Lines.{line_in}
+use Rattle.balise_commands.specs.Lines.{line_in}
 use Rattle.balise_text.specs.JournalLines as lines
 use Rattle.balise_text.specs.declared.journal_line.JournalLine.{JournalLine}
 use Rattle.balise_text.specs.declared.journal_line.JournalLine.TheVariants.{Entry, Undone, Edits}

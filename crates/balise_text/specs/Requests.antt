@@ -1,6 +1,6 @@
 -- What a command of this crate asks of a session.
 use Rattle.balise_rules.specs.Session as session
-use Rattle.balise_history.specs.Commands.{command_of}
+use Rattle.balise_commands.specs.Commands.{command_of}
 use Rattle.balise_text.specs.declared.request.Request.{Request}
 use Rattle.balise_text.specs.declared.request.Request.TheVariants.{Edit, Undo, Redo, Strike}
 

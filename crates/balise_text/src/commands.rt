@@ -1,7 +1,7 @@
 //! What the words of an edit's command ask for.
 
 ghost use Rattle.std.specs.Prelude.{◌≡◌, ◌≢◌, Err, IfErr, IfOk, Ok, option_map, true};
-ghost use Rattle.balise_history.specs.Commands.{command_of};
+ghost use Rattle.balise_commands.specs.Commands.{command_of};
 ghost use Rattle.balise_text.specs.Commands.{add_words, command_words, delete_words, drop_words, insert_words, is_digits_kind, move_words, renumber_words, set_head_words, set_words, turn_words};
 ghost use Rattle.balise_text.specs.Left.{left};
 ghost use Rattle.balise_text.specs.Words.{or_bad};
@@ -10,7 +10,7 @@ use crate::digit_words::read_telegrams;
 use crate::kind::Kind;
 use crate::words::Parts;
 use balise_bits::Bits;
-use balise_history::Command;
+use balise_commands::Command;
 use balise_rules::Refusal;
 use std::alloc::Global;
 

@@ -1,7 +1,7 @@
 //! What the words of an entry of a journal say.
 
 ghost use Rattle.std.specs.Prelude.{◌≡◌, ◌≢◌, Err, IfErr, IfOk, Ok, option_map, true};
-ghost use Rattle.balise_edits.specs.Lines.{line_in};
+ghost use Rattle.balise_commands.specs.Lines.{line_in};
 ghost use Rattle.balise_bits.specs.Faults.{refusal_of};
 ghost use Rattle.balise_text.specs.Commands.{is_digits_kind};
 ghost use Rattle.balise_text.specs.JournalLines.{add_entry, delete_entry, drop_entry, entry_words, insert_entry, move_entry, renumber_entry, set_entry, set_head_entry, told, turn_entry};
@@ -12,7 +12,7 @@ use crate::digit_words::read_telegrams;
 use crate::kind::Kind;
 use crate::words::Parts;
 use balise_bits::{Bits, BitsFault};
-use balise_history::{Line, LineEdit, Noted};
+use balise_commands::{Line, LineEdit, Noted};
 use balise_rules::Refusal;
 use std::alloc::Global;
 

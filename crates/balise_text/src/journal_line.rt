@@ -1,7 +1,7 @@
 //! A line of a journal behind the first, as it is read.
 
 ghost use Rattle.std.specs.Prelude.{◌≡◌, ◌≢◌, Err, IfErr, IfOk, Ok, option_map, true};
-ghost use Rattle.balise_edits.specs.Lines.{line_in};
+ghost use Rattle.balise_commands.specs.Lines.{line_in};
 ghost use Rattle.balise_text.specs.JournalLines.{EntryLine, entry_in, entry_of, journal_line_of, line_reads_digits, undone_in, undone_word};
 ghost use Rattle.balise_text.specs.ReadLines.{journal_line_in};
 ghost use Rattle.balise_text.specs.Words.{or_bad, read_as, words_of};
@@ -11,7 +11,7 @@ use crate::head::Version;
 use crate::kind::read_kind;
 use crate::part::Part;
 use crate::words::Parts;
-use balise_history::Line;
+use balise_commands::Line;
 use balise_rules::Refusal;
 use std::alloc::Global;
 

@@ -2,7 +2,7 @@
 
 ghost use Rattle.std.specs.Prelude.{◌++◌, ◌∷◌, [], codes, map};
 ghost use Rattle.balise_lines.specs.Writing.{Writes};
-ghost use Rattle.balise_edits.specs.Lines.{line_edit_of, line_in, noted_in};
+ghost use Rattle.balise_commands.specs.Lines.{line_edit_of, line_in, noted_in};
 ghost use Rattle.balise_rules.specs.Digits.{hex_of};
 ghost use Rattle.balise_text.specs.Entries.{edit_words, entry_text, head_text, noted_words, undone_text};
 ghost use Rattle.balise_text.specs.Places.{anchor_text};
@@ -10,7 +10,7 @@ ghost use Rattle.balise_text.specs.Texts.{behind_marks};
 
 use crate::printing::{Word, put_line, put_number, put_words};
 use balise_bits::Bits;
-use balise_history::{Line, LineEdit, Noted, Tag};
+use balise_commands::{Line, LineEdit, Noted, Tag};
 use balise_lines::{Counted, WriteFault, put};
 use std::io::Write;
 

@@ -27,9 +27,9 @@ mod replies;
 mod reply;
 mod reviews;
 
-pub use balise_history::{Bits, Command, Id, Line, LineEdit, Noted, Refusal, Tag, Var};
+pub use balise_commands::{Bits, Command, Id, Line, LineEdit, Noted, Tag, Var};
 pub use balise_lines::{Counted, WriteFault};
-pub use balise_rules::{ReviewLine, Reviewed};
+pub use balise_rules::{Refusal, ReviewLine, Reviewed};
 pub use digits::put_digits;
 pub use head::{Head, Version, read_head};
 pub use journal_line::{JournalLine, read_journal_line};

@@ -10,7 +10,7 @@ ghost use Rattle.balise_text.specs.Words.{no_more, or_bad};
 use crate::commands::read_command;
 use crate::kind::read_kind;
 use crate::words::Parts;
-use balise_history::Command;
+use balise_commands::Command;
 use balise_rules::Refusal;
 use std::alloc::Global;
 

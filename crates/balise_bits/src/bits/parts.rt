@@ -36,8 +36,8 @@ impl Bits {
         Ok(())
     }
 
-    /// Adds the `len` bits of another from the place `at` on at the end. On want of memory the bits stay.
-    pub fn append_part(&mut self, other: &Bits, at: usize, len: usize) -> Result<(), BitsFault>
+    // Adds the `len` bits of another from the place `at` on at the end. On want of memory the bits stay.
+    fn append_part(&mut self, other: &Bits, at: usize, len: usize) -> Result<(), BitsFault>
         requires { at + len ≤ length other.now }
         ensures ok { OnOk result (self.new ≡ self.old ++ part at len other.now) }
         ensures err { OnErr result (self.new ≡ self.old) }

@@ -1,6 +1,6 @@
 use Rattle.std.proofs.Common.{◌≡◌, ◌∙◌, inl, inr, ⊎_elim, ℕ, suc, List, [], ◌∷◌, map, length, Option, Some, None, Ok, refl, sym, ap, arith, add-one}
-use Rattle.balise_edits.specs.Lines.{line_in}
-use Rattle.balise_edits.specs.declared.line.Line.{Line}
+use Rattle.balise_commands.specs.Lines.{line_in}
+use Rattle.balise_commands.specs.declared.line.Line.{Line}
 use Rattle.balise_rules.specs.Opening.{with_entries, or_place}
 use Rattle.balise_rules.specs.Session.{State}
 use Rattle.balise_history.specs.Sessions.{Seen}

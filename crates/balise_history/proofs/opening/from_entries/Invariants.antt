@@ -1,5 +1,5 @@
 use Rattle.std.proofs.Common.{◌≡◌, ◌+◌, map, vec_len}
-use Rattle.balise_edits.specs.Lines.{line_in}
+use Rattle.balise_commands.specs.Lines.{line_in}
 use Rattle.balise_rules.specs.Opening.{from_entries, with_entries}
 use Rattle.balise_history.proofs.opening.from_entries.Given as goal
 

@@ -1,5 +1,5 @@
 use Rattle.std.proofs.Common.{◌++◌, decimal, refl}
-use Rattle.balise_edits.specs.Lines.{line_in}
+use Rattle.balise_commands.specs.Lines.{line_in}
 use Rattle.balise_lines.specs.Writing.{LastFailed}
 use Rattle.balise_lines.proofs.PartsWritten.{wrote_none, wrote_some, wrote_last, some_last}
 use Rattle.balise_text.proofs.PrintedLines.{after_edit, after_noted, after_serial, behind_serial, edit_part, end, noted_part, text}

@@ -57,3 +57,9 @@ returns-in_ok-take_line-in-Ok-Line-clause-took g c =
     let seen : Sees (Line c.in-Ok-Line.len) bytes rest = rw c.in-Ok-Line.field-0-is at c.in-Ok-Line.ensures.sees in
     let took = c.in_ok-take_line-in-Ok-Line.ensures in
     took_ended _ _ _ rest bytes c.in-Ok-Line.len k seen.1 seen.0 (search rules) (took.line.0, took.line.1) (search rules) (search rules) (search rules) (search rules) (search rules)
+
+pub returns-in-Err-clause-took : goal.returns-in-Err-clause-took
+returns-in-Err-clause-took c = search rules
+
+pub returns-in-Err-clause-unfailed : goal.returns-in-Err-clause-unfailed
+returns-in-Err-clause-unfailed c = search rules

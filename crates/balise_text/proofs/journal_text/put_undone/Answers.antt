@@ -1,0 +1,5 @@
+use Rattle.std.proofs.Common.{rules}
+use Rattle.balise_text.proofs.journal_text.put_undone.Goals as goal
+
+pub returns : goal.returns
+returns c = search rules

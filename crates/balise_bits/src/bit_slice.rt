@@ -8,7 +8,7 @@ use crate::places::number_at;
 use std::marker::Model;
 
 /// Bits that are lent. Where they are held is looked at once, when they are lent, and not at each number that is read.
-#[derive(Debug, Drop)]
+#[derive(Drop)]
 pub struct BitSlice<'a> {
     bytes: &'a [u8],
     len: usize,

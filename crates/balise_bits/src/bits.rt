@@ -15,7 +15,7 @@ use std::alloc::Global;
 use std::marker::Model;
 
 /// A list of bits, eight in a byte, the most significant first. The bits behind the last one are zero.
-#[derive(Debug, Drop)]
+#[derive(Drop)]
 pub struct Bits {
     bytes: Store,
 }

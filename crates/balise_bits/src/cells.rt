@@ -4,7 +4,7 @@ ghost use Rattle.std.specs.Prelude.{◌≡◌, ◌≤◌, take};
 ghost use Rattle.std.specs.Borrow.{sem};
 
 /// An array in a struct of its own, so that a contract can say what a loan of its first elements leaves.
-#[derive(Clone, Copy, Debug, Drop)]
+#[derive(Clone, Copy, Drop)]
 pub(crate) struct Cells<T, const N: usize> {
     pub(crate) xs: [T; N],
 }

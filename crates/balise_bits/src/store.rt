@@ -16,7 +16,7 @@ pub(crate) const IN_PLACE: usize = 29;
 pub(crate) const MOST: usize = 2305843009213693951;
 
 /// Bytes held in place.
-#[derive(Debug, Drop)]
+#[derive(Drop)]
 struct Small {
     cells: Cells<u8, 29>,
     count: u8,
@@ -82,7 +82,7 @@ impl Small {
     }
 }
 
-#[derive(Debug, Drop)]
+#[derive(Drop)]
 enum Data {
     Inline(u8, Small),
     Heap(u8, Vec<u8>),
@@ -102,7 +102,7 @@ impl Data {
 }
 
 /// Bytes, of which up to 29 are held in place, and how many of their bits count: all but the spare ones at the end.
-#[derive(Debug, Drop)]
+#[derive(Drop)]
 pub(crate) struct Store {
     data: Data,
     alloc: Global,

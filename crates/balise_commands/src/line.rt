@@ -4,7 +4,7 @@ use balise_bits::Bits;
 use balise_rules::{Tag, Var};
 
 /// An edit as a line of a journal has it: the nine of `Edit`, but that an inserted packet is the bits of its digits.
-#[derive(Debug, Drop)]
+#[derive(Drop)]
 pub enum LineEdit {
     SetVar {
         g: Tag,
@@ -69,7 +69,7 @@ pub enum Noted {
 }
 
 /// A line of a journal: an edit, its serial and what it noted.
-#[derive(Debug, Drop)]
+#[derive(Drop)]
 pub struct Line {
     pub serial: u32,
     pub edit: LineEdit,

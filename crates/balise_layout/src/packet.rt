@@ -29,7 +29,7 @@ use balise_rules::{Id, Var};
 use std::marker::Model;
 
 /// A packet: its fields in bit order and, where it isn't known, the rest of its bits.
-#[derive(Debug, Drop)]
+#[derive(Drop)]
 pub struct Packet {
     kind: Kind,
     packed: Bits,

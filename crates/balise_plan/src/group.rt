@@ -15,7 +15,7 @@ use balise_telegram::Balise;
 use std::marker::Model;
 
 /// A group.
-#[derive(Debug, Drop)]
+#[derive(Drop)]
 pub struct Group {
     telegrams: Vec<(u32, Balise)>,
 }

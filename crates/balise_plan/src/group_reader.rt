@@ -12,7 +12,7 @@ use std::alloc::Global;
 use std::marker::Model;
 
 /// A group to be: the telegrams that were read so far, tagged by their places from 0.
-#[derive(Debug, Drop)]
+#[derive(Drop)]
 pub struct GroupReader {
     telegrams: Vec<(u32, Balise)>,
 }

@@ -5,17 +5,9 @@ ghost use Rattle.std.specs.List.Sorted.{IsStrictlySortedBy};
 ghost use Rattle.std.specs.Ordering.{is_le};
 ghost use Rattle.balise_plan.specs.LinkSet.{rank, stands, PutsIn};
 ghost use Rattle.balise_plan.specs.Links.{compare_place};
-ghost use Rattle.balise_plan.specs.Walks.{among};
 
 use crate::links::LinkPlace;
 use std::alloc::AllocError;
-
-/// Whether a place is in the list.
-pub(crate) fn contains(list: &Vec<LinkPlace>, place: &LinkPlace) -> bool
-    ensures { result ≡ among place.now list.now.items }
-{
-    list.iter().any(|other| place.cmp(other).is_eq())
-}
 
 /// Puts a place in. Leaves all as before where memory is wanting.
 pub(crate) fn insert(list: &mut Vec<LinkPlace>, place: LinkPlace) -> Result<(), AllocError>

@@ -2,7 +2,7 @@
 
 ghost use Rattle.std.specs.Prelude.{◌≡◌, ◌<◌, [], ◌∷◌, length, IfOk, OnErr, OnOk, IsTrue, ◌↔◌, true, false};
 ghost use Rattle.std.specs.List.Sorted.{IsStrictlySortedBy};
-ghost use Rattle.std.specs.BTreeSet.{btree_set_len, contains, IsEmpty, IsOrdered};
+ghost use Rattle.std.specs.BTreeSet.{btree_set_len, IsEmpty, IsOrdered};
 ghost use Rattle.balise_plan.specs.LinkSet.{places_held, Puts, PutsIn};
 ghost use Rattle.balise_plan.specs.Links.{compare_place};
 
@@ -13,14 +13,14 @@ use std::collections::BTreeSet;
 use std::marker::Model;
 
 /// The places that name an identity, each once and in order.
-#[derive(Debug, Drop)]
+#[derive(Drop)]
 pub struct Links {
     held: Held,
 }
 
 /// One place by itself, as most identities are named once; a few in a list, which takes no more memory than they need;
 /// more in a tree, where a change moves few of them.
-#[derive(Debug, Drop)]
+#[derive(Drop)]
 pub(crate) enum Held {
     Empty,
     One(LinkPlace),
@@ -45,7 +45,7 @@ impl Model for Links {
 
 impl Links {
     /// How many they are.
-    pub fn len(&self) -> usize
+    pub(crate) fn len(&self) -> usize
         ensures { result ≡ btree_set_len self.now }
     {
         match &self.held {
@@ -57,22 +57,10 @@ impl Links {
     }
 
     /// Whether there is none.
-    pub fn is_empty(&self) -> bool
+    pub(crate) fn is_empty(&self) -> bool
         ensures { IsTrue result ↔ (btree_set_len self.now ≡ 0) }
     {
         self.len() == 0
-    }
-
-    /// Whether a place is one of them.
-    pub fn contains(&self, place: &LinkPlace) -> bool
-        ensures { result ≡ contains compare_place self.now place.now }
-    {
-        match &self.held {
-            Held::Empty => false,
-            Held::One(held) => place.cmp(held).is_eq(),
-            Held::Few(list) => link_list::contains(list, place),
-            Held::Many(tree) => tree.contains(place),
-        }
     }
 
     /// The places in order.

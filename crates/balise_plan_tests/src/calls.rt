@@ -3,6 +3,7 @@
 use crate::digits::{ABROAD, EMPTY, INFILL, LINKING, REVOCATIONS};
 use crate::plans::{id, plan_of};
 use crate::steps::{Answer, Row, Step, follow_each, follow_over};
+use crate::walking::listed;
 use balise_plan::{Group, GroupTag, Id, LinkPlace, PacketTag, Plan, Spot, Var};
 use std::alloc::Global;
 use std::process::Abort;
@@ -193,9 +194,12 @@ const LINK: LinkPlace = LinkPlace {
 };
 
 /// Whether a link is found by what it names.
-fn tells_links(plan: &Plan) -> bool {
+fn tells_links(rt: &impl Abort, alloc: Global, plan: &Plan) -> bool {
     match plan.links_to(id(5, 100)) {
-        Some(named) => named.contains(&LINK) & plan.links_to(id(5, 101)).is_none(),
+        Some(named) => {
+            (listed(rt, alloc, named).as_slice() == [LINK].as_slice())
+                & plan.links_to(id(5, 101)).is_none()
+        }
         None => false,
     }
 }
@@ -213,16 +217,16 @@ fn tells_telegram(plan: &Plan) -> bool {
 }
 
 /// That a plan of two groups, of which the second names the first, tells what it holds.
-fn check_told(rt: &impl Abort, plan: &Plan) {
+fn check_told(rt: &impl Abort, alloc: Global, plan: &Plan) {
     assert!(rt; tells_groups(plan));
     assert!(rt; tells_group(rt, plan));
-    assert!(rt; tells_links(plan));
+    assert!(rt; tells_links(rt, alloc, plan));
     assert!(rt; tells_telegram(plan));
 }
 
 /// Tells that, and takes groups in at each place.
 fn tell_and_put(rt: &impl Abort, alloc: Global, plan: &mut Plan) {
-    check_told(rt, plan);
+    check_told(rt, alloc, plan);
     follow_each(rt, alloc, plan, ANYWHERE);
 }
 

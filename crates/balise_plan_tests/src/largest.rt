@@ -106,7 +106,7 @@ fn renumber_and_turn(rt: &impl Abort, alloc: Global, plan: &mut Plan) {
 fn change_179_links(rt: &impl Abort, alloc: Global, plan: &mut Plan) {
     put_160(rt, alloc, plan);
     check(rt, alloc, plan, NAMING, ELEMENTS);
-    assert!(rt; names(plan, id(5, 100), 179));
+    assert!(rt; names(rt, alloc, plan, id(5, 100), 179));
     renumber_and_turn(rt, alloc, plan);
     put_back(rt, plan, FIRST);
     check(rt, alloc, plan, NAMING, ELEMENTS);

@@ -105,15 +105,15 @@ fn puts_1000_groups_in_behind_the_first(rt: HostRuntime) {
 }
 
 /// Whether 1,000 links name the one number and none the other.
-fn all_name(plan: &Plan, number: u32, old: u32) -> bool {
-    names(plan, id(5, number), 1000) & plan.links_to(id(5, old)).is_none()
+fn all_name(rt: &impl Abort, alloc: Global, plan: &Plan, number: u32, old: u32) -> bool {
+    names(rt, alloc, plan, id(5, number), 1000) & plan.links_to(id(5, old)).is_none()
 }
 
 /// Renumbers the group that 1,000 links name, and turns it.
 fn renumber(rt: &impl Abort, alloc: Global, plan: &mut Plan, number: u32, old: u32) {
     let step = Step::Rename(FIRST, number);
     follow(rt, alloc, plan, step, Ok(Answer::Old(old)));
-    assert!(rt; all_name(plan, number, old));
+    assert!(rt; all_name(rt, alloc, plan, number, old));
     follow(rt, alloc, plan, Step::Turn(FIRST), Ok(Answer::Done));
 }
 

@@ -40,23 +40,16 @@ fn answers_each(
 
 /// Whether the plan answers for an identity the places that were found, in order.
 fn answers(rt: &impl Abort, alloc: Global, plan: &Plan, found: &[(Id, LinkPlace)], id: Id) -> bool {
-    let count = count_of(found, id);
     match plan.links_to(id) {
-        None => count == 0,
-        Some(links) => {
-            (count > 0)
-                & !links.is_empty()
-                & (links.len() == count)
-                & contains_each(links, found, id)
-                & is_listed(links, listed(rt, alloc, links).as_slice())
-        }
+        None => count_of(found, id) == 0,
+        Some(links) => is_listed(listed(rt, alloc, links).as_slice(), found, id),
     }
 }
 
 /// Whether so many links name an identity.
-pub(crate) fn names(plan: &Plan, id: Id, count: usize) -> bool {
+pub(crate) fn names(rt: &impl Abort, alloc: Global, plan: &Plan, id: Id, count: usize) -> bool {
     match plan.links_to(id) {
-        Some(links) => links.len() == count,
+        Some(links) => listed(rt, alloc, links).len() == count,
         None => false,
     }
 }
@@ -72,27 +65,20 @@ fn count_of(found: &[(Id, LinkPlace)], id: Id) -> usize {
     count
 }
 
-/// Whether the places that were found for an identity are among these.
-fn contains_each(links: &Links, found: &[(Id, LinkPlace)], id: Id) -> bool {
-    let mut same = true;
-    for (named, place) in found.iter() {
-        same &= (*named != id) | links.contains(place);
-    }
-    same
-}
-
-fn listed(rt: &impl Abort, alloc: Global, links: &Links) -> Vec<LinkPlace> {
+pub(crate) fn listed(rt: &impl Abort, alloc: Global, links: &Links) -> Vec<LinkPlace> {
     links.listed(alloc).expect(rt, "memory")
 }
 
-/// Whether a list has these places, each once and in order.
-fn is_listed(links: &Links, list: &[LinkPlace]) -> bool {
-    let mut same = list.len() == links.len();
+/// Whether a list has the places that were found for an identity, some and each once, in order.
+fn is_listed(list: &[LinkPlace], found: &[(Id, LinkPlace)], id: Id) -> bool {
+    let mut same = (list.len() > 0) & (list.len() == count_of(found, id));
     for i in 1..list.len() {
         same &= list[i - 1] < list[i];
     }
-    for place in list.iter() {
-        same &= links.contains(place);
+    for (named, place) in found.iter() {
+        if *named == id {
+            same &= list.iter().any(|other| *other == *place);
+        }
     }
     same
 }

@@ -5,7 +5,7 @@ use crate::tag::Tag;
 use crate::variable::Var;
 
 /// Where something stands, as a command says it: places count from 0.
-#[derive(Clone, Copy, Debug, PartialEq, Eq)]
+#[derive(Clone, Copy)]
 pub enum Address {
     /// A group.
     Group(Id),
@@ -20,7 +20,7 @@ pub enum Address {
 }
 
 /// The same by tags.
-#[derive(Clone, Copy, Debug, PartialEq, Eq)]
+#[derive(Clone, Copy)]
 pub enum Place {
     /// A group.
     Group(Tag),

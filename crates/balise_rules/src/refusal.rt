@@ -7,7 +7,7 @@ use std::alloc::{AllocError, AllocFailed};
 use std::{error, fmt};
 
 /// Why something is refused. It is shown as its name, as in `DependsOn`.
-#[derive(Clone, Copy, Debug, PartialEq, Eq)]
+#[derive(Clone, Copy, PartialEq, Eq)]
 pub enum Refusal {
     /// 1: a line isn't of its grammar, or the input ends too early.
     BadLine,
@@ -156,6 +156,12 @@ impl Refusal {
             Refusal::ReadFault => "ReadFault",
             Refusal::WriteFault => "WriteFault",
         }
+    }
+}
+
+impl fmt::Debug for Refusal {
+    fn fmt<W: fmt::Write>(&self, f: &mut fmt::Formatter<W>) -> fmt::Result {
+        f.write_str(self.name())
     }
 }
 

@@ -4,8 +4,10 @@ ghost use Rattle.std.specs.Prelude.{◌≡◌, ◌≤◌, Some};
 ghost use Rattle.balise_rules.specs.declared.variable.Var.{Var};
 ghost use Rattle.balise_rules.specs.Variables.{name_of, steers, var_named, width_of};
 
-/// A variable of a packet (SUBSET-026, chapter 7) or of a header (8.4.2), by its name there.
-#[derive(Clone, Copy, Debug, PartialEq, Eq)]
+use std::fmt;
+
+/// A variable of a packet (SUBSET-026, chapter 7) or of a header (8.4.2), by its name there, as which it is shown.
+#[derive(Clone, Copy, PartialEq, Eq)]
 pub enum Var {
     /// Number of the packet. 8 bits.
     NidPacket,
@@ -298,5 +300,11 @@ impl Var {
                 | Var::MLeveltr
                 | Var::QDiff
         )
+    }
+}
+
+impl fmt::Debug for Var {
+    fn fmt<W: fmt::Write>(&self, f: &mut fmt::Formatter<W>) -> fmt::Result {
+        f.write_str(self.name())
     }
 }

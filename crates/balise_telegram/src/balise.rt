@@ -26,13 +26,13 @@ use std::marker::Model;
 
 /// The telegram of a balise, of 210 or 830 bits. It is held as its bits until packets are put in, taken out or moved,
 /// and as its packets from then on.
-#[derive(Debug, Drop)]
+#[derive(Drop)]
 pub struct Balise {
     held: Held,
 }
 
 /// What is held of a telegram.
-#[derive(Debug, Drop)]
+#[derive(Drop)]
 enum Held {
     Packed(PackedTelegram),
     Open(Box<Telegram>),

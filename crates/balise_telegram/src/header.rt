@@ -17,7 +17,7 @@ use std::marker::Model;
 
 /// The ten fields of a header, 50 bits (SUBSET-026, 8.4.2). In bits, in the order of the standard: Q_UPDOWN 1,
 /// M_VERSION 7, Q_MEDIA 1, N_PIG 3, N_TOTAL 3, M_DUP 2, M_MCOUNT 8, NID_C 10, NID_BG 14, Q_LINK 1.
-#[derive(Debug, Drop)]
+#[derive(Drop)]
 pub struct Header {
     q_updown: u8,
     m_version: u8,

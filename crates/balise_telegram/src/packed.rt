@@ -19,7 +19,7 @@ use balise_rules::{Id, Var};
 use std::marker::Model;
 
 /// A telegram of 210 or 830 bits, held as the bits that it shows. Its packets are tagged `Base` by their places.
-#[derive(Debug, Drop)]
+#[derive(Drop)]
 pub struct PackedTelegram {
     packed: Bits,
 }

@@ -28,7 +28,7 @@ use std::marker::Model;
 
 /// A telegram of 210 or 830 bits (SUBSET-026, 8.4.2): a header of 50 bits, packets, packet 255 of 8 bits,
 /// and padding. Each packet has a tag, which it keeps wherever it is moved.
-#[derive(Debug, Drop)]
+#[derive(Drop)]
 pub struct Telegram {
     header: Header,
     packets: Vec<(PacketTag, Packet)>,

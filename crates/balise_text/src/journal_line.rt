@@ -16,7 +16,7 @@ use balise_rules::Refusal;
 use std::alloc::Global;
 
 /// What a line of a journal behind the first is.
-#[derive(Debug, Drop)]
+#[derive(Drop)]
 pub enum JournalLine {
     /// An entry.
     Entry(Line),

@@ -15,7 +15,7 @@ use balise_rules::Refusal;
 use std::alloc::Global;
 
 /// What a command asks of a session.
-#[derive(Debug, Drop)]
+#[derive(Drop)]
 pub enum Request {
     /// To do an edit.
     Edit(Command),

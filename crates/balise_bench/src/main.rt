@@ -7,23 +7,21 @@ mod packets;
 mod plans;
 mod telegrams;
 
+use anyhow::{Result, bail};
 use std::env;
-use std::process::{Abort, ExitCode};
 
-fn main(rt: HostRuntime) -> ExitCode {
-    let mut words = env::args(&rt).expect(&rt, "arguments");
+fn main(rt: HostRuntime) -> Result<()> {
+    let mut words = env::args(&rt)?;
     let _program = words.next();
-    let layer = words.next().expect(&rt, "a layer");
-    match layer.as_str() {
+    let Some(mode) = words.next() else {
+        bail!("which layer? digits, groups, packets, plans, telegrams");
+    };
+    match mode.as_str() {
         "digits" => digits::run(&rt),
         "groups" => groups::run(&rt),
         "packets" => packets::run(&rt),
         "plans" => plans::run(&rt),
         "telegrams" => telegrams::run(&rt),
-        _ => {
-            let _ = eprintln!(rt; "which layer? digits, groups, packets, plans, telegrams");
-            return ExitCode::FAILURE;
-        }
+        other => bail!("no layer is called {other}"),
     }
-    ExitCode::SUCCESS
 }

@@ -1,7 +1,7 @@
 //! Packets of each kind read, set and written a million times, and the processor time that one takes.
 
+use anyhow::Result;
 use balise_telegram::{Bits, Packet, Var};
-use std::process::Abort;
 use std::time::CpuClock;
 
 /// How often each call is made.
@@ -79,76 +79,59 @@ const SAMPLES: [Sample; 8] = [
 ];
 
 /// The processor time so far, in microseconds.
-pub(crate) fn now(rt: &(impl Abort + CpuClock)) -> u128 {
-    rt.process_cpu_time().expect(rt, "a clock").as_micros()
+pub(crate) fn now(rt: &impl CpuClock) -> Result<u128> {
+    Ok(rt.process_cpu_time()?.as_micros())
 }
 
-/// The processor time since a moment, in microseconds.
-pub(crate) fn since(rt: &(impl Abort + CpuClock), begin: u128) -> u128 {
-    now(rt).saturating_sub(begin)
-}
-
-fn read_one(rt: &impl Abort, bits: &Bits) -> Packet {
-    let (packet, _) = Packet::read(bits, 0, 33).expect(rt, "a packet");
-    packet
-}
-
-fn read_all(rt: &(impl Abort + CpuClock), bits: &Bits) -> u128 {
-    let begin = now(rt);
+fn read_all(rt: &impl CpuClock, bits: &Bits) -> Result<u128> {
+    let begin = now(rt)?;
     for _ in 0..COUNT {
-        let _read = read_one(rt, bits);
+        let _read = Packet::read(bits, 0, 33)?;
     }
-    since(rt, begin)
+    Ok(now(rt)?.saturating_sub(begin))
 }
 
-fn set_all(rt: &(impl Abort + CpuClock), packet: &mut Packet, sample: &Sample) -> u128 {
-    let begin = now(rt);
-    for i in 0..COUNT {
-        let value = if i % 2 == 0 {
-            sample.values.1
-        } else {
-            sample.values.0
-        };
-        let old = packet.set_field(sample.var, sample.occurrence, value);
-        assert!(rt; old.is_ok());
+fn set_all(rt: &impl CpuClock, packet: &mut Packet, sample: &Sample) -> Result<u128> {
+    let begin = now(rt)?;
+    for _ in 0..COUNT / 2 {
+        packet.set_field(sample.var, sample.occurrence, sample.values.1)?;
+        packet.set_field(sample.var, sample.occurrence, sample.values.0)?;
     }
-    since(rt, begin)
+    Ok(now(rt)?.saturating_sub(begin))
 }
 
-fn write_batch(rt: &(impl Abort + AllocGlobal), packet: &Packet) {
-    let mut bits = Bits::new(rt.alloc());
-    for _ in 0..BATCH {
-        packet.write(&mut bits).expect(rt, "memory");
-    }
-}
-
-fn write_all(rt: &(impl Abort + CpuClock + AllocGlobal), packet: &Packet) -> u128 {
-    let begin = now(rt);
+fn write_all(rt: &(impl CpuClock + AllocGlobal), packet: &Packet) -> Result<u128> {
+    let begin = now(rt)?;
     for _ in 0..COUNT / BATCH {
-        write_batch(rt, packet);
+        let mut bits = Bits::new(rt.alloc());
+        for _ in 0..BATCH {
+            packet.write(&mut bits)?;
+        }
     }
-    since(rt, begin)
+    Ok(now(rt)?.saturating_sub(begin))
 }
 
 fn show_times(
-    rt: &(impl Abort + Print + AllocGlobal + CpuClock),
+    rt: &(impl Print + AllocGlobal + CpuClock),
     bits: &Bits,
     packet: &mut Packet,
     sample: &Sample,
-) {
-    let read = read_all(rt, bits) / 1000;
-    let set = set_all(rt, packet, sample) / 1000;
-    let write = write_all(rt, packet) / 1000;
+) -> Result<()> {
+    let read = read_all(rt, bits)? / 1000;
+    let set = set_all(rt, packet, sample)? / 1000;
+    let write = write_all(rt, packet)? / 1000;
     let name = sample.name;
-    println!(rt; "{read} {set} {write} packet {name}").expect(rt, "output");
+    println!(rt; "{read} {set} {write} packet {name}")?;
+    Ok(())
 }
 
 /// Prints the nanoseconds that one call takes, for each kind of packet.
-pub fn run(rt: &(impl Abort + Print + AllocGlobal + CpuClock)) {
-    rt.println("nanoseconds for one packet: read, set, write")
-        .expect(rt, "output");
+pub fn run(rt: &(impl Print + AllocGlobal + CpuClock)) -> Result<()> {
+    rt.println("nanoseconds for one packet: read, set, write")?;
     for sample in &SAMPLES {
-        let bits = Bits::digits(rt.alloc(), sample.digits).expect(rt, "digits");
-        show_times(rt, &bits, &mut read_one(rt, &bits), sample);
+        let bits = Bits::digits(rt.alloc(), sample.digits)?;
+        let (mut packet, _) = Packet::read(&bits, 0, 33)?;
+        show_times(rt, &bits, &mut packet, sample)?;
     }
+    Ok(())
 }

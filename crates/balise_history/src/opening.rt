@@ -1,6 +1,6 @@
 //! A session read from a journal, line by line.
 
-ghost use Rattle.std.specs.Prelude.{◌≡◌, ◌<◌, ◌^◌, ℕ, map, None, Some, Ok, IfErr, IfOk, MatchResult};
+ghost use Rattle.std.specs.Prelude.{◌≡◌, ◌+◌, ◌<◌, ◌^◌, ℕ, length, map, None, Some, Ok, IfErr, IfOk, MatchResult};
 ghost use Rattle.balise_commands.specs.Lines.{line_in};
 ghost use Rattle.balise_history.specs.Openings.{FailsAt, ReadsEntry, ReadsUndone};
 ghost use Rattle.balise_rules.specs.Accepting.{Unused};
@@ -36,7 +36,7 @@ impl Model for Opening {
     ghost invariant = { λ o. IsOpening o.edited };
 }
 
-/// The session of a journal: of its next serial, and of its lines done in order.
+/// The session of a journal: of its next serial, and of its lines done in order. Each line is one change of the plan.
 ///
 /// Refused as `JournalMismatch`, with no place where the next serial isn't from 1 to 4,000,000,000, else at the first
 /// line that doesn't fit, or as `OutOfMemory`.
@@ -50,6 +50,7 @@ pub fn from_entries(
     requires untagged { (n : ℕ) → Unused n plan.groups }
     requires changes { plan.changes < 2 ^ 62 }
     ensures ok { IfOk result (λ s. from_entries plan.groups next (map line_in lines.items) ≡ Ok s.state) }
+    ensures changes { IfOk result (λ s. s.changes ≡ plan.changes + length lines.items) }
     ensures fault { IfErr result (FailsAt (from_entries plan.groups next (map line_in lines.items))) }
 {
     let mut opening = match Opening::new(alloc, plan, next) {

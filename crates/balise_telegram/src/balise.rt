@@ -3,7 +3,7 @@
 mod changes;
 mod packets;
 
-ghost use Rattle.std.specs.Prelude.{◌≡◌, ◌≢◌, ◌≤◌, IfErr, IfOk, IsOkUnless, length, map, OnOk, Ok, Err, option_map, slice_get};
+ghost use Rattle.std.specs.Prelude.{◌≡◌, ◌≢◌, ◌≤◌, IfErr, IfOk, IsOkUnless, length, map, OnErr, OnOk, Ok, Err, option_map, slice_get};
 ghost use Rattle.balise_rules.specs.declared.variable.Var.TheVariants.{NidPacket};
 ghost use Rattle.balise_rules.specs.Digits.{hex_of};
 ghost use Rattle.balise_rules.specs.Packet.{field_of, value};
@@ -75,9 +75,11 @@ impl Balise {
         }
     }
 
-    /// Writes the digits of the bits that it shows into a buffer, in the place of all that it holds.
+    /// Writes the digits of the bits that it shows into a buffer, in the place of all that it holds. If memory runs out,
+    /// the buffer stays as it was.
     pub fn hex_into(&self, out: &mut Vec<u8>) -> Result<(), TelegramFault>
         ensures ok { OnOk result (out.new.items ≡ hex_of (shown self.now)) }
+        ensures err { OnErr result (out.new.items ≡ out.old.items) }
         ensures fault { IsOkUnless result TelegramFault.OutOfMemory }
     {
         match &self.held {

@@ -11,6 +11,7 @@ loop-line-init c =
     let g = c.into_iter-line-iterator.ensures.into_iter_gives in
     record {
       rest = ap (λ (o : Option State). or_place None o (with_entries 0 (map line_in c.args.lines.items))) c.in-Ok.ensures.0 ∙ ap (λ (ls : List Line). with_entries 0 (map line_in ls) c.in-Ok.opening.state) (sym g.0);
+      changes = omega (arith, c.in-Ok.ensures.1);
       left = omega (arith, g.1);
     }
 
@@ -34,6 +35,7 @@ loop-line-preserved c =
           c.loop-line.invariant.rest ∙ ap (λ (xs : List Line). with_entries n (map line_in xs) s) c.in-Some.ensures.steps.0
           ∙ ap (λ (o : Option State). or_place (Some n) o (with_entries (suc n) ls)) c.in-Ok-entry.ensures.0
           ∙ ap (λ (m : ℕ). with_entries m ls c.entry.new.self.state) (sym (add-one n));
+      changes = omega (arith, c.loop-line.invariant.changes, c.in-Ok-entry.ensures.1);
       left = omega (arith, c.loop-line.invariant.left, c.in-Some.ensures.steps.1);
     }
 
@@ -47,3 +49,8 @@ returns-clause-ok c =
     let z = c.in-None.ensures.steps.0 in
     let e : length it.items ≡ 0 = omega (arith, it.ok, z) in
     c.loop-line.invariant.rest ∙ ap (λ (xs : List Line). with_entries c.loop-line.place (map line_in xs) c.loop-line.opening.state) (empty it.items e) ∙ ap (λ (s : Seen). Ok s.state) (sym c.done.ensures)
+
+pub returns-clause-changes : goal.returns-clause-changes
+returns-clause-changes c =
+    let z = c.in-None.ensures.steps.0 in
+    ap (λ (s : Seen). s.changes) c.done.ensures ∙ omega (arith, c.loop-line.invariant.changes, c.loop-line.invariant.left, z)

@@ -1,12 +1,13 @@
 //! A reader or a writer whose failed calls are counted.
 
-ghost use Rattle.std.specs.Prelude.{◌≡◌};
+ghost use Rattle.std.specs.Prelude.{◌≡◌, OnOk, []};
 ghost use Rattle.std.specs.Io.{ReadsAtMost, WritesAtMost};
+ghost use Rattle.std.specs.Io.Buffered.{writer_buffer, writer_contents};
 ghost use Rattle.std.specs.Io.KnownBytes.{Keeps, ReadConsumes, WriteAppends};
 ghost use Rattle.balise_lines.specs.Counts.{Counts, CountsWrite, one_more};
 
 use std::io;
-use std::io::{Read, Write};
+use std::io::{BufWriter, Read, Write};
 
 /// Reads or writes through `inner`, and counts the calls that failed: an error, also one of a call that
 /// was only interrupted, or a write of some bytes that took none.
@@ -52,6 +53,23 @@ impl<T> Counted<T> {
     {
         let Counted { inner, failed: _ } = self;
         inner
+    }
+}
+
+impl<W: Write + Drop> Counted<BufWriter<W>> {
+    /// Flushes as `flush` does. Its contract states more: after `Ok` nothing is buffered.
+    pub fn flush_buffer(&mut self) -> io::Result<()>
+        ensures bytes { Keeps (writer_contents W.contents self.old.inner) (writer_contents W.contents self.new.inner) }
+        ensures count { Counts self.old.failed self.new.failed result }
+        ensures empty { OnOk result (writer_buffer self.new.inner ≡ []) }
+    {
+        match self.inner.flush() {
+            Ok(()) => Ok(()),
+            Err(error) => {
+                self.count_failure();
+                Err(error)
+            }
+        }
     }
 }
 

@@ -4,7 +4,7 @@ use crate::devices::{Failure, Narrow};
 use balise_lines::{Counted, LineFault, WriteFault, put};
 use std::alloc::Global;
 use std::io;
-use std::io::Write;
+use std::io::{BufWriter, Write};
 use std::process::Abort;
 
 const TEXT: &[u8] = b"refused 1 BadLine\n";
@@ -81,6 +81,33 @@ fn counts_a_flush(rt: HostRuntime) {
     let mut writer = Narrow::new(rt.alloc(), 1, Failure::TakesNone);
     check_flush(&rt, &mut writer);
     assert!(rt; writer.into_inner().calls == 1);
+}
+
+/// The text in a buffer, over a writer that takes three bytes a call.
+fn buffered(rt: &impl Abort, alloc: Global, fails_at: u64) -> Counted<BufWriter<Narrow>> {
+    let narrow = Narrow::new(alloc, fails_at, Failure::TakesNone).into_inner();
+    let mut writer = Counted::new(BufWriter::new(alloc, narrow).expect(rt, "memory"));
+    put(&mut writer, TEXT).expect(rt, "memory");
+    writer
+}
+
+/// That the text is written by six calls and a flush, of which one that fails is counted.
+fn check_flushed(rt: &impl Abort, writer: &mut Counted<BufWriter<Narrow>>, fails_at: u64) {
+    assert!(rt; writer.inner().get_ref().calls == 0);
+    let done = writer.flush_buffer().is_ok();
+    assert!(rt; done == (fails_at > 7));
+    assert!(rt; writer.failed() == u64::from(!done));
+    let text = writer.inner().get_ref().text.as_slice();
+    assert!(rt; text == TEXT || fails_at <= 6);
+    assert!(rt; TEXT.starts_with(text));
+}
+
+#[test]
+fn flushes_a_buffer(rt: HostRuntime) {
+    for fails_at in 1..9u64 {
+        let mut writer = buffered(&rt, rt.alloc(), fails_at);
+        check_flushed(&rt, &mut writer, fails_at);
+    }
 }
 
 #[test]

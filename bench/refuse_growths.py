@@ -77,7 +77,7 @@ def judge_input(runner, name, text, flags):
 
 
 def judge_words(runner, words):
-    """The same for words of which there is no run: help, version, and what isn't an argument."""
+    """The same for words of which there is no run: help, and what isn't an argument."""
     seen, wrong = Counter(), []
     whole = runner.run(b"", words)
     for growth in range(1, whole.report["growths"] + 1):
@@ -94,7 +94,7 @@ def judge_unit(runner, *unit):
 
 def main(program, *paths):
     own = "--own-flags" in paths
-    units = [(words,) for words in (("--help",), ("--version",), ("--loud",), ("--quiet", "--quiet"))]
+    units = [(words,) for words in (("--help",), ("--loud",), ("--version",), ("--quiet", "--quiet"))]
     for item in inputs_of(path for path in paths if path != "--own-flags"):
         text = item.text if item.text.endswith(b"\n") or item.text == b"" else item.text + b"\n"
         for flags in [item.flags] if own else EVERY_SET:

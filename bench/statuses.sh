@@ -117,7 +117,9 @@ told 64 err 'plan' plan
 told 64 err 'quiet' --quiet=yes
 told 0 out '--journal' --help
 told 0 out '--journal' -h
-told 0 out '0.1.0' --version
+told 0 out 'baliseplan 0.1.0' --help
+told 64 err 'version' --version
+told 64 err '-V' -V
 told 0 out 'journal 2' --journal --
 told 0 out '"bits":210' --quiet --stop --journal --json
 

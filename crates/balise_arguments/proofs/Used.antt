@@ -2,14 +2,14 @@
 use Rattle.std.proofs.Common.{◌≡◌, ◌≢◌, ◌↔◌, ◌∙◌, inl, inr, Bool, IsTrue, List, Some, [], true, codes, refl, ap, subst, sym}
 use Rattle.clap.specs.Words.{App, Text, HasMatchesOf, HasKind, IsAmong, fault_of, first_of, first_value, found_of, is_simple, is_simple_and_free, kind_of}
 use Rattle.clap.specs.declared.error.Error.{Error}
-use Rattle.clap.specs.declared.error.ErrorKind.TheVariants.{DisplayHelp, DisplayVersion, OutOfMemory}
+use Rattle.clap.specs.declared.error.ErrorKind.TheVariants.{DisplayHelp, OutOfMemory}
 use Rattle.clap.specs.declared.parser.matches.ArgMatches.{ArgMatches}
 use Rattle.clap.proofs.WalkLemmas.{first_value-rows}
 use Rattle.clap.proofs.OnLiterals.{clap_on_literals}
 use Rattle.balise_arguments.specs.Arguments.{program, IsUsed}
 use Rattle.balise_arguments.specs.Faults.{IsFor, IsFaultOf}
-use Rattle.balise_arguments.specs.declared.fault.ArgumentsFault.{ArgumentsFault}
-use Rattle.balise_arguments.specs.declared.fault.ArgumentsFault.TheVariants.{Help, Version, Memory, Other}
+use Rattle.balise_arguments.specs.declared.fault.ArgsFault.{ArgsFault}
+use Rattle.balise_arguments.specs.declared.fault.ArgsFault.TheVariants.{Help, Memory, Other}
 
 program_simple : is_simple program ≡ true
 unfolding program clap_on_literals
@@ -28,19 +28,14 @@ used a m words name b e h u =
 among : (words : List Text) (error e : Error) → (kind_of error ≢ OutOfMemory) → HasKind (fault_of program words) error → e ≡ error → IsAmong (kind_of e) (fault_of program words)
 among words error e n h q = elim h [ inl m ↦ absurd (n m) | inr i ↦ subst (λ (x : Error). IsAmong (kind_of x) (fault_of program words)) (sym q) i ]
 
-pub faulted : (words : List Text) (error : Error) (f : ArgumentsFault) → HasKind (fault_of program words) error → IsFor error f → IsFaultOf words f
+pub faulted : (words : List Text) (error : Error) (f : ArgsFault) → HasKind (fault_of program words) error → IsFor error f → IsFaultOf words f
 faulted words error (Help e) h k = (ap kind_of k.1 ∙ k.0, among words error e (λ m. help_apart (sym k.0 ∙ m)) h k.1)
   where
     help_apart : DisplayHelp ≢ OutOfMemory
     help_apart e = cc
-faulted words error (Version e) h k = (ap kind_of k.1 ∙ k.0, among words error e (λ m. version_apart (sym k.0 ∙ m)) h k.1)
-  where
-    version_apart : DisplayVersion ≢ OutOfMemory
-    version_apart e = cc
 faulted words error Memory h k = tt
-faulted words error (Other e) h (help, version, memory, same) = (
+faulted words error (Other e) h (help, memory, same) = (
   λ (x : kind_of e ≡ DisplayHelp). help (sym (ap kind_of same) ∙ x),
-  λ (x : kind_of e ≡ DisplayVersion). version (sym (ap kind_of same) ∙ x),
   among words error e memory h same,
 )
 

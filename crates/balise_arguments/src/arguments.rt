@@ -1,35 +1,38 @@
 //! Reads the arguments.
 
-ghost use Rattle.std.specs.Prelude.{◌≡◌, ◌↔◌, IfErr, IfOk, IsTrue, OnOk, Some, [], codes, false, map};
-ghost use Rattle.clap.specs.Words.{app_of, fault_of, first_value, found_of, new_app, rule_of};
-ghost use Rattle.balise_arguments.specs.Arguments.{flag_rule, program, with_version, IsUsed};
+ghost use Rattle.std.specs.Prelude.{◌≡◌, ◌↔◌, IfErr, IfOk, IsTrue, OnOk, Some, codes, false, map};
+ghost use Rattle.clap.specs.Words.{app_of, first_value, found_of, new_app, rule_of};
+ghost use Rattle.balise_arguments.specs.Arguments.{flag_rule, program, AreAccepted, IsUsed};
 ghost use Rattle.balise_arguments.specs.Faults.{IsFaultOf};
 
-use crate::fault::ArgumentsFault;
+use crate::fault::ArgsFault;
 use crate::options::Flags;
 use clap::{Arg, ArgAction, ArgMatches, Command};
 use std::alloc::{AllocError, Global};
 
 const ABOUT: &str =
-    "Edits a plan of ETCS balise groups. Reads the plan and then one command a line from standard input, and prints a reply to each command and then the plan.";
+    "baliseplan 0.1.0: edits a plan of ETCS balise groups. Reads the plan and then one command a line from standard input, and prints a reply to each command and then the plan.";
+
+// Else clap prints the name of the file that was run.
+const USAGE: &str = "baliseplan [OPTIONS]";
 
 const STATUS: &str =
     "Status:{n}  0   all commands accepted{n}  1   a command refused{n}  2   the plan refused{n}  3   a line too long, too little memory, or a read or write that failed{n}  64  an unknown argument, or one given twice";
 
 /// What the words ask for. The first is the program's name; each argument may be given once, in any order.
 ///
-/// The fault is help or the version where clap is asked for it first, `Other` where a word isn't the program's, and
-/// `Memory` at any time.
-pub fn flags<'a>(alloc: Global, words: &'a [&'a str]) -> Result<Flags, ArgumentsFault>
+/// The fault is `Help` where clap is asked for it first, `Other` where a word isn't the program's, and `Memory` at any
+/// time.
+pub fn flags<'a>(alloc: Global, words: &'a [&'a str]) -> Result<Flags, ArgsFault>
     ensures quiet { IfOk result (λ f. IsTrue f.quiet ↔ IsUsed (codes "quiet") (map (λ w. w.now) words.now)) }
     ensures stop { IfOk result (λ f. IsTrue f.stop ↔ IsUsed (codes "stop") (map (λ w. w.now) words.now)) }
     ensures journal { IfOk result (λ f. IsTrue f.journal ↔ IsUsed (codes "journal") (map (λ w. w.now) words.now)) }
     ensures json { IfOk result (λ f. IsTrue f.json ↔ IsUsed (codes "json") (map (λ w. w.now) words.now)) }
-    ensures ok { OnOk result (fault_of program (map (λ w. w.now) words.now) ≡ []) }
+    ensures ok { OnOk result (AreAccepted (map (λ w. w.now) words.now)) }
     ensures fault { IfErr result (IsFaultOf (map (λ w. w.now) words.now)) }
 {
     let Ok(command) = command(alloc) else {
-        return Err(ArgumentsFault::Memory);
+        return Err(ArgsFault::Memory);
     };
     match command.try_get_matches_from(words) {
         Ok(matches) => Ok(Flags {
@@ -38,7 +41,7 @@ pub fn flags<'a>(alloc: Global, words: &'a [&'a str]) -> Result<Flags, Arguments
             journal: is_used(&matches, "journal"),
             json: is_used(&matches, "json"),
         }),
-        Err(error) => Err(ArgumentsFault::of(error)),
+        Err(error) => Err(ArgsFault::of(error)),
     }
 }
 
@@ -63,25 +66,25 @@ fn command<'a>(alloc: Global) -> Result<Command<'a>, AllocError>
     let journal = flag(
         alloc,
         "journal",
-        "Print the journal behind the plan: the edits that stand, for a later run",
+        "Print the journal after the plan: the edits that stand, for a later run",
     );
     let command = command.arg(journal)?;
     let json = flag(
         alloc,
         "json",
-        "Print each group as one line of JSON behind the plan",
+        "Print each group as one line of JSON after the plan",
     );
     command.arg(json)
 }
 
 // The command line without its arguments.
 fn described<'a>(alloc: Global) -> Command<'a>
-    ensures { app_of result ≡ with_version (new_app (codes "baliseplan")) }
+    ensures { app_of result ≡ new_app (codes "baliseplan") }
 {
     Command::new(alloc, "baliseplan")
         .about(ABOUT)
+        .override_usage(USAGE)
         .after_help(STATUS)
-        .version("0.1.0")
 }
 
 // An argument `--NAME` that takes no value.

@@ -7,5 +7,5 @@ mod options;
 
 pub use arguments::flags;
 pub use clap::Error;
-pub use fault::ArgumentsFault;
+pub use fault::ArgsFault;
 pub use options::Flags;

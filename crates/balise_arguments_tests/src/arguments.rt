@@ -1,98 +1,95 @@
 //! What `flags` answers.
 
-use balise_arguments::{ArgumentsFault, Flags, flags};
+use balise_arguments::{ArgsFault, Flags, flags};
 use std::alloc::Global;
 use std::process::Abort;
 
-const NONE: Flags = Flags {
-    quiet: false,
-    stop: false,
-    journal: false,
-    json: false,
-};
-
-const QUIET: Flags = Flags {
-    quiet: true,
-    stop: false,
-    journal: false,
-    json: false,
-};
-
-const STOP: Flags = Flags {
-    quiet: false,
-    stop: true,
-    journal: false,
-    json: false,
-};
-
-const JOURNAL: Flags = Flags {
-    quiet: false,
-    stop: false,
-    journal: true,
-    json: false,
-};
-
-const JSON: Flags = Flags {
-    quiet: false,
-    stop: false,
-    journal: false,
-    json: true,
-};
-
-const ALL: Flags = Flags {
-    quiet: true,
-    stop: true,
-    journal: true,
-    json: true,
-};
-
-/// Arguments, and the flags that they are read as.
-const READ: &[(&[&str], Flags)] = &[
-    (&["baliseplan"], NONE),
-    (&["baliseplan", "--quiet"], QUIET),
-    (&["baliseplan", "--stop"], STOP),
-    (&["baliseplan", "--journal"], JOURNAL),
-    (&["baliseplan", "--json"], JSON),
-    (&["baliseplan", "--json", "--"], JSON),
+/// Arguments, and the flags that they are read as: quiet, stop, journal and json, in each of the sixteen sets.
+const READ: &[(&[&str], [bool; 4])] = &[
+    (&["baliseplan"], [false, false, false, false]),
+    (&["baliseplan", "--quiet"], [true, false, false, false]),
+    (&["baliseplan", "--stop"], [false, true, false, false]),
+    (
+        &["baliseplan", "--quiet", "--stop"],
+        [true, true, false, false],
+    ),
+    (&["baliseplan", "--journal"], [false, false, true, false]),
+    (
+        &["baliseplan", "--quiet", "--journal"],
+        [true, false, true, false],
+    ),
+    (
+        &["baliseplan", "--stop", "--journal"],
+        [false, true, true, false],
+    ),
+    (
+        &["baliseplan", "--quiet", "--stop", "--journal"],
+        [true, true, true, false],
+    ),
+    (&["baliseplan", "--json"], [false, false, false, true]),
+    (
+        &["baliseplan", "--json", "--quiet"],
+        [true, false, false, true],
+    ),
+    (
+        &["baliseplan", "--stop", "--json"],
+        [false, true, false, true],
+    ),
+    (
+        &["baliseplan", "--quiet", "--stop", "--json"],
+        [true, true, false, true],
+    ),
+    (
+        &["baliseplan", "--journal", "--json"],
+        [false, false, true, true],
+    ),
+    (
+        &["baliseplan", "--quiet", "--journal", "--json"],
+        [true, false, true, true],
+    ),
+    (
+        &["baliseplan", "--stop", "--journal", "--json"],
+        [false, true, true, true],
+    ),
     (
         &["baliseplan", "--json", "--quiet", "--stop", "--journal"],
-        ALL,
+        [true, true, true, true],
     ),
+    (&["baliseplan", "--json", "--"], [false, false, false, true]),
 ];
 
-fn check_read(rt: &impl Abort, answer: &Result<Flags, ArgumentsFault>, wanted: Flags) {
+fn check_read(rt: &impl Abort, answer: &Result<Flags, ArgsFault>, wanted: [bool; 4]) {
     match answer {
-        Ok(read) => assert!(rt; *read == wanted),
+        Ok(read) => {
+            assert!(rt; read.quiet == wanted[0] && read.stop == wanted[1]);
+            assert!(rt; read.journal == wanted[2] && read.json == wanted[3]);
+        }
         Err(_) => assert!(rt; false),
     }
 }
 
 #[test]
-fn each_argument_and_all(rt: HostRuntime) {
+fn each_set_of_flags(rt: HostRuntime) {
     for (words, wanted) in READ.iter() {
         check_read(&rt, &flags(rt.alloc(), *words), *wanted);
     }
 }
 
-fn is_help(answer: &Result<Flags, ArgumentsFault>) -> bool {
-    matches!(answer, Err(ArgumentsFault::Help(_)))
+fn is_help(answer: &Result<Flags, ArgsFault>) -> bool {
+    matches!(answer, Err(ArgsFault::Help(_)))
 }
 
-fn is_version(answer: &Result<Flags, ArgumentsFault>) -> bool {
-    matches!(answer, Err(ArgumentsFault::Version(_)))
-}
-
-fn is_other(answer: &Result<Flags, ArgumentsFault>) -> bool {
-    matches!(answer, Err(ArgumentsFault::Other(_)))
+fn is_other(answer: &Result<Flags, ArgsFault>) -> bool {
+    matches!(answer, Err(ArgsFault::Other(_)))
 }
 
 #[test]
-fn help_and_version(rt: HostRuntime) {
+fn help(rt: HostRuntime) {
     let alloc = rt.alloc();
+    assert!(rt; is_help(&flags(alloc, &["baliseplan", "--help"])));
+    assert!(rt; is_help(&flags(alloc, &["baliseplan", "-h"])));
     assert!(rt; is_help(&flags(alloc, &["baliseplan", "--quiet", "--help"])));
-    assert!(rt; is_help(&flags(alloc, &["baliseplan", "--quiet", "-h"])));
-    assert!(rt; is_version(&flags(alloc, &["baliseplan", "--version", "--loud"])));
-    assert!(rt; is_version(&flags(alloc, &["baliseplan", "-V", "--loud"])));
+    assert!(rt; is_help(&flags(alloc, &["baliseplan", "--quiet", "-h", "--loud"])));
 }
 
 /// Arguments that aren't known, or given twice.
@@ -107,6 +104,10 @@ const OTHERS: &[&[&str]] = &[
     &["baliseplan", "--quiet", "--quiet"],
     &["baliseplan", "--", "--quiet"],
     &["baliseplan", "--loud", "--help"],
+    &["baliseplan", "--version"],
+    &["baliseplan", "-V"],
+    &["baliseplan", "--quiet", "--version"],
+    &["baliseplan", "-V", "--help"],
 ];
 
 #[test]
@@ -120,20 +121,20 @@ fn others(rt: HostRuntime) {
 #[test]
 fn texts(rt: HostRuntime) {
     let alloc = rt.alloc();
-    check_text(&rt, alloc, "--version", "baliseplan 0.1.0\n");
     check_text(&rt, alloc, "--help", HELP);
-    check_text(&rt, alloc, "--loud", LOUD)
+    check_text(&rt, alloc, "--loud", LOUD);
+    check_text(&rt, alloc, "--version", VERSION)
 }
 
 /// That the fault of this argument is shown so.
 fn check_text(rt: &impl Abort, alloc: Global, word: &str, wanted: &str) {
-    match flags(alloc, &["baliseplan", word]) {
+    match flags(alloc, &["another_name", word]) {
         Ok(_) => assert!(rt; false),
         Err(fault) => check_fault(rt, alloc, &fault, wanted),
     }
 }
 
-fn check_fault(rt: &impl Abort, alloc: Global, fault: &ArgumentsFault, wanted: &str) {
+fn check_fault(rt: &impl Abort, alloc: Global, fault: &ArgsFault, wanted: &str) {
     let text = format!(in alloc; "{fault}").expect(rt, "memory");
     check_shown(rt, text.as_str(), wanted);
 }
@@ -143,17 +144,16 @@ fn check_shown(rt: &impl Abort, text: &str, wanted: &str) {
 }
 
 const HELP: &str = "\
-Edits a plan of ETCS balise groups. Reads the plan and then one command a line from standard input, and prints a reply to each command and then the plan.
+baliseplan 0.1.0: edits a plan of ETCS balise groups. Reads the plan and then one command a line from standard input, and prints a reply to each command and then the plan.
 
 Usage: baliseplan [OPTIONS]
 
 Options:
       --quiet    Print no reply to a command that is accepted
       --stop     Do no command after the first that is refused
-      --journal  Print the journal behind the plan: the edits that stand, for a later run
-      --json     Print each group as one line of JSON behind the plan
+      --journal  Print the journal after the plan: the edits that stand, for a later run
+      --json     Print each group as one line of JSON after the plan
   -h, --help     Print help
-  -V, --version  Print version
 
 Status:
   0   all commands accepted
@@ -165,6 +165,14 @@ Status:
 
 const LOUD: &str = "\
 error: unexpected argument '--loud' found
+
+Usage: baliseplan [OPTIONS]
+
+For more information, try '--help'.
+";
+
+const VERSION: &str = "\
+error: unexpected argument '--version' found
 
 Usage: baliseplan [OPTIONS]
 

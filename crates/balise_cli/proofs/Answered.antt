@@ -1,21 +1,22 @@
 -- What a command is answered, from what its session answers.
-use Rattle.std.proofs.Common.{◌≡◌, ◌∙◌, inl, inr, ◌<◌, List, [], Bool, true, false, ◌&&◌, ◌||◌, IsTrue, nat_lt, Option, Some, None, Result, Ok, option_map, refl, sym, ap}
+use Rattle.std.proofs.Common.{◌≡◌, ◌≢◌, ◌⊎◌, ◌∙◌, inl, inr, ◌<◌, List, [], Bool, true, false, ◌&&◌, ◌||◌, IsTrue, nat_lt, Option, Some, None, Result, Ok, Err, option_map, refl, sym, ap}
 use Rattle.std.proofs.lemmas.Bool.{lt-ltb}
 use Rattle.balise_rules.specs.declared.identity.Id.{Id}
 use Rattle.balise_rules.specs.declared.refusal.Refusal.{Refusal}
+use Rattle.balise_rules.specs.declared.refusal.Refusal.TheVariants.{OutOfMemory}
 use Rattle.balise_rules.specs.declared.review.ReviewLine.{ReviewLine}
 use Rattle.balise_rules.specs.declared.tag.Tag.{Tag}
 use Rattle.balise_rules.specs.Addresses.{AskSet, AskSetHead, AskInsert, AskDelete, AskMove, AskAdd, AskDrop, AskRenumber, AskTurn}
 use Rattle.balise_rules.specs.Plan.{Group, Plan}
 use Rattle.balise_rules.specs.Review.{review}
-use Rattle.balise_rules.specs.Session.{State, Call, Ask, Undo, Redo, Strike, Reply, most_commands, takes_memory}
+use Rattle.balise_rules.specs.Session.{State, Call, Ask, Undo, Redo, Strike, Reply, Refused, most_commands, takes_memory}
 use Rattle.balise_rules.proofs.Cases.{unsome}
 use Rattle.balise_text.specs.Commands.{call_of, reads_digits}
 use Rattle.balise_text.specs.Answers.{reply_of}
 use Rattle.balise_text.specs.Texts.{Text}
-use Rattle.balise_cli.specs.Output.{MayAnswer, answer_line, group_review, reviewed, wants_memory}
+use Rattle.balise_cli.specs.Output.{MayAnswer, answer_line, group_review, reviewed, may_run_out}
 use Rattle.balise_cli.specs.Private.{DidAnswer, DidDo, TurnsWith, turned_by}
-use Rattle.balise_cli.specs.declared.commands.Answer.{Answer}
+use Rattle.balise_cli.specs.declared.answers.Answer.{Answer}
 
 -- the review of a group that was found by its identity
 pub group_reviewed : (o : Option (Tag × Group)) (g : Tag) (plan : Plan) → option_map (λ (y : Tag × Group). y.0) o ≡ Some g → review g plan ≡ group_review o plan
@@ -33,7 +34,7 @@ wanted c s takes time = ap (λ b. b && takes_memory c s) (lt-ltb s.count most_co
 pub line_answered : (line : Text) (s t : State) (r : Reply) (c : Call) → call_of line ≡ Ok c → DidDo c s r t → MayAnswer true line s r t
 line_answered line s t r c h (inl e) = inl (e ∙ sym (ap (λ (x : Result Call Refusal). answer_line x s) h))
 line_answered line s t r c h (inr w) =
-    inr (refl, ap (λ (x : Result Call Refusal). reads_digits line || wants_memory x s) h ∙ ap (λ b. reads_digits line || b) (wanted c s w.0 w.1) ∙ or_true (reads_digits line), w.2, w.3)
+    inr (refl, ap (λ (x : Result Call Refusal). reads_digits line || may_run_out x s) h ∙ ap (λ b. reads_digits line || b) (wanted c s w.0 w.1) ∙ or_true (reads_digits line), w.2, w.3)
 
 is_turn : (c : Call) (i : Id) → turned_by c ≡ Some i → c ≡ Ask (AskTurn i)
 is_turn (Ask (AskTurn j)) i h = ap (λ (k : Id). Ask (AskTurn k)) (unsome h)
@@ -77,3 +78,21 @@ other_answered line s t r ls c h k did none =
 pub not_some : (o : Option Id) → ((i : Id) → o ≡ Some i → ⊥) → o ≡ None
 not_some None h = refl
 not_some (Some i) h = absurd (h i refl)
+
+-- of a line that is none
+
+wanted_or : (r : Refusal) → (r ≡ OutOfMemory) ⊎ (r ≢ OutOfMemory)
+wanted_or OutOfMemory = inl refl
+wanted_or r = inr (λ e. absurd cc)
+
+none_reviewed : (c : Result Call Refusal) (r : Refusal) (s : State) → [] ≡ reviewed c (Refused r) s
+none_reviewed (Err f) r s = refl
+none_reviewed (Ok (Ask (AskTurn i))) r s = refl
+none_reviewed c r s = refl
+
+pub refused_answered : (line : Text) (s : State) (r : Refusal) (ls : List ReviewLine) → (r ≢ OutOfMemory → call_of line ≡ Err r) → (r ≡ OutOfMemory → reads_digits line ≡ true) → ls ≡ [] → MayAnswer true line s (Refused r) s × (ls ≡ reviewed (call_of line) (Refused r) s)
+refused_answered line s r ls fault memory none = (by (wanted_or r), none ∙ none_reviewed (call_of line) r s)
+  where
+    by : (r ≡ OutOfMemory) ⊎ (r ≢ OutOfMemory) → MayAnswer true line s (Refused r) s
+    by (inl e) = inr (refl, ap (λ b. b || may_run_out (call_of line) s) (memory e), ap Refused e, refl)
+    by (inr n) = inl (sym (ap (λ (x : Result Call Refusal). answer_line x s) (fault n)))

@@ -16,7 +16,7 @@ Cause fault before after = IsCause before after fault
 pub call_failed : {W : Type 0} (contents : W → Option (List ℕ)) (old new : Counted W) (text : List ℕ) (fault : RunFault) → fault ≡ WriteFault → WritesSome LastFailed contents old new text → WritesSome (Cause fault) contents old new text
 call_failed contents old new text fault e s = record { begun = s.begun; cause = subst (λ f. IsCause old.failed new.failed f) (sym e) s.cause }
 
--- memory was wanted behind a first part
+-- memory ran out after a first part
 pub memory_wanted : {W : Type 0} (contents : W → Option (List ℕ)) (old now : Counted W) (text xs ys : List ℕ) → text ≡ xs ++ ys → WritesAll contents old now xs → WritesSome (Cause OutOfMemory) contents old now text
 memory_wanted contents old now text xs ys e a =
     some_front_of (Cause OutOfMemory) contents text xs ys old now e (record { begun = some_all (contents old.inner) (contents now.inner) xs a.appended; cause = a.unfailed })

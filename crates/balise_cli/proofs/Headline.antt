@@ -1,5 +1,7 @@
 -- What a whole run prints: from the plan's first line on, each session is one of which all is promised.
-use Rattle.std.proofs.Common.{◌≡◌, ◌⊎◌, ◌∙◌, inl, inr, ℕ, ◌+◌, ◌≤◌, ◌<◌, Bool, true, false, cond, ◌&&◌, ◌||◌, IsTrue, List, [], ◌∷◌, ◌++◌, length, is_some, Option, Some, None, Result, Ok, Err, refl, sym, ap, subst, append_assoc, arith, length-append}
+use Rattle.std.proofs.Common.{◌≡◌, ◌⊎◌, ◌∙◌, inl, inr, ℕ, ◌+◌, ◌≤◌, ◌<◌, Bool, true, false, cond, ◌&&◌, ◌||◌, IsTrue, List, [], ◌∷◌, ◌++◌, length, is_some, Option, Some, None, Result, Ok, Err, refl, sym, ap, subst, append_assoc, append-nil, arith, length-append}
+use Rattle.std.specs.Prelude.{IfOk}
+use Rattle.std.specs.List.{list_any}
 use Rattle.balise_rules.specs.declared.refusal.Refusal.{Refusal}
 use Rattle.balise_rules.specs.declared.refusal.Refusal.TheVariants.{BadLine, GroupTwice, OutOfMemory}
 use Rattle.balise_rules.specs.declared.tag.Tag.TheVariants.{Base}
@@ -8,7 +10,6 @@ use Rattle.balise_rules.specs.Plan.{Group, Plan, group_named, identity_of, with_
 use Rattle.balise_rules.specs.Session.{Call, Reply, Refused, State}
 use Rattle.balise_rules.proofs.Cases.{unok}
 use Rattle.balise_edit_laws.proofs.PlansRead.{plan_read}
-use Rattle.balise_strike_laws.specs.Headline.{Promised}
 use Rattle.balise_strike_laws.specs.Sessions.{IsSession}
 use Rattle.balise_strike_laws.proofs.Promises.{sessions_promised}
 use Rattle.balise_strike_laws.proofs.SessionsKept.{openings_begin, openings_kept, sessions_begin, sessions_kept}
@@ -24,17 +25,20 @@ use Rattle.balise_text.specs.Replies.{is_refused}
 use Rattle.balise_text.specs.Texts.{Text}
 use Rattle.balise_text.specs.Words.{most_number}
 use Rattle.balise_text.specs.declared.head.Head.{Head}
-use Rattle.balise_text.specs.declared.part.Part.{Part}
+use Rattle.balise_text.specs.declared.section.Section.{Section}
 use Rattle.balise_text.specs.declared.plan_line.PlanLine.{PlanLine}
 use Rattle.balise_text.specs.declared.plan_line.PlanLine.TheVariants.{FirstLine, GroupLine, EditsLine, JournalLine as HeadLine, Empty, TelegramLine}
-use Rattle.balise_cli.specs.Laws.{GoesOn, Opens, PrintsAll, PrintsBad, PrintsHeld, PrintsStandingEdits}
-use Rattle.balise_cli.specs.Output.{Phase, Header, Between, InGroup, InJournal, Commands, Read, Good, Bad, Next, On, Over, Ended, Follows, IsOutput, IsStep, MayAnswer, after_command, after_read, answer_line, at_end, between, closed, closed_as, first_line, if_fits, in_group, in_journal, journal_begun, one_more, read_line, reply_text, reviewed, wants_memory}
+use Rattle.balise_cli.specs.Ends.{WritesOutput, WritesStanding}
+use Rattle.balise_cli.specs.Laws.{Answered, GoesOn, KeepsPromises, Opens, PrintsAll, PrintsBad, PrintsHeld, PrintsStandingEdits, RefusedOr, Refuses}
+use Rattle.balise_cli.specs.Output.{Phase, Header, Between, InGroup, InJournal, Commands, Read, Good, Bad, Next, On, Over, Ended, Follows, IsOutput, IsStep, MayAnswer, after_command, after_read, answer_line, at_end, between, closed, closed_as, first_line, if_fits, in_group, in_journal, journal_begun, one_more, read_line, reply_text, reviewed, may_run_out}
 use Rattle.balise_cli.specs.PlanRead.{WasRead, with_line}
 use Rattle.balise_cli.specs.PlanTexts.{end_text}
+use Rattle.balise_cli.specs.Statuses.{status_of}
+use Rattle.balise_cli.specs.declared.fault.RunFault.{RunFault}
 use Rattle.balise_cli.specs.declared.status.Status.{Status}
-use Rattle.balise_cli.specs.declared.status.Status.TheVariants.{BadInput, SomeRefused}
+use Rattle.balise_cli.specs.declared.status.Status.TheVariants.{SomeRefused}
 use Rattle.balise_cli.proofs.BasePlans.{added_read, read_last}
-use Rattle.balise_cli.proofs.JournalTexts.{IsOpened, journal_read_back, opened_base, opened_over}
+use Rattle.balise_cli.proofs.JournalTexts.{IsOpened, at_commands, journal_read_back, opened_base, opened_over, opens_on}
 use Rattle.balise_cli.proofs.OneLine.{IsReading}
 
 -- Each phase keeps what was read, or a session.
@@ -45,13 +49,13 @@ IsKept at Header = Unit {0}
 IsKept at (Between plan) = WasRead plan × (length plan ≤ at)
 IsKept at (InGroup plan g ys) = WasRead plan × (length plan < at) × WereRead ys
 IsKept at (InJournal part s) = IsOpened s
-IsKept at (Commands s refused) = IsOpened s
+IsKept at (Commands s refused) = IsOpened s × (refused ≡ false)
 
 abbrev ReadKept : ℕ → Read → Type 0
 ReadKept at (Good p) = IsKept at p
 ReadKept at (Bad n r) = Unit {0}
 
-fits_kept : (at n : ℕ) (part : Part) (o : Option State) → ((s : State) → o ≡ Some s → IsOpened s) → ReadKept at (if_fits n part o)
+fits_kept : (at n : ℕ) (part : Section) (o : Option State) → ((s : State) → o ≡ Some s → IsOpened s) → ReadKept at (if_fits n part o)
 fits_kept at n part None h = tt
 fits_kept at n part (Some s) h = h s refl
 
@@ -61,17 +65,17 @@ begun_kept at plan n (Ok h) w few =
     let p = plan_read w.0 plan w.1 in
     fits_kept at n _ (opened_at plan h.next) (λ s e. opened_over plan s w few (openings_begin plan h.next s p.0 p.1 e) (opened_base plan h.next s e))
 
-journal_kept : (at : ℕ) (part : Part) (s : State) (n : ℕ) (l : Result JournalLine Refusal) → IsOpened s → ReadKept at (in_journal part s n l)
+journal_kept : (at : ℕ) (part : Section) (s : State) (n : ℕ) (l : Result JournalLine Refusal) → IsOpened s → ReadKept at (in_journal part s n l)
 journal_kept at part s n (Err r) h = tt
 journal_kept at part s n (Ok (EntryLine l)) h = fits_kept at n part (with_entry s l) (λ t e. let k = openings_kept.0 l s t h.session e in opened_over s.base t h.read h.few k.0 k.1)
 journal_kept at part s n (Ok (UndoneLine u)) h = fits_kept at n _ (with_undone s u) (λ t e. let k = openings_kept.1 u s t h.session e in opened_over s.base t h.read h.few k.0 k.1)
-journal_kept at part s n (Ok EndLine) h = h
+journal_kept at part s n (Ok EndLine) h = (h, refl)
 
 -- a line that isn't empty takes a byte
 between_kept : (was at : ℕ) (plan : Plan) (n : ℕ) (k : PlanLine) (line : Text) → WasRead plan → length plan ≤ was → was ≤ at → at ≤ 67108864 → (k ≡ GroupLine → was < at) → ReadKept at (between plan n k line)
 between_kept was at plan n FirstLine line w few more most longer = tt
 between_kept was at plan n GroupLine line w few more most longer = let l = longer refl in (w, omega (arith, few, l), none_read)
-between_kept was at plan n EditsLine line w few more most longer = let p = plan_read w.0 plan w.1 in record { session = sessions_begin plan p.0 p.1; read = w; few = omega (arith, few, more, most) }
+between_kept was at plan n EditsLine line w few more most longer = let p = plan_read w.0 plan w.1 in (record { session = sessions_begin plan p.0 p.1; read = w; few = omega (arith, few, more, most) }, refl)
 between_kept was at plan n HeadLine line w few more most longer = begun_kept at plan n (read_head line) w (omega (arith, few, more, most))
 between_kept was at plan n Empty line w few more most longer = tt
 between_kept was at plan n TelegramLine line w few more most longer = tt
@@ -147,98 +151,180 @@ answer_kept scarce line s t r h may = by (call_of line) may
     same : t ≡ s → IsSession t × (t.base ≡ s.base)
     same e = (subst IsSession (sym e) h, ap (λ (u : State). u.base) e)
 
-    by : (c : Result Call Refusal) → (◌≡◌ {A = Reply × State} (r, t) (answer_line c s)) ⊎ ((scarce ≡ true) × IsTrue (reads_digits line || wants_memory c s) × (r ≡ Refused OutOfMemory) × (t ≡ s)) → IsSession t × (t.base ≡ s.base)
+    by : (c : Result Call Refusal) → (◌≡◌ {A = Reply × State} (r, t) (answer_line c s)) ⊎ ((scarce ≡ true) × IsTrue (reads_digits line || may_run_out c s) × (r ≡ Refused OutOfMemory) × (t ≡ s)) → IsSession t × (t.base ≡ s.base)
     by (Err f) (inl e) = same (ap (λ (a : Reply × State). a.1) e)
     by (Ok c) (inl e) = sessions_kept c r s t h (inl e)
     by c (inr w) = same w.3
 
--- with one more command before
-more_held : (flags : Flags) (scarce : Bool) (s u : State) (line : Line) (lines : List Line) (r : Reply) (now out more : Text) → MayAnswer scarce line.bytes s r u → u.base ≡ s.base
-    → now ≡ reply_text flags.quiet r (reviewed (call_of line.bytes) r s) → out ≡ now ++ more → PrintsHeld flags scarce u lines more → PrintsHeld flags scarce s (line ∷ lines) out
-more_held flags scarce s u line lines r now out more may base is e h = record {
-  done = line ∷ h.done;
-  left = h.left;
-  cut = ap (λ ls. line ∷ ls) h.cut;
-  replies = r ∷ h.replies;
-  printed = now ++ h.printed;
-  held = h.held;
-  answered = (u, (h.printed, (may, ap (λ (t : Text). t ++ h.printed) is, h.answered)));
-  whole = e ∙ ap (λ (t : Text). now ++ t) h.whole ∙ sym (append_assoc now h.printed (end_text flags h.held));
-  promised = subst (λ b. Promised b h.held) base h.promised;
-  read_back = h.read_back;
-}
+-- all is promised of each state that commands lead to
+answered_keeps : (flags : Flags) (scarce : Bool) (s t : State) (lines : List Line) (rs : List Reply) (text : Text) → IsOpened s → Answered flags scarce s lines rs text t → KeepsPromises s.base t
+answered_keeps flags scarce s t [] [] text h a = subst (λ (u : State). KeepsPromises s.base u) (sym a.1) (sessions_promised s h.session, journal_read_back s h)
+answered_keeps flags scarce s t [] (r ∷ rs) text h a = absurd a
+answered_keeps flags scarce s t (line ∷ lines) [] text h a = absurd a
+answered_keeps flags scarce s t (line ∷ lines) (r ∷ rs) text h (u, (more, (may, is, a))) =
+    let k = answer_kept scarce line.bytes s u r h.session may in
+    subst (λ (b : Plan). KeepsPromises b t) k.1 (answered_keeps flags scarce u t lines rs more (opened_over s.base u h.read h.few k.0 k.1) a)
 
-none_held : (flags : Flags) (scarce : Bool) (s : State) (lines : List Line) (out : Text) → IsOpened s → out ≡ end_text flags s → PrintsHeld flags scarce s lines out
-none_held flags scarce s lines out h e = record {
-  done = [];
-  left = lines;
-  cut = refl;
-  replies = [];
-  printed = [];
-  held = s;
-  answered = (refl, refl);
-  whole = e;
-  promised = sessions_promised s h.session;
-  read_back = journal_read_back s h;
-}
+ended : {status other : Status} → Ended status ≡ Ended other → status ≡ other
+ended e = cc
+
+or_false : (b : Bool) → b ≡ (b || false)
+or_false true = refl
+or_false false = refl
+
+or_or : (a b c : Bool) → ((a || b) || c) ≡ (a || (b || c))
+or_or true b c = refl
+or_or false b c = refl
+
+-- the status of a run that stops
+stopped_status : (stop b refused : Bool) → (stop && b) ≡ true → SomeRefused ≡ status_of (refused || (b || false))
+stopped_status true true true e = refl
+stopped_status true true false e = refl
+stopped_status true false refused e = absurd cc
+stopped_status false b refused e = absurd cc
+
+-- what is printed over commands, where one before them was refused or not
+abbrev Held : Flags → Bool → State → Bool → List Line → Text → Status → Type 0
+Held flags scarce s refused lines out status = (h : PrintsHeld flags scarce s lines out) × (status ≡ status_of (refused || list_any is_refused h.replies))
+
+-- with one more command before
+more_held : (flags : Flags) (scarce : Bool) (s u : State) (refused : Bool) (line : Line) (lines : List Line) (r : Reply) (now out more : Text) (status : Status) → IsOpened s → (flags.stop && is_refused r) ≡ false → MayAnswer scarce line.bytes s r u
+    → now ≡ reply_text flags.quiet r (reviewed (call_of line.bytes) r s) → out ≡ now ++ more → Held flags scarce u (refused || is_refused r) lines more status → Held flags scarce s refused (line ∷ lines) out status
+more_held flags scarce s u refused line lines r now out more status first goes may is e (h, f) = (
+  record {
+    done = line ∷ h.done;
+    left = h.left;
+    cut = ap (λ ls. line ∷ ls) h.cut;
+    replies = r ∷ h.replies;
+    stops = inr (goes, h.stops);
+    printed = now ++ h.printed;
+    held = h.held;
+    answered = (u, (h.printed, (may, ap (λ (t : Text). t ++ h.printed) is, h.answered)));
+    whole = e ∙ ap (λ (t : Text). now ++ t) h.whole ∙ sym (append_assoc now h.printed (end_text flags h.held));
+    promised = λ ls qs text t a. answered_keeps flags scarce s t ls qs text first a;
+  },
+  f ∙ ap status_of (or_or refused (is_refused r) (list_any is_refused h.replies)),
+)
+
+-- a command that stops the run
+stopped_held : (flags : Flags) (scarce : Bool) (s u : State) (refused : Bool) (line : Line) (lines : List Line) (r : Reply) (now out more : Text) (status : Status) → IsOpened s → (flags.stop && is_refused r) ≡ true → MayAnswer scarce line.bytes s r u
+    → now ≡ reply_text flags.quiet r (reviewed (call_of line.bytes) r s) → out ≡ now ++ more → more ≡ end_text flags u → status ≡ SomeRefused → Held flags scarce s refused (line ∷ lines) out status
+stopped_held flags scarce s u refused line lines r now out more status first stop may is e end f = (
+  record {
+    done = line ∷ [];
+    left = lines;
+    cut = refl;
+    replies = r ∷ [];
+    stops = inl (stop, refl);
+    printed = now;
+    held = u;
+    answered = (u, ([], (may, is ∙ sym (append-nil (reply_text flags.quiet r (reviewed (call_of line.bytes) r s))), (refl, refl))));
+    whole = e ∙ ap (λ (t : Text). now ++ t) end;
+    promised = λ ls qs text t a. answered_keeps flags scarce s t ls qs text first a;
+  },
+  f ∙ stopped_status flags.stop (is_refused r) refused stop,
+)
+
+-- after the last one
+none_held : (flags : Flags) (scarce : Bool) (s : State) (refused : Bool) (out : Text) (status : Status) → IsOpened s → out ≡ end_text flags s → status ≡ status_of refused → Held flags scarce s refused [] out status
+none_held flags scarce s refused out status first e f = (
+  record {
+    done = [];
+    left = [];
+    cut = refl;
+    replies = [];
+    stops = refl;
+    printed = [];
+    held = s;
+    answered = (refl, refl);
+    whole = e;
+    promised = λ ls qs text t a. answered_keeps flags scarce s t ls qs text first a;
+  },
+  f ∙ ap status_of (or_false refused),
+)
 
 -- a command whose run is over, or goes on
 command_held : (flags : Flags) (scarce : Bool) (s u : State) (line : Line) (lines : List Line) (r : Reply) (refused : Bool) (now out more : Text) (status : Status) (goes : Phase → Text → Type 0)
-    → ((q : Bool) (rest : Text) → goes (Commands u q) rest → PrintsHeld flags scarce u lines rest) → IsOpened u → MayAnswer scarce line.bytes s r u → u.base ≡ s.base
-    → now ≡ reply_text flags.quiet r (reviewed (call_of line.bytes) r s) → out ≡ now ++ more → Follows goes (after_command flags r u refused) more (Ended status) → PrintsHeld flags scarce s (line ∷ lines) out
-command_held flags scarce s u line lines r refused now out more status goes again session may base is e follows = by (flags.stop && is_refused r) follows
+    → ((q : Bool) (rest : Text) → goes (Commands u q) rest → Held flags scarce u q lines rest status) → IsOpened s → MayAnswer scarce line.bytes s r u
+    → now ≡ reply_text flags.quiet r (reviewed (call_of line.bytes) r s) → out ≡ now ++ more → Follows goes (after_command flags r u refused) more (Ended status) → Held flags scarce s refused (line ∷ lines) out status
+command_held flags scarce s u line lines r refused now out more status goes again first may is e follows = by (flags.stop && is_refused r) refl follows
   where
-    by : (b : Bool) → Follows goes (cond b (Over (end_text flags u) SomeRefused) (On (Commands u (refused || is_refused r)))) more (Ended status) → PrintsHeld flags scarce s (line ∷ lines) out
-    by true f = more_held flags scarce s u line lines r now out more may base is e (none_held flags scarce u lines more session f.0)
-    by false f = more_held flags scarce s u line lines r now out more may base is e (again (refused || is_refused r) more f)
+    by : (b : Bool) → (flags.stop && is_refused r) ≡ b → Follows goes (cond b (Over (end_text flags u) SomeRefused) (On (Commands u (refused || is_refused r)))) more (Ended status) → Held flags scarce s refused (line ∷ lines) out status
+    by true stop f = stopped_held flags scarce s u refused line lines r now out more status first stop may is e f.0 (ended f.1)
+    by false stop f = more_held flags scarce s u refused line lines r now out more status first stop may is e (again (refused || is_refused r) more f)
 
-commands_held : (flags : Flags) (scarce : Bool) (s : State) (refused : Bool) (n place : ℕ) (lines : List Line) (out : Text) (status : Status) → IsOpened s → IsOutput flags scarce (Commands s refused) n place lines out (Ended status) → PrintsHeld flags scarce s lines out
-commands_held flags scarce s refused n place [] out status h o = none_held flags scarce s [] out h o.0
+commands_held : (flags : Flags) (scarce : Bool) (s : State) (refused : Bool) (n place : ℕ) (lines : List Line) (out : Text) (status : Status) → IsOpened s → IsOutput flags scarce (Commands s refused) n place lines out (Ended status) → Held flags scarce s refused lines out status
+commands_held flags scarce s refused n place [] out status h o = none_held flags scarce s refused out status h o.0 (ended o.1)
 commands_held flags scarce s refused n place (line ∷ lines) out status h (inl o) = absurd cc
 commands_held flags scarce s refused n place (line ∷ lines) out status h (inr (fits, (now, (next, (more, ((r, (u, (may, is, e))), whole_is, follows)))))) =
     let answered = answer_kept scarce line.bytes s u r h.session may in
     let kept = opened_over s.base u h.read h.few answered.0 answered.1 in
     command_held flags scarce s u line lines r refused now out more status (λ q rest. IsOutput flags scarce q (n + 1) (place + length (whole line)) lines rest (Ended status))
-    (λ q rest x. commands_held flags scarce u q (n + 1) (place + length (whole line)) lines rest status kept x) kept may answered.1 is whole_is
+    (λ q rest x. commands_held flags scarce u q (n + 1) (place + length (whole line)) lines rest status kept x) h may is whole_is
     (subst (λ (x : Next). Follows (λ q rest. IsOutput flags scarce q (n + 1) (place + length (whole line)) lines rest (Ended status)) x more (Ended status)) e follows)
 
 -- The lines before the commands.
 
-ended : {status : Status} → Ended status ≡ Ended BadInput → status ≡ BadInput
-ended e = cc
+abbrev Prints : Flags → Bool → Phase → ℕ → List Line → Text → Status → Type 0
+Prints flags scarce p n lines out status = PrintsBad flags p n lines out status ⊎ PrintsAll flags scarce p n lines out status
 
 -- one line before
-opens_before : (flags : Flags) (scarce : Bool) (p q : Phase) (n : ℕ) (line : Line) (lines : List Line) (out more : Text) (status : Status) → read_line p n line.bytes ≡ Good q → out ≡ [] ++ more
-    → PrintsBad more status ⊎ PrintsAll flags scarce q (n + 1) lines more → PrintsBad out status ⊎ PrintsAll flags scarce p n (line ∷ lines) out
-opens_before flags scarce p q n line lines out more status e o (inl b) = inl (b.0, (b.1.0, o ∙ b.1.1, b.1.2))
-opens_before flags scarce p q n line lines out more status e o (inr a) =
-    inr (a.0, (a.1.0, (inr (subst (λ (x : Read). GoesOn x (λ k. Opens k (n + 1) lines a.0 a.1.0)) (sym e) a.1.1.0), subst (λ (t : Text). PrintsHeld flags scarce a.0 a.1.0 t) (sym o) a.1.1.1)))
+opens_before : (flags : Flags) (scarce : Bool) (p q : Phase) (n : ℕ) (line : Line) (lines : List Line) (out more : Text) (status : Status) → IsReading p → read_line p n line.bytes ≡ Good q → out ≡ more → Prints flags scarce q (n + 1) lines more status
+    → Prints flags scarce p n (line ∷ lines) out status
+opens_before flags scarce p q n line lines out more status i e o (inl (k, (r, (refuses, is, ends)))) =
+    inl (k, (r, (subst (λ (x : Read). RefusedOr x k r (λ j. Refuses flags j (n + 1) lines k r)) (sym e) refuses, o ∙ is, ends)))
+opens_before flags scarce p q n line lines out more status i e o (inr a) =
+    let h = a.prints in
+    inr (record {
+      opened = a.opened;
+      commands = a.commands;
+      opens = opens_on p n line lines a.opened a.commands i (subst (λ (x : Read). GoesOn x (λ k. Opens k (n + 1) lines a.opened a.commands)) (sym e) a.opens);
+      prints = record {
+        done = h.done;
+        left = h.left;
+        cut = h.cut;
+        replies = h.replies;
+        stops = h.stops;
+        printed = h.printed;
+        held = h.held;
+        answered = h.answered;
+        whole = o ∙ h.whole;
+        promised = h.promised;
+      };
+      ends = a.ends;
+    })
 
 -- a line of the plan or the journal, and what follows
-reading_step : (flags : Flags) (scarce : Bool) (p : Phase) (n : ℕ) (line : Line) (lines : List Line) (out more : Text) (status : Status) (at : ℕ) (goes : Phase → Text → Type 0)
-    → ((q : Phase) (rest : Text) → IsKept at q → goes q rest → PrintsBad rest status ⊎ PrintsAll flags scarce q (n + 1) lines rest) → ReadKept at (read_line p n line.bytes) → out ≡ [] ++ more
-    → Follows goes (after_read (read_line p n line.bytes)) more (Ended status) → PrintsBad out status ⊎ PrintsAll flags scarce p n (line ∷ lines) out
-reading_step flags scarce p n line lines out more status at goes again kept o follows = by (read_line p n line.bytes) refl kept follows
+reading_step : (flags : Flags) (scarce : Bool) (p : Phase) (n : ℕ) (line : Line) (lines : List Line) (out more : Text) (status : Status) (at : ℕ) (goes : Phase → Text → Type 0) → IsReading p
+    → ((q : Phase) (rest : Text) → IsKept at q → goes q rest → Prints flags scarce q (n + 1) lines rest status) → ReadKept at (read_line p n line.bytes) → out ≡ more
+    → Follows goes (after_read (read_line p n line.bytes)) more (Ended status) → Prints flags scarce p n (line ∷ lines) out status
+reading_step flags scarce p n line lines out more status at goes i again kept o follows = by (read_line p n line.bytes) refl kept follows
   where
-    by : (rd : Read) → read_line p n line.bytes ≡ rd → ReadKept at rd → Follows goes (after_read rd) more (Ended status) → PrintsBad out status ⊎ PrintsAll flags scarce p n (line ∷ lines) out
-    by (Bad m r) e k f = inl (m, (r, o ∙ f.0, ended f.1))
-    by (Good q) e k f = opens_before flags scarce p q n line lines out more status e o (again q more k f)
+    by : (rd : Read) → read_line p n line.bytes ≡ rd → ReadKept at rd → Follows goes (after_read rd) more (Ended status) → Prints flags scarce p n (line ∷ lines) out status
+    by (Bad m r) e k f = inl (m, (r, (subst (λ (x : Read). RefusedOr x m r (λ j. Refuses flags j (n + 1) lines m r)) (sym e) (refl, refl), o ∙ f.0, ended f.1)))
+    by (Good q) e k f = opens_before flags scarce p q n line lines out more status i e o (again q more k f)
 
--- at the commands
-at_commands : (flags : Flags) (scarce : Bool) (s : State) (refused : Bool) (n place : ℕ) (lines : List Line) (out : Text) (status : Status) → IsOpened s → IsOutput flags scarce (Commands s refused) n place lines out (Ended status)
-    → PrintsAll flags scarce (Commands s refused) n lines out
-at_commands flags scarce s refused n place [] out status h o = (s, ([], ((refl, refl), commands_held flags scarce s refused n place [] out status h o)))
-at_commands flags scarce s refused n place (line ∷ lines) out status h o = (s, (line ∷ lines, (inl (refl, refl), commands_held flags scarce s refused n place (line ∷ lines) out status h o)))
+-- at the commands, none of which was refused before
+all_printed : (flags : Flags) (scarce : Bool) (s : State) (refused : Bool) (n place : ℕ) (lines : List Line) (out : Text) (status : Status) → IsOpened s → refused ≡ false → IsOutput flags scarce (Commands s refused) n place lines out (Ended status)
+    → PrintsAll flags scarce (Commands s refused) n lines out status
+all_printed flags scarce s refused n place lines out status h first o =
+    let c = commands_held flags scarce s refused n place lines out status h o in record {
+      opened = s;
+      commands = lines;
+      opens = at_commands s refused n lines;
+      prints = c.0;
+      ends = c.1 ∙ ap (λ (b : Bool). status_of (b || list_any is_refused c.0.replies)) first;
+    }
 
-end_bad : (flags : Flags) (p : Phase) (n : ℕ) (out : Text) (status : Status) → IsReading p → Follows (λ _ _. ⊥) (at_end flags p n) out (Ended status) → PrintsBad out status
-end_bad flags Header n out status i f = (n, (_, f.0, ended f.1))
-end_bad flags (Between plan) n out status i f = (n, (_, f.0, ended f.1))
-end_bad flags (InJournal part s) n out status i f = (n, (_, f.0, ended f.1))
-end_bad flags (InGroup plan g ys) n out status i f = by (with_read plan ys) f
+end_bad : (flags : Flags) (p : Phase) (n : ℕ) (out : Text) (status : Status) → IsReading p → Follows (λ _ _. ⊥) (at_end flags p n) out (Ended status) → PrintsBad flags p n [] out status
+end_bad flags Header n out status i f = (n, (BadLine, (refl, f.0, ended f.1)))
+end_bad flags (Between plan) n out status i f = (n, (BadLine, (refl, f.0, ended f.1)))
+end_bad flags (InJournal part s) n out status i f = (n, (BadLine, (refl, f.0, ended f.1)))
+end_bad flags (InGroup plan g ys) n out status i f = by (with_read plan ys) refl f
   where
-    by : (r : Result Plan Refusal) → Follows (λ _ _. ⊥) (after_read (closed_as g r (λ p. Bad n BadLine))) out (Ended status) → PrintsBad out status
-    by (Err e) f = (g, (e, f.0, ended f.1))
-    by (Ok p) f = (n, (_, f.0, ended f.1))
+    by : (r : Result Plan Refusal) → with_read plan ys ≡ r → Follows (λ _ _. ⊥) (after_read (closed_as g r (λ p. Bad n BadLine))) out (Ended status) → PrintsBad flags (InGroup plan g ys) n [] out status
+    by (Err e) q f = (g, (e, (ap (λ (x : Result Plan Refusal). after_read (closed_as g x (λ p. Bad n BadLine))) q, f.0, ended f.1)))
+    by (Ok p) q f = (n, (BadLine, (ap (λ (x : Result Plan Refusal). after_read (closed_as g x (λ p. Bad n BadLine))) q, f.0, ended f.1)))
 end_bad flags (Commands s refused) n out status i f = absurd i
 
 -- the step of a line that isn't a command's
@@ -250,16 +336,16 @@ read_as flags scarce (InJournal part s) n line now next i step = step
 read_as flags scarce (Commands s refused) n line now next i step = absurd i
 
 prints_read : (flags : Flags) (scarce : Bool) (p : Phase) (n place : ℕ) (line : Line) (lines : List Line) (out : Text) (status : Status) → IsReading p → IsKept place p
-    → ((q : Phase) (rest : Text) → IsKept (place + length (whole line)) q → IsOutput flags scarce q (n + 1) (place + length (whole line)) lines rest (Ended status) → PrintsBad rest status ⊎ PrintsAll flags scarce q (n + 1) lines rest)
-    → IsOutput flags scarce p n place (line ∷ lines) out (Ended status) → PrintsBad out status ⊎ PrintsAll flags scarce p n (line ∷ lines) out
+    → ((q : Phase) (rest : Text) → IsKept (place + length (whole line)) q → IsOutput flags scarce q (n + 1) (place + length (whole line)) lines rest (Ended status) → Prints flags scarce q (n + 1) lines rest status)
+    → IsOutput flags scarce p n place (line ∷ lines) out (Ended status) → Prints flags scarce p n (line ∷ lines) out status
 prints_read flags scarce p n place line lines out status i kept again (inl o) = absurd cc
 prints_read flags scarce p n place line lines out status i kept again (inr (fits, (now, (next, (more, (step, o, follows)))))) =
     let goes : Phase → Text → Type 0 = λ q rest. IsOutput flags scarce q (n + 1) (place + length (whole line)) lines rest (Ended status) in
     let read = read_as flags scarce p n line.bytes now next i step in
-    reading_step flags scarce p n line lines out more status (place + length (whole line)) goes again (line_kept p n place line fits kept) (o ∙ ap (λ (t : Text). t ++ more) read.0) (subst (λ (x : Next). Follows goes x more (Ended status)) read.1 follows)
+    reading_step flags scarce p n line lines out more status (place + length (whole line)) goes i again (line_kept p n place line fits kept) (o ∙ ap (λ (t : Text). t ++ more) read.0) (subst (λ (x : Next). Follows goes x more (Ended status)) read.1 follows)
 
-prints : (flags : Flags) (scarce : Bool) (p : Phase) (n place : ℕ) (lines : List Line) (out : Text) (status : Status) → IsKept place p → IsOutput flags scarce p n place lines out (Ended status) → PrintsBad out status ⊎ PrintsAll flags scarce p n lines out
-prints flags scarce (Commands s refused) n place lines out status h o = inr (at_commands flags scarce s refused n place lines out status h o)
+prints : (flags : Flags) (scarce : Bool) (p : Phase) (n place : ℕ) (lines : List Line) (out : Text) (status : Status) → IsKept place p → IsOutput flags scarce p n place lines out (Ended status) → Prints flags scarce p n lines out status
+prints flags scarce (Commands s refused) n place lines out status h o = inr (all_printed flags scarce s refused n place lines out status h.0 h.1 o)
 prints flags scarce Header n place [] out status h o = inl (end_bad flags Header n out status tt o)
 prints flags scarce (Between plan) n place [] out status h o = inl (end_bad flags (Between plan) n out status tt o)
 prints flags scarce (InGroup plan g ys) n place [] out status h o = inl (end_bad flags (InGroup plan g ys) n out status tt o)
@@ -271,3 +357,14 @@ prints flags scarce (InJournal part s) n place (line ∷ lines) out status h o =
 
 pub standing_printed : PrintsStandingEdits
 standing_printed flags scarce input out status o = prints flags scarce Header 1 0 (lines_of input) out status tt o
+
+-- of a run
+pub standing_written : (flags : Flags) (had old new : Option Text) (r : Result Status RunFault) → IfOk r (λ status. WritesOutput flags had old new (Ended status)) → IfOk r (WritesStanding flags had old new)
+standing_written flags had old new (Ok status) w = record {
+  input = w.input;
+  is_input = w.is_input;
+  out = w.out;
+  prints = standing_printed flags true w.input w.out status w.is_output;
+  appended = w.appended;
+}
+standing_written flags had old new (Err e) w = tt

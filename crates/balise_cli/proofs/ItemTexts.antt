@@ -24,7 +24,7 @@ past xs i (inr h) e = h.0
 pub no_text_at : {X : Type 0} (f : X → Text) (xs : List X) (i : ℕ) → None ≡ slice_get xs i → text_of (map f (drop i xs)) ≡ []
 no_text_at f xs i e = no_text_left f xs i (past xs i (slice_get_cases xs i).1 e)
 
--- the lines of entries are those that the entries are told by
+-- the lines of entries are those that the entries are printed as
 pub told_text : (es : List Entry) (ls : List Line) → map line_of es ≡ ls → text_of (map entry_line ls) ≡ text_of (map told es)
 told_text es ls e = ap (λ ys. text_of (map entry_line ys)) (sym e) ∙ same_lines es
   where

@@ -1,6 +1,6 @@
 -- What is printed for a journal is read as the session that it was printed of.
 -- From the laws of its lines, and that the journal that a session says is read back.
-use Rattle.std.proofs.Common.{◌≡◌, ◌∙◌, inl, inr, ℕ, suc, ◌+◌, ◌<◌, ◌≤◌, nat_le, nat_lt, ◌&&◌, Bool, true, false, cond, All, List, [], ◌∷◌, ◌++◌, length, map, reverse, codes, Option, Some, None, Result, Ok, refl, sym, ap, subst, append_assoc, arith}
+use Rattle.std.proofs.Common.{◌≡◌, ◌∙◌, ℕ, suc, ◌+◌, ◌<◌, ◌≤◌, nat_le, nat_lt, ◌&&◌, Bool, true, false, cond, All, List, [], ◌∷◌, ◌++◌, length, map, reverse, codes, Option, Some, None, Result, Ok, refl, sym, ap, subst, append_assoc, arith}
 use Rattle.std.proofs.lemmas.List.{reverse-append}
 use Rattle.std.proofs.lemmas.List.Elements.{All-cons, All-head, All-nil, All-push, All-tail, All-weaker}
 use Rattle.balise_rules.specs.declared.refusal.Refusal.{Refusal}
@@ -25,8 +25,8 @@ use Rattle.balise_text.specs.Laws.{IsNumber, IsOneLine, IsPrintable}
 use Rattle.balise_text.specs.PlanLines.{plan_line_of}
 use Rattle.balise_text.specs.Texts.{Text, text_of}
 use Rattle.balise_text.specs.declared.head.Version.TheVariants.{Two}
-use Rattle.balise_text.specs.declared.part.Part.{Part}
-use Rattle.balise_text.specs.declared.part.Part.TheVariants.{Entries, Undone}
+use Rattle.balise_text.specs.declared.section.Section.{Section}
+use Rattle.balise_text.specs.declared.section.Section.TheVariants.{Entries, Undone}
 use Rattle.balise_text.specs.declared.plan_line.PlanLine.{PlanLine}
 use Rattle.balise_text.specs.declared.plan_line.PlanLine.TheVariants.{JournalLine as HeadLine}
 use Rattle.balise_text.proofs.LinesBack.{head_reads_as_printed, prints_lines, reads_as_printed, undone_reads_as_printed}
@@ -35,6 +35,7 @@ use Rattle.balise_cli.specs.Laws.{GoesOn, HasRead, Opens, ReadsBack, ReadsPlan}
 use Rattle.balise_cli.specs.Output.{Phase, Header, Between as BetweenGroups, InGroup, InJournal, Commands, Read, Good, Bad, between, closed_as, if_fits, in_group, in_journal, journal_begun, read_line}
 use Rattle.balise_cli.specs.PlanRead.{WasRead}
 use Rattle.balise_cli.specs.PlanTexts.{entry_line, journal_text, undone_line, with_end}
+use Rattle.balise_cli.proofs.OneLine.{IsReading}
 use Rattle.balise_cli.proofs.Printables.{entries_printable}
 use Rattle.balise_cli.proofs.SmallTags.{plan_read_small}
 
@@ -43,28 +44,35 @@ use Rattle.balise_cli.proofs.SmallTags.{plan_read_small}
 line_first : (t rest : Text) → IsOneLine t → lines_of (with_end t ++ rest) ≡ ended t ∷ lines_of rest
 line_first t rest one = ap lines_of (append_assoc t (codes "\n") rest) ∙ lines_of-ended t rest one
 
+-- before the commands, one more line before
+pub opens_on : (p : Phase) (n : ℕ) (line : Line) (lines : List Line) (s : State) (commands : List Line) → IsReading p → GoesOn (read_line p n line.bytes) (λ q. Opens q (n + 1) lines s commands) → Opens p n (line ∷ lines) s commands
+opens_on Header n line lines s commands i g = g
+opens_on (BetweenGroups plan) n line lines s commands i g = g
+opens_on (InGroup plan k ys) n line lines s commands i g = g
+opens_on (InJournal part t) n line lines s commands i g = g
+opens_on (Commands t refused) n line lines s commands i g = absurd i
+
 -- a line that is taken, and what follows
-opens_line : (p q : Phase) (n : ℕ) (t rest : Text) (s : State) (behind : List Line) → IsOneLine t → read_line p n t ≡ Good q → Opens q (n + 1) (lines_of rest) s behind → Opens p n (lines_of (with_end t ++ rest)) s behind
-opens_line p q n t rest s behind one e o =
+opens_line : (p q : Phase) (n : ℕ) (t rest : Text) (s : State) (behind : List Line) → IsReading p → IsOneLine t → read_line p n t ≡ Good q → Opens q (n + 1) (lines_of rest) s behind → Opens p n (lines_of (with_end t ++ rest)) s behind
+opens_line p q n t rest s behind i one e o =
     subst (λ (ls : List Line). Opens p n ls s behind) (sym (line_first t rest one))
-    (inr (subst (λ (x : Read). GoesOn x (λ k. Opens k (n + 1) (lines_of rest) s behind)) (sym e) o))
+    (opens_on p n (ended t) (lines_of rest) s behind i (subst (λ (x : Read). GoesOn x (λ k. Opens k (n + 1) (lines_of rest) s behind)) (sym e) o))
 
-at_commands : (s : State) (n : ℕ) (ls : List Line) → Opens (Commands s false) n ls s ls
-at_commands s n [] = (refl, refl)
-at_commands s n (l ∷ ls) = inl (refl, refl)
+pub at_commands : (s : State) (refused : Bool) (n : ℕ) (ls : List Line) → Opens (Commands s refused) n ls s ls
+at_commands s refused n ls = (refl, refl)
 
-opens_commands : (part : Part) (s : State) (n : ℕ) (commands : Text) → Opens (InJournal part s) n (lines_of (codes "edits\n" ++ commands)) s (lines_of commands)
-opens_commands part s n commands = inr (at_commands s (n + 1) (lines_of commands))
+opens_commands : (part : Section) (s : State) (n : ℕ) (commands : Text) → Opens (InJournal part s) n (lines_of (codes "edits\n" ++ commands)) s (lines_of commands)
+opens_commands part s n commands = at_commands s false (n + 1) (lines_of commands)
 
 -- ---- what was undone
 
 ok_one : {E : Type 0} {s t : State} → ◌≡◌ {A = Result State E} (Ok s) (Ok t) → s ≡ t
 ok_one e = cc
 
-abbrev ReadsUndone : Part → Type 0
+abbrev ReadsUndone : Section → Type 0
 ReadsUndone part = (u : ℕ) → IsNumber u → journal_line_of part (undone_text u) ≡ Ok (UndoneLine u)
 
-undones_read : (part : Part) (us : List ℕ) → All IsNumber us → ReadsUndone part → (k n : ℕ) (s t : State) → with_all_undone k us s ≡ Ok t → (commands : Text)
+undones_read : (part : Section) (us : List ℕ) → All IsNumber us → ReadsUndone part → (k n : ℕ) (s t : State) → with_all_undone k us s ≡ Ok t → (commands : Text)
     → Opens (InJournal part s) n (lines_of (text_of (map undone_line us) ++ (codes "edits\n" ++ commands))) t (lines_of commands)
 undones_read part [] all reads k n s t e commands = subst (λ (x : State). Opens (InJournal part s) n (lines_of (codes "edits\n" ++ commands)) x (lines_of commands)) (ok_one e) (opens_commands part s n commands)
 undones_read part (u ∷ us) all reads k n s t e commands = by (λ v f. undones_read Undone us (All-tail IsNumber u us all) (λ m h. (undone_reads_as_printed m h).1) (suc k) (n + 1) v t f commands) (with_undone s u) refl e
@@ -79,7 +87,7 @@ undones_read part (u ∷ us) all reads k n s t e commands = by (λ v f. undones_
     by again None q f = absurd cc
     by again (Some v) q f =
         subst (λ (x : Text). Opens (InJournal part s) n (lines_of x) t (lines_of commands)) (sym (append_assoc (undone_line u) (text_of (map undone_line us)) (codes "edits\n" ++ commands)))
-        (opens_line (InJournal part s) (InJournal Undone v) n (undone_text u) rest t (lines_of commands) (prints_lines.1 u number).1
+        (opens_line (InJournal part s) (InJournal Undone v) n (undone_text u) rest t (lines_of commands) tt (prints_lines.1 u number).1
         (ap (in_journal part s n) (reads u number) ∙ ap (if_fits n Undone) q) (again v f))
 
 -- ---- the entries
@@ -99,7 +107,7 @@ entries_read (l ∷ ls) us all numbers k m n s t e commands = by (λ v f. entrie
     by again None q f = absurd cc
     by again (Some v) q f =
         subst (λ (x : Text). Opens (InJournal (Entries Two) s) n (lines_of x) t (lines_of commands)) (sym (append_assoc (entry_line l) (text_of (map entry_line ls)) behind))
-        (opens_line (InJournal (Entries Two) s) (InJournal (Entries Two) v) n (entry_text l) (text_of (map entry_line ls) ++ behind) t (lines_of commands) (prints_lines.0 l printable)
+        (opens_line (InJournal (Entries Two) s) (InJournal (Entries Two) v) n (entry_text l) (text_of (map entry_line ls) ++ behind) t (lines_of commands) tt (prints_lines.0 l printable)
         (ap (in_journal (Entries Two) s n) (reads_as_printed Two l printable) ∙ ap (if_fits n (Entries Two)) q) (again v f))
 
 -- ---- the first line
@@ -119,6 +127,22 @@ begun (InGroup plan g ys) n next base v has number e =
 begun Header n next base v has number e = absurd has
 begun (InJournal part s) n next base v has number e = absurd has
 begun (Commands s refused) n next base v has number e = absurd has
+
+-- the lines of a plan come before the commands
+has_reading : (p : Phase) (base : Plan) → HasRead p base → IsReading p
+has_reading Header base h = tt
+has_reading (BetweenGroups plan) base h = tt
+has_reading (InGroup plan g ys) base h = tt
+has_reading (InJournal part s) base h = tt
+has_reading (Commands s refused) base h = h
+
+reads_reading : (p : Phase) (n : ℕ) (lines : List Line) (base : Plan) → ReadsPlan p n lines base → IsReading p
+reads_reading (Commands s refused) n [] base r = r
+reads_reading (Commands s refused) n (line ∷ lines) base r = reads_reading (Commands s refused) (n + 1) lines base r
+reads_reading Header n lines base r = tt
+reads_reading (BetweenGroups plan) n lines base r = tt
+reads_reading (InGroup plan g ys) n lines base r = tt
+reads_reading (InJournal part s) n lines base r = tt
 
 -- ---- the serials of the stack
 
@@ -149,7 +173,7 @@ journal_read s v t number printable numbers opened e p n has commands =
     let parts : journal_text s ++ behind ≡ with_end (head_text s.serial) ++ (entries ++ (undones ++ behind)) =
     append_assoc (with_end (head_text s.serial)) (entries ++ undones) behind ∙ ap (λ (x : Text). with_end (head_text s.serial) ++ x) (append_assoc entries undones behind) in
     subst (λ (x : Text). Opens p n (lines_of x) t (lines_of commands)) (sym parts)
-    (opens_line p (InJournal (Entries Two) v) n (head_text s.serial) (entries ++ (undones ++ behind)) t (lines_of commands) (prints_lines.1 s.serial number).0 (begun p n s.serial s.base v has number opened)
+    (opens_line p (InJournal (Entries Two) v) n (head_text s.serial) (entries ++ (undones ++ behind)) t (lines_of commands) (has_reading p s.base has) (prints_lines.1 s.serial number).0 (begun p n s.serial s.base v has number opened)
     (entries_read (lines s) (undone s) printable numbers 0 (length (lines s)) (n + 1) v t e commands))
 
 -- a session over a plan that was read from few enough groups
@@ -190,7 +214,7 @@ behind_plan_read s o most p n has commands = by (opened_at s.base s.serial) refl
     by None q f = absurd cc
     by (Some v) q f = journal_read s v (counted s 0) next printable numbers q f p n has commands
 
--- behind the lines of the plan
+-- after the lines of the plan
 goes_on : (x : Read) (P Q : Phase → Type 0) → ((q : Phase) → P q → Q q) → GoesOn x P → GoesOn x Q
 goes_on (Bad n r) P Q f g = absurd g
 goes_on (Good q) P Q f g = f q g
@@ -198,7 +222,8 @@ goes_on (Good q) P Q f g = f q g
 behind_lines : (p : Phase) (n : ℕ) (plan rest : List Line) (base : Plan) (t : State) (behind : List Line) → ReadsPlan p n plan base → ((q : Phase) (m : ℕ) → HasRead q base → Opens q m rest t behind) → Opens p n (plan ++ rest) t behind
 behind_lines p n [] rest base t behind r more = more p n r
 behind_lines p n (line ∷ lines) rest base t behind r more =
-    inr (goes_on (read_line p n line.bytes) (λ q. ReadsPlan q (n + 1) lines base) (λ q. Opens q (n + 1) (lines ++ rest) t behind) (λ q h. behind_lines q (n + 1) lines rest base t behind h more) r)
+    opens_on p n line (lines ++ rest) t behind (reads_reading p n (line ∷ lines) base r)
+    (goes_on (read_line p n line.bytes) (λ q. ReadsPlan q (n + 1) lines base) (λ q. Opens q (n + 1) (lines ++ rest) t behind) (λ q h. behind_lines q (n + 1) lines rest base t behind h more) r)
 
 pub journal_read_back : (s : State) → IsOpened s → ReadsBack s
 journal_read_back s o most plan reads commands =

@@ -5,12 +5,15 @@ pub mod Answered
 pub mod ItemTexts
 pub mod TextsBehind
 pub mod Causes
-pub mod GroupsClosed
 pub mod OneLine
 pub mod LinesDone
 pub mod LineByLine
 pub mod LinesRead
+pub mod Endings
 pub mod SmallTags
 pub mod Printables
 pub mod JournalTexts
 pub mod Headline
+pub mod OneStanding
+pub mod Flushed
+pub mod Reported

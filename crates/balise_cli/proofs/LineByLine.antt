@@ -1,39 +1,29 @@
 -- What a run keeps from line to line.
-use Rattle.std.proofs.Common.{◌≡◌, inl, inr, ℕ, ◌+◌, List, [], ◌∷◌, ◌++◌, Bool, true, false, not, length, Option, Some, None, Result, Ok, Err, IfOk, OnErr, refl, sym, ap, subst, ◌∙◌, arith, append_assoc, append-nil, length-append}
+use Rattle.std.proofs.Common.{◌≡◌, inl, inr, ℕ, ◌+◌, List, [], ◌∷◌, ◌++◌, Bool, true, false, not, length, Option, Some, None, refl, sym, ap, subst, ◌∙◌, arith, append_assoc, append-nil, length-append}
 use Rattle.std.specs.Io.KnownBytes.{Appends, Consumes, IsAtEnd, Keeps, prepend_known}
 use Rattle.std.proofs.KnownBytes.{Appends-trans, Appends-nil, Consumes-nil, Consumes-trans, Keeps-refl}
 use Rattle.balise_lines.specs.Laws.{joined}
 use Rattle.balise_lines.specs.Lines.{Fits, IsLine, Line, lines_of, whole}
-use Rattle.balise_lines.specs.Reading.{LongNext, Took, is_over, left, line_of, place_of}
-use Rattle.balise_lines.specs.declared.lines.Lines.{Lines}
-use Rattle.balise_lines.specs.declared.lines.Next.TheVariants as next
+use Rattle.balise_lines.specs.Reading.{LongNext}
 use Rattle.balise_lines.specs.Writing.{AppendsSome}
 use Rattle.balise_lines.proofs.InputsLeft.{ahead_read, input_at_end, input_read, lines_of-line, some_input}
 use Rattle.balise_lines.proofs.WrittenTexts.{some_after, some_front, some_nothing}
 use Rattle.balise_arguments.specs.declared.options.Flags.{Flags}
 use Rattle.balise_text.specs.Texts.{Text}
 use Rattle.balise_cli.specs.Output.{Ended, Ending, Header, IsOutput, IsStep, Next, On, Over, Phase, TooLong, at_end}
-use Rattle.balise_cli.specs.Ends.{IsOutputOf, Steps, WritesOutput, WritesSome}
-use Rattle.balise_cli.specs.Machine.{DidEnd, DidSome, DidStep, last_text}
-use Rattle.balise_cli.specs.declared.fault.RunFault.{RunFault}
+use Rattle.balise_cli.specs.Ends.{IsOutputOf, WritesOutput, WritesSome}
+use Rattle.balise_cli.specs.Phases.{DidSome, DidStep, last_text}
+use Rattle.balise_cli.specs.Progress.{Progress}
 use Rattle.balise_cli.specs.declared.status.Status.{Status}
 use Rattle.balise_cli.proofs.LinesDone.{joined-append, steps_lead, steps_on}
 use Rattle.balise_cli.proofs.Outputs.{ends_over, some_output}
 
--- These lines were read, and done one after another; whatever comes behind them are further lines, and after a last line without an end nothing comes.
-pub record GoesOn (flags : Flags) (had left old now : Option Text) (over : Bool) (p : Phase) (n place : ℕ) : Type 0 where
-  pub read : Text
-  pub written : Text
-  pub lines : List Line
-  pub consumed : Consumes had left read
-  pub cut : (rest : Text) → (over ≡ true → rest ≡ []) → lines_of (read ++ rest) ≡ lines ++ lines_of rest
-  pub appended : Appends old now written
-  pub steps : Steps flags Header 1 0 lines written p
-  pub numbered : n ≡ length lines + 1
-  pub placed : place ≡ length (joined lines)
+-- what the end gives was written
+abbrev pub DidEnd : Flags → Phase → ℕ → Option Text → Option Text → Status → Type 0
+DidEnd flags p n old new status = (text : Text) × ((at_end flags p n ≡ Over text status) × Appends old new text)
 
--- what comes from here on, behind what was read and written, is a run of the whole
-leads : (flags : Flags) (had left old now : Option Text) (over : Bool) (p : Phase) (n place : ℕ) (go : GoesOn flags had left old now over p n place) (rest more : Text) (e : Ending) → (over ≡ true → rest ≡ [])
+-- what comes from here on, after what was read and written, is a run of the whole
+leads : (flags : Flags) (had left old now : Option Text) (over : Bool) (p : Phase) (n place : ℕ) (go : Progress flags had left old now over p n place) (rest more : Text) (e : Ending) → (over ≡ true → rest ≡ [])
     → IsOutput flags true p n place (lines_of rest) more e → IsOutputOf flags (go.read ++ rest) (go.written ++ more) e
 leads flags had left old now over p n place go rest more e none o =
     let number : n ≡ 1 + length go.lines = let k = go.numbered in omega (arith, k) in
@@ -43,7 +33,7 @@ leads flags had left old now over p n place go rest more e none o =
     subst (λ (ls : List Line). IsOutput flags true Header 1 0 ls (go.written ++ more) e) (sym (go.cut rest none)) (steps_lead flags Header p 1 0 go.lines (lines_of rest) go.written more e go.steps here)
 
 -- at first
-pub begins : (flags : Flags) (had left old : Option Text) (over : Bool) (p : Phase) (n place : ℕ) → left ≡ had → p ≡ Header → n ≡ 1 → place ≡ 0 → GoesOn flags had left old old over p n place
+pub begins : (flags : Flags) (had left old : Option Text) (over : Bool) (p : Phase) (n place : ℕ) → left ≡ had → p ≡ Header → n ≡ 1 → place ≡ 0 → Progress flags had left old old over p n place
 begins flags had left old over p n place e f g h = record {
   read = [];
   written = [];
@@ -64,39 +54,24 @@ pub record TookIt (left next : Option Text) (is_over : Bool) (place : ℕ) (line
   pub fits : Fits place line
   pub over : is_over ≡ not line.is_ended
 
-pub took_it : (b : Bool) (old new : Lines) (had has : Option Text) → Took (next.Line b) old had new has → TookIt (left old had) (left new has) (is_over new) (place_of old) (record { bytes = line_of new; is_ended = b })
-took_it b old new had has t = record { is_line = t.is_line; consumed = t.consumed; fits = t.fits; over = t.over }
-
--- what is said of a number and a line is said of those that are the same
-pub at_line : (P : ℕ → Text → Type 0) (k n : ℕ) (xs ys : Text) → k ≡ n → xs ≡ ys → P k xs → P n ys
-at_line P k n xs ys e f p = subst (λ (m : ℕ). P m ys) e (subst (P k) f p)
-
-pub on_ok : (r : Result Status RunFault) (P Q : Status → Type 0) → ((status : Status) → P status → Q status) → IfOk r P → IfOk r Q
-on_ok (Ok status) P Q f p = f status p
-on_ok (Err e) P Q f p = tt
-
-pub on_err : (r : Result Status RunFault) (P Q : Type 0) → (P → Q) → OnErr r P → OnErr r Q
-on_err (Ok status) P Q f p = tt
-on_err (Err e) P Q f p = f p
-
--- the lines of what is left, where this comes behind the line
+-- the lines of what is left, where this comes after the line
 lines_left : (left next : Option Text) (over : Bool) (place : ℕ) (line : Line) (rest : Text) → TookIt left next over place line → (over ≡ true → rest ≡ []) → lines_of (whole line ++ rest) ≡ line ∷ lines_of rest
 lines_left left next over place line rest took none = lines_of-line line rest took.is_line (λ f. none (took.over ∙ ap not f))
 
--- in what was read, and the line behind it
+-- in what was read, and the line after it
 pub line_cut : (flags : Flags) (had left next old now : Option Text) (before over : Bool) (p : Phase) (n place : ℕ) (line : Line) → before ≡ false → TookIt left next over place line
-    → (go : GoesOn flags had left old now before p n place) (rest : Text) → (over ≡ true → rest ≡ []) → lines_of (go.read ++ (whole line ++ rest)) ≡ go.lines ++ line ∷ lines_of rest
+    → (go : Progress flags had left old now before p n place) (rest : Text) → (over ≡ true → rest ≡ []) → lines_of (go.read ++ (whole line ++ rest)) ≡ go.lines ++ line ∷ lines_of rest
 line_cut flags had left next old now before over p n place line first took go rest none =
     go.cut (whole line ++ rest) (λ b. absurd cc) ∙ ap (λ (ls : List Line). go.lines ++ ls) (lines_left left next over place line rest took none)
 
 -- the same line, by the lines before it
-fits_here : (flags : Flags) (had left next old now : Option Text) (before over : Bool) (p : Phase) (n place : ℕ) (line : Line) → TookIt left next over place line → (go : GoesOn flags had left old now before p n place)
+fits_here : (flags : Flags) (had left next old now : Option Text) (before over : Bool) (p : Phase) (n place : ℕ) (line : Line) → TookIt left next over place line → (go : Progress flags had left old now before p n place)
     → Fits (0 + length (joined go.lines)) line
 fits_here flags had left next old now before over p n place line took go =
     let at : place ≡ 0 + length (joined go.lines) = let k = go.placed in omega (arith, k) in
     subst (λ (k : ℕ). Fits k line) at took.fits
 
-step_here : (flags : Flags) (had left old now : Option Text) (before : Bool) (p : Phase) (n place : ℕ) (go : GoesOn flags had left old now before p n place) (line out : Text) (next : Next) → IsStep flags true p n line out next
+step_here : (flags : Flags) (had left old now : Option Text) (before : Bool) (p : Phase) (n place : ℕ) (go : Progress flags had left old now before p n place) (line out : Text) (next : Next) → IsStep flags true p n line out next
     → IsStep flags true p (1 + length go.lines) line out next
 step_here flags had left old now before p n place go line out next is =
     let number : n ≡ 1 + length go.lines = let k = go.numbered in omega (arith, k) in
@@ -106,7 +81,7 @@ step_here flags had left old now before p n place go line out next is =
 
 -- a line was done, and the run goes on
 pub stepped : (flags : Flags) (had left next old now new : Option Text) (before over : Bool) (p q : Phase) (n k place to : ℕ) (line : Line) → before ≡ false → TookIt left next over place line
-    → DidStep flags p n line.bytes now new q None → k ≡ n + 1 → to ≡ place + length (whole line) → GoesOn flags had left old now before p n place → GoesOn flags had next old new over q k to
+    → DidStep flags p n line.bytes now new q None → k ≡ n + 1 → to ≡ place + length (whole line) → Progress flags had left old now before p n place → Progress flags had next old new over q k to
 stepped flags had left next old now new before over p q n k place to line first took did e f go = record {
   read = go.read ++ whole line;
   written = go.written ++ did.0;
@@ -126,7 +101,7 @@ stepped flags had left next old now new before over p q n k place to line first 
 
 -- the input ended
 pub ended : (flags : Flags) (had left old now new : Option Text) (over : Bool) (p : Phase) (n place : ℕ) (status : Status) → IsAtEnd left → DidEnd flags p n now new status
-    → GoesOn flags had left old now over p n place → WritesOutput flags had old new (Ended status)
+    → Progress flags had left old now over p n place → WritesOutput flags had old new (Ended status)
 ended flags had left old now new over p n place status end did go =
     let here : IsOutput flags true p n place [] did.0 (Ended status) = rw did.1.0 (refl, refl) in record {
       input = go.read ++ [];
@@ -137,7 +112,7 @@ ended flags had left old now new over p n place status end did go =
     }
 
 -- a line that doesn't fit stands next
-pub too_long : (flags : Flags) (had left old now : Option Text) (over : Bool) (p : Phase) (n place : ℕ) → LongNext left place → over ≡ false → GoesOn flags had left old now over p n place → WritesOutput flags had old now TooLong
+pub too_long : (flags : Flags) (had left old now : Option Text) (over : Bool) (p : Phase) (n place : ℕ) → LongNext left place → over ≡ false → Progress flags had left old now over p n place → WritesOutput flags had old now TooLong
 too_long flags had left old now over p n place next first go =
     let here : IsOutput flags true p n place (lines_of next.input) [] TooLong = rw next.first (inl (next.long, refl, refl)) in record {
       input = go.read ++ next.input;
@@ -149,7 +124,7 @@ too_long flags had left old now over p n place next first go =
 
 -- a line was done, and the run is over
 pub over_at : (flags : Flags) (had left next old now new : Option Text) (before over : Bool) (p q : Phase) (n place : ℕ) (line : Line) (status : Status) → before ≡ false → TookIt left next over place line
-    → (over ≡ true → IsAtEnd next) → DidStep flags p n line.bytes now new q (Some status) → GoesOn flags had left old now before p n place → WritesOutput flags had old new (Ended status)
+    → (over ≡ true → IsAtEnd next) → DidStep flags p n line.bytes now new q (Some status) → Progress flags had left old now before p n place → WritesOutput flags had old new (Ended status)
 over_at flags had left next old now new before over p q n place line status first took end did go =
     let (rest, (is, none)) = some_input next over end in
     let here : IsOutput flags true p n place (lines_of (whole line ++ rest)) (did.0 ++ did.1.0) (Ended status) = rw (lines_left left next over place line rest took none) (inr (took.fits, (did.0, (Over did.1.0 status, (did.1.0, (did.1.1.0, refl, (refl, refl))))))) in record {
@@ -164,7 +139,7 @@ over_at flags had left next old now new before over p q n place line status firs
 
 -- a fault comes, after a beginning of what may come from here on was written
 fault_at : (flags : Flags) (had left has old now new : Option Text) (over : Bool) (p : Phase) (n place : ℕ) (rest more : Text) (e : Ending) → (over ≡ true → rest ≡ [])
-    → IsOutput flags true p n place (lines_of rest) more e → Consumes left has rest → AppendsSome now new more → GoesOn flags had left old now over p n place → WritesSome flags had has old new
+    → IsOutput flags true p n place (lines_of rest) more e → Consumes left has rest → AppendsSome now new more → Progress flags had left old now over p n place → WritesSome flags had has old new
 fault_at flags had left has old now new over p n place rest more e none o took wrote go = record {
   read = go.read ++ rest;
   consumed = Consumes-trans had left has _ _ go.consumed took;
@@ -176,7 +151,7 @@ fault_at flags had left has old now new over p n place rest more e none o took w
 
 -- before a line
 pub fault_before : (flags : Flags) (had left has old now : Option Text) (ahead : Text) (over : Bool) (p : Phase) (n place : ℕ) → Keeps left (prepend_known ahead has) → (over ≡ true → IsAtEnd left)
-    → GoesOn flags had left old now over p n place → WritesSome flags had has old now
+    → Progress flags had left old now over p n place → WritesSome flags had has old now
 fault_before flags had left has old now ahead over p n place k end go =
     let (rest, (took, none)) = ahead_read left has ahead over k end in
     let o = some_output flags true p n place (lines_of rest) in
@@ -184,7 +159,7 @@ fault_before flags had left has old now ahead over p n place k end go =
 
 -- at the end
 pub fault_ending : (flags : Flags) (had left has old now new : Option Text) (ahead : Text) (over : Bool) (p : Phase) (n place : ℕ) → Keeps left (prepend_known ahead has) → IsAtEnd left
-    → AppendsSome now new (last_text (at_end flags p n)) → GoesOn flags had left old now over p n place → WritesSome flags had has old new
+    → AppendsSome now new (last_text (at_end flags p n)) → Progress flags had left old now over p n place → WritesSome flags had has old new
 fault_ending flags had left has old now new ahead over p n place k end wrote go =
     let (rest, (took, none)) = ahead_read left has ahead true k (λ _. end) in
     let o = ends_over flags p n in
@@ -195,7 +170,7 @@ fault_ending flags had left has old now new ahead over p n place k end wrote go 
 
 -- in a line
 pub fault_in : (flags : Flags) (had left has old now new : Option Text) (ahead : Text) (before over : Bool) (p : Phase) (n place : ℕ) (line : Line) → before ≡ false → TookIt left (prepend_known ahead has) over place line
-    → (over ≡ true → IsAtEnd (prepend_known ahead has)) → DidSome flags p n line.bytes now new → GoesOn flags had left old now before p n place → WritesSome flags had has old new
+    → (over ≡ true → IsAtEnd (prepend_known ahead has)) → DidSome flags p n line.bytes now new → Progress flags had left old now before p n place → WritesSome flags had has old new
 fault_in flags had left has old now new ahead before over p n place line first took end did go =
     let (rest, (ate, none)) = ahead_read (prepend_known ahead has) has ahead over (Keeps-refl (prepend_known ahead has)) end in
     let all : Consumes left has (whole line ++ rest) = Consumes-trans left (prepend_known ahead has) has _ _ took.consumed ate in

@@ -7,7 +7,7 @@ use Rattle.balise_text.specs.Texts.{Text}
 use Rattle.balise_cli.specs.Ends.{Steps}
 use Rattle.balise_cli.specs.Output.{Ending, IsOutput, IsStep, On, Phase}
 
--- the number of the line and its place behind one more line
+-- the number of the line and its place after one more line
 number_behind : (n : ℕ) (line : Line) (lines : List Line) → n + length (line ∷ lines) ≡ (n + 1) + length lines
 number_behind n line lines = omega arith
 
@@ -33,7 +33,7 @@ steps_on flags p q r n place (x ∷ xs) line out now (short, (first, (next, (mor
     let room : Fits ((place + length (whole x)) + length (joined xs)) line = subst (λ (k : ℕ). Fits k line) (place_behind place x xs) fits in
     (short, (first, (next, (more ++ now, (step, ap (λ (t : Text). t ++ now) e ∙ append_assoc first more now, steps_on flags next q r (n + 1) (place + length (whole x)) xs line more now s room here)))))
 
--- an output of the lines behind is one of all
+-- an output of the lines after them is one of all
 pub steps_lead : (flags : Flags) (p q : Phase) (n place : ℕ) (lines behind : List Line) (out more : Text) (e : Ending) → Steps flags p n place lines out q
     → IsOutput flags true q (n + length lines) (place + length (joined lines)) behind more e → IsOutput flags true p n place (lines ++ behind) (out ++ more) e
 steps_lead flags p q n place [] behind out more e s o =

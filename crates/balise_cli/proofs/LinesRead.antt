@@ -9,15 +9,16 @@ use Rattle.balise_lines.proofs.InputsLeft.{ahead_read, ahead_such}
 use Rattle.balise_lines.proofs.JoinedLines.{lines_make_input}
 use Rattle.balise_arguments.specs.declared.options.Flags.{Flags}
 use Rattle.balise_text.specs.Texts.{Text}
-use Rattle.balise_cli.specs.Ends.{ComesToEnd, DidLines, NoneComplete}
-use Rattle.balise_cli.specs.Machine.{DidEnd, DidStep}
+use Rattle.balise_cli.specs.Ends.{ComesToEnd, DidLines, NoneComplete, RunsOutOfMemory}
+use Rattle.balise_cli.specs.Phases.{DidStep, WrittenOfEnd, WrittenOfLine, WroteSuch}
+use Rattle.balise_cli.specs.Progress.{Progress}
 use Rattle.balise_cli.specs.Output.{IsStep, Over, Phase, at_end}
 use Rattle.balise_cli.specs.declared.status.Status.{Status}
-use Rattle.balise_cli.proofs.LineByLine.{GoesOn, TookIt, line_cut}
+use Rattle.balise_cli.proofs.LineByLine.{DidEnd, TookIt, line_cut}
 
 -- the input ended
 pub input_ended : (flags : Flags) (had left has old now new : Option Text) (ahead : Text) (over : Bool) (p : Phase) (n place : ℕ) (status : Status) → Keeps left (prepend_known ahead has) → IsAtEnd left → IsAtEnd has
-    → DidEnd flags p n now new status → GoesOn flags had left old now over p n place → DidLines flags had has old new (ComesToEnd flags has status)
+    → DidEnd flags p n now new status → Progress flags had left old now over p n place → DidLines flags had has old new (ComesToEnd flags has status)
 input_ended flags had left has old now new ahead over p n place status k end all did go =
     let (rest, (took, none)) = ahead_read left has ahead true k (λ _. end) in
     let gone : Consumes left has [] = subst (λ (r : Text). Consumes left has r) (none refl) took in record {
@@ -37,7 +38,7 @@ input_ended flags had left has old now new ahead over p n place status k end all
 -- a line ended the run
 pub line_ended : (flags : Flags) (had left has old now new : Option Text) (ahead : Text) (before over : Bool) (p q : Phase) (n place : ℕ) (line : Line) (status : Status) → before ≡ false
     → TookIt left (prepend_known ahead has) over place line → length ahead ≤ 4097 → (over ≡ true → IsAtEnd (prepend_known ahead has)) → DidStep flags p n line.bytes now new q (Some status)
-    → GoesOn flags had left old now before p n place → DidLines flags had has old new (ComesToEnd flags has status)
+    → Progress flags had left old now before p n place → DidLines flags had has old new (ComesToEnd flags has status)
 line_ended flags had left has old now new ahead before over p q n place line status first took few end did go =
     let (rest, (ate, none, short)) = ahead_such (λ xs. length xs ≤ 4097) (prepend_known ahead has) has ahead over (Keeps-refl (prepend_known ahead has)) end (omega arith) few in
     let all : Consumes left has (whole line ++ rest) = Consumes-trans left (prepend_known ahead has) has _ _ took.consumed ate in record {
@@ -59,7 +60,7 @@ line_ended flags had left has old now new ahead before over p q n place line sta
 
 -- the reader failed, and no line ends in what was read ahead
 pub reader_failed : (flags : Flags) (had left has old now : Option Text) (ahead : Text) (over : Bool) (p : Phase) (n place : ℕ) → Keeps left (prepend_known ahead has) → (over ≡ true → IsAtEnd left) → HasNoEnd ahead
-    → GoesOn flags had left old now over p n place → DidLines flags had has old now NoneComplete
+    → Progress flags had left old now over p n place → DidLines flags had has old now NoneComplete
 reader_failed flags had left has old now ahead over p n place k end short go =
     let (rest, (took, none, still)) = ahead_such HasNoEnd left has ahead over k end (All-nil (λ b. b ≡ 10 → ⊥)) short in record {
       read = go.read ++ rest;
@@ -73,4 +74,42 @@ reader_failed flags had left has old now ahead over p n place k end short go =
       last = [];
       ends = (lines_of-open rest still, refl);
       appended = subst (λ (t : Text). Appends old now t) (sym (append-nil go.written)) go.appended;
+    }
+
+-- memory ran out at the input's end
+pub end_ran_out : (flags : Flags) (had left has old now new : Option Text) (ahead : Text) (over : Bool) (p : Phase) (n place : ℕ) → Keeps left (prepend_known ahead has) → IsAtEnd left → IsAtEnd has
+    → WroteSuch (WrittenOfEnd flags p) now new → Progress flags had left old now over p n place → DidLines flags had has old new (RunsOutOfMemory flags has)
+end_ran_out flags had left has old now new ahead over p n place k end all wants go =
+    let (rest, (took, none)) = ahead_read left has ahead true k (λ _. end) in
+    let gone : Consumes left has [] = subst (λ (r : Text). Consumes left has r) (none refl) took in record {
+      read = go.read ++ [];
+      consumed = Consumes-trans had left has _ _ go.consumed gone;
+      done = go.lines;
+      behind = [];
+      cut = go.cut [] (λ _. refl);
+      out = go.written;
+      phase = p;
+      steps = go.steps;
+      last = wants.0;
+      ends = (all, wants.1.0);
+      appended = Appends-trans old now new _ _ go.appended wants.1.1;
+    }
+
+-- memory ran out in a line
+pub line_ran_out : (flags : Flags) (had left has old now new : Option Text) (ahead : Text) (before over : Bool) (p : Phase) (n place : ℕ) (line : Line) → before ≡ false → TookIt left (prepend_known ahead has) over place line
+    → (over ≡ true → IsAtEnd (prepend_known ahead has)) → WroteSuch (WrittenOfLine flags p n line.bytes) now new → Progress flags had left old now before p n place → DidLines flags had has old new (RunsOutOfMemory flags has)
+line_ran_out flags had left has old now new ahead before over p n place line first took end wants go =
+    let (rest, (ate, none)) = ahead_read (prepend_known ahead has) has ahead over (Keeps-refl (prepend_known ahead has)) end in
+    let all : Consumes left has (whole line ++ rest) = Consumes-trans left (prepend_known ahead has) has _ _ took.consumed ate in record {
+      read = go.read ++ (whole line ++ rest);
+      consumed = Consumes-trans had left has _ _ go.consumed all;
+      done = go.lines;
+      behind = line ∷ lines_of rest;
+      cut = line_cut flags had left (prepend_known ahead has) old now before over p n place line first took go rest none;
+      out = go.written;
+      phase = p;
+      steps = go.steps;
+      last = wants.0;
+      ends = subst (λ (m : ℕ). WrittenOfLine flags p m line.bytes wants.0) go.numbered wants.1.0;
+      appended = Appends-trans old now new _ _ go.appended wants.1.1;
     }

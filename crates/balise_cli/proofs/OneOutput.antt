@@ -1,4 +1,4 @@
--- Where no command wants memory there is one output.
+-- Where memory runs out at no command there is one output.
 use Rattle.std.proofs.Common.{◌≡◌, ◌∙◌, inl, inr, ℕ, ◌+◌, true, false, List, [], ◌∷◌, ◌++◌, length, sym, ap, subst}
 use Rattle.balise_rules.specs.Session.{Reply, State}
 use Rattle.balise_lines.specs.Lines.{Line, lines_of, whole}
@@ -9,7 +9,7 @@ use Rattle.balise_cli.specs.Output.{Between, Commands, Ending, Follows, Header, 
 use Rattle.balise_cli.specs.Laws.{OneOutput}
 use Rattle.balise_cli.proofs.Outputs.{some_output}
 
-one_answer : (line : Text) (s t t' : State) (r r' : Reply) → MayAnswer false line s r t → MayAnswer false line s r' t' → (r ≡ r') × (t ≡ t')
+pub one_answer : (line : Text) (s t t' : State) (r r' : Reply) → MayAnswer false line s r t → MayAnswer false line s r' t' → (r ≡ r') × (t ≡ t')
 one_answer line s t t' r r' (inl p) (inl q) = let e : ◌≡◌ {A = Reply × State} (r, t) (r', t') = p ∙ sym q in (ap (λ (a : Reply × State). a.0) e, ap (λ (a : Reply × State). a.1) e)
 one_answer line s t t' r r' (inr p) q = let z : false ≡ true = p.0 in absurd cc
 one_answer line s t t' r r' (inl p) (inr q) = let z : false ≡ true = q.0 in absurd cc

@@ -14,7 +14,7 @@ pub some_behind : {W : Type 0} (Cause : ℕ → ℕ → Type 0) (contents : W �
     WritesSome Cause contents old new text
 some_behind Cause contents text xs ys old now new e a s = some_last Cause contents text ys ys old now new refl (wrote_more contents text text xs ys old old now e (wrote_none contents text old) a) s
 
--- behind the first text, the second is written or begun
+-- after the first text, the second is written or begun
 pub behind : {W A E : Type 0} (Cause : E → ℕ → ℕ → Type 0) (contents : W → Option (List ℕ)) (r : Result A E) (text xs ys : List ℕ) (old now new : Counted W) → text ≡ xs ++ ys → WritesAll contents old now xs →
     MatchResult r (λ _. WritesAll contents now new ys) (λ e. WritesSome (Cause e) contents now new ys) → MatchResult r (λ _. WritesAll contents old new text) (λ e. WritesSome (Cause e) contents old new text)
 behind Cause contents (Ok a) text xs ys old now new e w s = all_behind contents text xs ys old now new e w s

@@ -7,6 +7,8 @@ use Rattle.balise_lines.specs.Reading.{IsInput}
 use Rattle.balise_lines.specs.Writing.{AppendsSome}
 use Rattle.balise_arguments.specs.declared.options.Flags.{Flags}
 use Rattle.balise_text.specs.Texts.{Text}
+use Rattle.balise_cli.specs.Laws.{PrintsStanding}
+use Rattle.balise_cli.specs.Phases.{WrittenOfEnd, WrittenOfLine}
 use Rattle.balise_cli.specs.Output.{Ending, Header, IsOutput, IsStep, On, Over, Phase, at_end}
 use Rattle.balise_cli.specs.declared.status.Status.{Status}
 
@@ -20,6 +22,14 @@ pub record WritesOutput (flags : Flags) (had old new : Option Text) (e : Ending)
   pub is_input : IsInput had input
   pub out : Text
   pub is_output : IsOutputOf flags input out e
+  pub appended : Appends old new out
+
+-- what is printed for what the reader had was written: one line for a plan or a journal that is refused; or replies, and then what the standing edits alone make of the plan first read
+pub record WritesStanding (flags : Flags) (had old new : Option Text) (status : Status) : Type 0 where
+  pub input : Text
+  pub is_input : IsInput had input
+  pub out : Text
+  pub prints : PrintsStanding flags true input out status
   pub appended : Appends old new out
 
 -- a beginning of the output of what was read was written
@@ -37,7 +47,7 @@ Steps flags p n place [] out q = (out ≡ []) × (q ≡ p)
 Steps flags p n place (line ∷ lines) out q =
     Fits place line × ((now : Text) × ((next : Phase) × ((more : Text) × (IsStep flags true p n line.bytes now (On next) × (out ≡ now ++ more) × Steps flags next (n + 1) (place + length (whole line)) lines more q))))
 
--- Of what was read the first lines were done, and what they print was written, and then a last text. P says how the run ended there: by its phase, the number of the next line, the lines behind them, and that text.
+-- Of what was read the first lines were done, and what they print was written, and then a last text. P says how the run ended there: by its phase, the number of the next line, the lines after them, and that text.
 pub record DidLines (flags : Flags) (had has old new : Option Text) (P : Phase → ℕ → List Line → Text → Type 0) : Type 0 where
   pub read : Text
   pub consumed : Consumes had has read
@@ -51,12 +61,17 @@ pub record DidLines (flags : Flags) (had has old new : Option Text) (P : Phase �
   pub ends : P phase (length done + 1) behind last
   pub appended : Appends old new (out ++ last)
 
--- the input ended, or the next line ended the run, and of what is behind it at most 4,097 bytes were read
+-- the input ended, or the next line ended the run, and of what comes after it at most 4,097 bytes were read
 abbrev pub ComesToEnd : Flags → Option Text → Status → Phase → ℕ → List Line → Text → Type 0
 ComesToEnd flags has status p n [] last = IsAtEnd has × (at_end flags p n ≡ Over last status)
 ComesToEnd flags has status p n (line ∷ behind) last =
     (length (joined behind) ≤ 4097) × ((now : Text) × ((text : Text) × (IsStep flags true p n line.bytes now (Over text status) × (last ≡ now ++ text))))
 
--- no complete line is behind them, and nothing else was written
+-- no complete line comes after them, and nothing else was written
 abbrev pub NoneComplete : Phase → ℕ → List Line → Text → Type 0
 NoneComplete p n behind last = All (λ (line : Line). line.is_ended ≡ false) behind × (last ≡ [])
+
+-- Memory ran out in a group or in the journal, or after the last command, where the end is printed. It never ends a run between two commands.
+abbrev pub RunsOutOfMemory : Flags → Option Text → Phase → ℕ → List Line → Text → Type 0
+RunsOutOfMemory flags has p n [] last = IsAtEnd has × WrittenOfEnd flags p last
+RunsOutOfMemory flags has p n (line ∷ behind) last = WrittenOfLine flags p n line.bytes last

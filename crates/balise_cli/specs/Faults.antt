@@ -14,7 +14,7 @@ refusal_of OutOfMemory = refusal.OutOfMemory
 refusal_of ReadFault = refusal.ReadFault
 refusal_of WriteFault = refusal.WriteFault
 
--- the fault of a line that was done or printed: want of memory, or the writer's count went up
+-- the fault of a line that was done or printed: out of memory, or the writer's count went up
 abbrev pub IsCause : ℕ → ℕ → RunFault → Type 0
 IsCause old new OutOfMemory = new ≡ old
 IsCause old new WriteFault = new ≡ one_more old

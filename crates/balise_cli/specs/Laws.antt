@@ -1,5 +1,6 @@
 -- Laws of what a run prints.
-use Rattle.std.specs.Prelude.{◌≡◌, ◌⊎◌, ◌+◌, ◌≤◌, ℕ, Bool, false, List, [], ◌∷◌, ◌++◌, codes, Ok}
+use Rattle.std.specs.Prelude.{◌≡◌, ◌⊎◌, ◌+◌, ◌≤◌, ◌&&◌, ℕ, Bool, false, IsFalse, IsTrue, List, [], ◌∷◌, ◌++◌, codes, Ok}
+use Rattle.std.specs.List.{list_any}
 use Rattle.balise_rules.specs.declared.refusal.Refusal.{Refusal}
 use Rattle.balise_rules.specs.Opening.{most_serial}
 use Rattle.balise_rules.specs.Plan.{Plan}
@@ -10,14 +11,15 @@ use Rattle.balise_lines.specs.Lines.{Line, lines_of}
 use Rattle.balise_plan.specs.GroupReading.{with_read}
 use Rattle.balise_arguments.specs.declared.options.Flags.{Flags}
 use Rattle.balise_text.specs.Commands.{call_of}
-use Rattle.balise_text.specs.Replies.{bad_line}
+use Rattle.balise_text.specs.Replies.{bad_line, is_refused}
 use Rattle.balise_text.specs.Texts.{Text}
-use Rattle.balise_cli.specs.Output.{Phase, Header, Between, InGroup, Commands, Read, Good, Bad, Ending, Ended, IsOutput, MayAnswer, read_line, reply_text, reviewed}
+use Rattle.balise_cli.specs.Output.{Phase, Header, Between, InGroup, Commands, Read, Good, Bad, Ending, Ended, IsOutput, MayAnswer, after_read, at_end, read_line, reply_text, reviewed}
 use Rattle.balise_cli.specs.PlanTexts.{end_text, journal_text}
+use Rattle.balise_cli.specs.Statuses.{status_of}
 use Rattle.balise_cli.specs.declared.status.Status.{Status}
 use Rattle.balise_cli.specs.declared.status.Status.TheVariants.{BadInput}
 
--- where no command wants memory, an input has one output, and the run one ending
+-- where memory runs out at no command, an input has one output, and the run one ending
 abbrev pub OneOutput : Type 0
 OneOutput = (flags : Flags) → (input : Text) → (out : Text) × ((e : Ending) × (IsOutput flags false Header 1 0 (lines_of input) out e × ((other : Text) → (f : Ending) → IsOutput flags false Header 1 0 (lines_of input) other f → (other ≡ out) × (f ≡ e))))
 
@@ -26,15 +28,11 @@ abbrev pub GoesOn : Read → (Phase → Type 0) → Type 0
 GoesOn (Bad n r) next = ⊥
 GoesOn (Good p) next = next p
 
--- the session at the commands, and the lines behind
-abbrev pub IsAt : Phase → List Line → State → List Line → Type 0
-IsAt (Commands s refused) lines t rest = (t ≡ s) × (rest ≡ lines)
-IsAt p lines t rest = ⊥
-
--- From this phase, where line n comes next, a plan and perhaps a journal are read as this session, and these lines of commands come behind them.
+-- From this phase, where line n comes next, a plan and perhaps a journal are read as this session; and these lines are all that come after them, from the first command on.
 abbrev pub Opens : Phase → ℕ → List Line → State → List Line → Type 0
-Opens p n [] t rest = IsAt p [] t rest
-Opens p n (line ∷ lines) t rest = IsAt p (line ∷ lines) t rest ⊎ GoesOn (read_line p n line.bytes) (λ q. Opens q (n + 1) lines t rest)
+Opens (Commands s refused) n lines t commands = (t ≡ s) × (commands ≡ lines)
+Opens p n [] t commands = ⊥
+Opens p n (line ∷ lines) t commands = GoesOn (read_line p n line.bytes) (λ q. Opens q (n + 1) lines t commands)
 
 -- Commands have these replies and print this, one after another, and leave this session.
 abbrev pub Answered : Flags → Bool → State → List Line → List Reply → Text → State → Type 0
@@ -54,32 +52,63 @@ abbrev pub ReadsPlan : Phase → ℕ → List Line → Plan → Type 0
 ReadsPlan p n [] base = HasRead p base
 ReadsPlan p n (line ∷ lines) base = GoesOn (read_line p n line.bytes) (λ q. ReadsPlan q (n + 1) lines base)
 
--- What is printed for the journal of a session, put behind lines that are read as the plan first read, is read, line by line, as that session: its standing edits, its stack and its next serial, where that is one that a journal may have, of which nothing is counted; and then the commands begin.
+-- What is printed for the journal of a session, put after lines that are read as the plan first read, is read, line by line, as that session: its standing edits, its stack and its next serial, where that is one that a journal may have, of which nothing is counted; and then the commands begin.
 abbrev pub ReadsBack : State → Type 0
 ReadsBack s = s.serial ≤ most_serial → (plan : List Line) → ReadsPlan Header 1 plan s.base → (commands : Text)
     → Opens Header 1 (plan ++ lines_of (journal_text s ++ (codes "edits\n" ++ commands))) (counted s 0) (lines_of commands)
 
--- Over commands it prints the reply to each, up to the input's end or the refusal that stops the run, and then the plan that the session holds, and what else is asked for; all that is promised of a session over the plan first read holds of it; and the text of its journal is read back.
+-- These are the replies to commands up to the last one; or the run stops at a refusal, and that is the first.
+abbrev pub StopsAt : Bool → List Reply → List Line → Type 0
+StopsAt stop [] left = left ≡ []
+StopsAt stop (r ∷ rs) left = (IsTrue (stop && is_refused r) × (rs ≡ [])) ⊎ (IsFalse (stop && is_refused r) × StopsAt stop rs left)
+
+-- all that is promised of a session over this plan first read; and the text of its journal is read back
+abbrev pub KeepsPromises : Plan → State → Type 0
+KeepsPromises base s = Promised base s × ReadsBack s
+
+-- Over commands it prints the reply to each, up to the last one or the first refusal where that stops the run, and then the plan that the session holds, and what else is asked for. All that is promised holds of each state that commands lead to from the one first read: of the one held, and of each on the way.
 pub record PrintsHeld (flags : Flags) (scarce : Bool) (opened : State) (commands : List Line) (out : Text) : Type 0 where
   pub done : List Line
   pub left : List Line
   pub cut : commands ≡ done ++ left
   pub replies : List Reply
+  pub stops : StopsAt flags.stop replies left
   pub printed : Text
   pub held : State
   pub answered : Answered flags scarce opened done replies printed held
   pub whole : out ≡ printed ++ end_text flags held
-  pub promised : Promised opened.base held
-  pub read_back : ReadsBack held
+  pub promised : (lines : List Line) → (rs : List Reply) → (text : Text) → (s : State) → Answered flags scarce opened lines rs text s → KeepsPromises opened.base s
 
-abbrev pub PrintsAll : Flags → Bool → Phase → ℕ → List Line → Text → Type 0
-PrintsAll flags scarce p n lines out = (opened : State) × ((commands : List Line) × (Opens p n lines opened commands × PrintsHeld flags scarce opened commands out))
+-- The plan and perhaps a journal are read as a session, and all lines after them are commands; so much is printed of these; and the status says whether one was refused.
+pub record PrintsAll (flags : Flags) (scarce : Bool) (p : Phase) (n : ℕ) (lines : List Line) (out : Text) (status : Status) : Type 0 where
+  pub opened : State
+  pub commands : List Line
+  pub opens : Opens p n lines opened commands
+  pub prints : PrintsHeld flags scarce opened commands out
+  pub ends : status ≡ status_of (list_any is_refused prints.replies)
 
--- one line for a plan or a journal that is refused, and nothing else
-abbrev pub PrintsBad : Text → Status → Type 0
-PrintsBad out status = (n : ℕ) × ((r : Refusal) × (out ≡ bad_line n r) × (status ≡ BadInput))
+-- it is refused so; or it was taken, and then goes on so
+abbrev pub RefusedOr : Read → ℕ → Refusal → (Phase → Type 0) → Type 0
+RefusedOr (Bad n r) k q next = (k ≡ n) × (q ≡ r)
+RefusedOr (Good p) k q next = next p
 
--- A run that comes to its end prints one line for a plan or a journal that is refused; or replies, and then what the standing edits alone, in order, make of the plan first read.
+-- From this phase, where line n comes next, a line of the plan or the journal is refused, or the lines end before the commands: this is said of line k.
+abbrev pub Refuses : Flags → Phase → ℕ → List Line → ℕ → Refusal → Type 0
+Refuses flags p n [] k r = at_end flags p n ≡ after_read (Bad k r)
+Refuses flags p n (line ∷ lines) k r = RefusedOr (read_line p n line.bytes) k r (λ q. Refuses flags q (n + 1) lines k r)
+
+-- the one line for a plan or a journal that is refused, and nothing else
+abbrev pub PrintsBad : Flags → Phase → ℕ → List Line → Text → Status → Type 0
+PrintsBad flags p n lines out status = (k : ℕ) × ((r : Refusal) × (Refuses flags p n lines k r × (out ≡ bad_line k r) × (status ≡ BadInput)))
+
+-- For this input it prints one line for a plan or a journal that is refused; or replies, and then what the standing edits alone, in order, make of the plan first read. The status is the one of what it prints.
+abbrev pub PrintsStanding : Flags → Bool → Text → Text → Status → Type 0
+PrintsStanding flags scarce input out status = PrintsBad flags Header 1 (lines_of input) out status ⊎ PrintsAll flags scarce Header 1 (lines_of input) out status
+
+-- every output of a run that comes to its end is so
 abbrev pub PrintsStandingEdits : Type 0
-PrintsStandingEdits = (flags : Flags) → (scarce : Bool) → (input out : Text) → (status : Status) → IsOutput flags scarce Header 1 0 (lines_of input) out (Ended status)
-    → PrintsBad out status ⊎ PrintsAll flags scarce Header 1 (lines_of input) out
+PrintsStandingEdits = (flags : Flags) → (scarce : Bool) → (input out : Text) → (status : Status) → IsOutput flags scarce Header 1 0 (lines_of input) out (Ended status) → PrintsStanding flags scarce input out status
+
+-- where memory runs out at no command, only one output of an input is so, and only with one status
+abbrev pub OneStanding : Type 0
+OneStanding = (flags : Flags) → (input out other : Text) → (status ends : Status) → PrintsStanding flags false input out status → PrintsStanding flags false input other ends → (other ≡ out) × (ends ≡ status)

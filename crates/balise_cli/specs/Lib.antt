@@ -6,5 +6,8 @@ pub mod Statuses
 pub mod Faults
 pub mod Laws
 pub mod Private
-pub mod Machine
+pub mod Phases
+pub mod Progress
 pub mod Exits
+pub mod Program
+pub mod CommandLine

@@ -20,8 +20,8 @@ use Rattle.balise_text.specs.Replies.{bad_line, is_refused, reply_line}
 use Rattle.balise_text.specs.Reviews.{review_line}
 use Rattle.balise_text.specs.Texts.{Text, text_of}
 use Rattle.balise_text.specs.declared.head.Head.{Head}
-use Rattle.balise_text.specs.declared.part.Part.{Part}
-use Rattle.balise_text.specs.declared.part.Part.TheVariants.{Entries, Undone}
+use Rattle.balise_text.specs.declared.section.Section.{Section}
+use Rattle.balise_text.specs.declared.section.Section.TheVariants.{Entries, Undone}
 use Rattle.balise_text.specs.declared.plan_line.PlanLine.{PlanLine}
 use Rattle.balise_text.specs.declared.plan_line.PlanLine.TheVariants.{FirstLine, GroupLine, EditsLine, JournalLine as HeadLine, TelegramLine}
 use Rattle.balise_cli.specs.PlanTexts.{end_text}
@@ -35,7 +35,7 @@ pub data Phase : Type 0 where
   Header : Phase
   Between : Plan → Phase
   InGroup : Plan → ℕ → Group → Phase
-  InJournal : Part → State → Phase
+  InJournal : Section → State → Phase
   Commands : State → Bool → Phase
 
 -- The lines of the plan and of the journal.
@@ -46,9 +46,9 @@ pub data Read : Type 0 where
   Bad : ℕ → Refusal → Read
 
 -- a step of the journal that fits the plan, or not
-abbrev pub if_fits : ℕ → Part → Option State → Read
-if_fits n part None = Bad n JournalMismatch
-if_fits n part (Some s) = Good (InJournal part s)
+abbrev pub if_fits : ℕ → Section → Option State → Read
+if_fits n section None = Bad n JournalMismatch
+if_fits n section (Some s) = Good (InJournal section s)
 
 -- the journal's first line
 abbrev pub journal_begun : Plan → ℕ → Result Head Refusal → Read
@@ -56,11 +56,11 @@ journal_begun plan n (Err r) = Bad n r
 journal_begun plan n (Ok h) = if_fits n (Entries h.version) (opened_at plan h.next)
 
 -- a further line of it
-abbrev pub in_journal : Part → State → ℕ → Result JournalLine Refusal → Read
-in_journal part s n (Err r) = Bad n r
-in_journal part s n (Ok (EntryLine l)) = if_fits n part (with_entry s l)
-in_journal part s n (Ok (UndoneLine serial)) = if_fits n Undone (with_undone s serial)
-in_journal part s n (Ok EndLine) = Good (Commands s false)
+abbrev pub in_journal : Section → State → ℕ → Result JournalLine Refusal → Read
+in_journal section s n (Err r) = Bad n r
+in_journal section s n (Ok (EntryLine l)) = if_fits n section (with_entry s l)
+in_journal section s n (Ok (UndoneLine serial)) = if_fits n Undone (with_undone s serial)
+in_journal section s n (Ok EndLine) = Good (Commands s false)
 
 abbrev pub between : Plan → ℕ → PlanLine → Text → Read
 between plan n GroupLine line = Good (InGroup plan n [])
@@ -99,7 +99,7 @@ abbrev pub read_line : Phase → ℕ → Text → Read
 read_line Header n line = first_line n (plan_line_of line)
 read_line (Between plan) n line = between plan n (plan_line_of line) line
 read_line (InGroup plan g ys) n line = in_group plan g ys n (plan_line_of line) line
-read_line (InJournal part s) n line = in_journal part s n (journal_line_of part line)
+read_line (InJournal section s) n line = in_journal section s n (journal_line_of section line)
 read_line (Commands s refused) n line = Good (Commands s refused)
 
 -- The commands.
@@ -109,23 +109,23 @@ abbrev pub answer_line : Result Call Refusal → State → Reply × State
 answer_line (Err r) s = (Refused r, s)
 answer_line (Ok c) s = answer c s
 
--- whether memory may be wanted to do a command; none is at the limit of a session
-abbrev pub wants_memory : Result Call Refusal → State → Bool
-wants_memory (Err r) s = false
-wants_memory (Ok c) s = nat_lt s.count most_commands && takes_memory c s
+-- whether a command may run out of memory; at the limit of a session none does
+abbrev pub may_run_out : Result Call Refusal → State → Bool
+may_run_out (Err r) s = false
+may_run_out (Ok c) s = nat_lt s.count most_commands && takes_memory c s
 
 -- A command has its reply; where memory is scarce, one that takes memory to be read or done may be refused for it and leave the state as it was.
 abbrev pub MayAnswer : Bool → Text → State → Reply → State → Type 0
 MayAnswer scarce line s r s' =
     (◌≡◌ {A = Reply × State} (r, s') (answer_line (call_of line) s))
-    ⊎ ((scarce ≡ true) × IsTrue (reads_digits line || wants_memory (call_of line) s) × (r ≡ Refused OutOfMemory) × (s' ≡ s))
+    ⊎ ((scarce ≡ true) × IsTrue (reads_digits line || may_run_out (call_of line) s) × (r ≡ Refused OutOfMemory) × (s' ≡ s))
 
 -- the review of a turn of the group of an identity, on the plan before it
 abbrev pub group_review : Option (Tag × Group) → Plan → List ReviewLine
 group_review None plan = []
 group_review (Some g) plan = review g.0 plan
 
--- what is to be looked at behind a command that was done: only behind a turn
+-- what is to be looked at after a command that was done: only after a turn
 abbrev pub reviewed : Result Call Refusal → Reply → State → List ReviewLine
 reviewed (Ok (Ask (AskTurn i))) (Done serial) s = group_review (group_named i (held s)) (held s)
 reviewed c r s = []

@@ -1,4 +1,4 @@
--- What is printed behind the replies: the plan, the journal and the view (this project's text).
+-- What is printed after the replies: the plan, the journal and the view (this project's text).
 use Rattle.std.specs.Prelude.{ℕ, Bool, true, false, [], ◌++◌, codes, map}
 use Rattle.balise_rules.specs.declared.tag.Tag.{Tag}
 use Rattle.balise_rules.specs.Digits.{hex_of}

@@ -1,4 +1,4 @@
--- What a command is answered, and the review behind it, as this crate has them.
+-- What a command is answered, and the review after it, as this crate has them.
 use Rattle.std.specs.Prelude.{◌≡◌, ◌⊎◌, ◌<◌, Bool, true, IsTrue, Option, Some, None, Ok}
 use Rattle.balise_rules.specs.declared.identity.Id.{Id}
 use Rattle.balise_rules.specs.declared.refusal.Refusal.TheVariants.{OutOfMemory}
@@ -11,7 +11,7 @@ use Rattle.balise_text.specs.Commands.{call_of}
 use Rattle.balise_text.specs.Texts.{Text}
 use Rattle.balise_cli.specs.PlanTexts as texts
 use Rattle.balise_cli.specs.Output.{MayAnswer, reply_text, reviewed}
-use Rattle.balise_cli.specs.declared.commands.Answer.{Answer}
+use Rattle.balise_cli.specs.declared.answers.Answer.{Answer}
 
 -- a command has its reply; one that takes memory may be refused for it, but not at the session's limit
 abbrev pub DidDo : Call → State → Reply → State → Type 0
@@ -22,7 +22,7 @@ abbrev pub turned_by : Call → Option Id
 turned_by (Ask (AskTurn i)) = Some i
 turned_by c = None
 
--- a turn has its reply, and behind it its review
+-- a turn has its reply, and after it its review
 abbrev pub TurnsWith : Id → State → Answer → State → Type 0
 TurnsWith i s a t = DidDo (Ask (AskTurn i)) s (reply_of a.reply) t × (a.review.items ≡ reviewed (Ok (Ask (AskTurn i))) (reply_of a.reply) s)
 

@@ -8,7 +8,7 @@ code_of Accepted = 0
 code_of SomeRefused = 1
 code_of BadInput = 2
 
--- the status behind commands, by whether one was refused
+-- the status after commands, by whether one was refused
 abbrev pub status_of : Bool → Status
 status_of true = SomeRefused
 status_of false = Accepted

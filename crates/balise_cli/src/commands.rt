@@ -1,158 +1,83 @@
-//! The commands.
+//! The commands, one after another.
 
-ghost use Rattle.std.specs.Prelude.{◌≡◌, IfOk, IsOkUnless, map};
-ghost use Rattle.balise_cli.specs.Output.{group_review};
-ghost use Rattle.balise_cli.specs.Private.{answer_text, turned_by, DidAnswer, DidDo, TurnsWith};
-ghost use Rattle.balise_commands.specs.Commands.{command_of};
-ghost use Rattle.balise_lines.specs.Writing.{Writes};
-ghost use Rattle.balise_rules.specs.Plan.{group_named};
-ghost use Rattle.balise_rules.specs.Session as rules;
-ghost use Rattle.balise_text.specs.Answers.{reply_of};
-ghost use Rattle.balise_text.specs.Requests.{call};
-ghost use Rattle.balise_text.specs.Reviews.{review_line};
-ghost use Rattle.balise_text.specs.Texts.{text_of};
+ghost use Rattle.std.specs.Prelude.{◌≡◌, IfErr, IfOk, IsErrOf, OnErr, OnOk, false};
+ghost use Rattle.balise_cli.specs.Faults.{IsCause, Prints};
+ghost use Rattle.balise_cli.specs.Output as output;
+ghost use Rattle.balise_cli.specs.PlanTexts.{end_text};
+ghost use Rattle.balise_cli.specs.Phases.{DidSome, DidStep, WrittenOfLine, WroteSuch, commands_phase};
+ghost use Rattle.balise_cli.specs.Statuses.{status_of};
 
-use balise_edits::review;
-use balise_history::{Command, Id, Plan, Refusal, Session};
-use balise_lines::{Counted, WriteFault};
-use balise_rules::ReviewLine;
-use balise_text::{Reply, Request, put_reply, put_review, read_request};
+use crate::answers::{answer_line, put_answer};
+use crate::fault::RunFault;
+use crate::printing::put_end;
+use crate::status::Status;
+use balise_arguments::Flags;
+use balise_history::Session;
+use balise_lines::Counted;
 use std::alloc::Global;
 use std::io::Write;
 
-/// What a command is answered: its reply, and behind a turn what is to be looked at.
+/// The session that the commands are done in, and whether one was refused.
 #[derive(Drop)]
-pub(crate) struct Answer {
-    pub(crate) reply: Reply,
-    pub(crate) review: Vec<ReviewLine>,
+pub(crate) struct Commands {
+    session: Session,
+    refused: bool,
 }
 
-// Does an edit that has no review.
-fn edit(session: &mut Session, command: Command) -> Reply
-    ensures { DidDo (rules.Ask (command_of command)) session.old.state (reply_of result) session.new.state }
-{
-    match session.edit(command) {
-        Ok(serial) => Reply::Done(serial),
-        Err(refusal) => Reply::Refused(refusal),
-    }
-}
-
-// Does what is asked for but a turn.
-fn reply_to(session: &mut Session, request: Request) -> Reply
-    ensures { DidDo (call request) session.old.state (reply_of result) session.new.state }
-{
-    match request {
-        Request::Edit(command) => edit(session, command),
-        Request::Undo => match session.undo() {
-            Ok(serial) => Reply::Undone(serial),
-            Err(refusal) => Reply::Refused(refusal),
-        },
-        Request::Redo => match session.redo() {
-            Ok(serial) => Reply::Redone(serial),
-            Err(refusal) => Reply::Refused(refusal),
-        },
-        Request::Strike(serial) => match session.strike(serial) {
-            Ok(struck) => Reply::Struck(struck.serial),
-            Err(refusal) => Reply::Refused(refusal),
-        },
-    }
-}
-
-// What is to be looked at once the group of an identity is turned; nothing where there is none.
-fn review_of(alloc: Global, plan: &Plan, id: Id) -> Result<Vec<ReviewLine>, Refusal>
-    ensures ok { IfOk result (λ lines. lines.items ≡ group_review (group_named id plan.now.groups) plan.now.groups) }
-    ensures fault { IsOkUnless result Refusal.OutOfMemory }
-{
-    match plan.tag_of(id) {
-        Some(g) => match review(plan, g) {
-            Ok(lines) => Ok(lines),
-            Err(_) => Err(Refusal::OutOfMemory),
-        },
-        None => Ok(Vec::new(alloc)),
-    }
-}
-
-// Turns a group. Its review is made before the turn, so that nothing is wanted behind it.
-fn turn(alloc: Global, session: &mut Session, id: Id) -> Answer
-    ensures { TurnsWith id session.old.state result session.new.state }
-{
-    let none = Vec::new(alloc);
-    if session.is_worn() {
-        return Answer {
-            reply: Reply::Refused(Refusal::Worn),
-            review: none,
-        };
-    }
-    let lines = match review_of(alloc, session.plan(), id) {
-        Ok(lines) => lines,
-        Err(refusal) => {
-            return Answer {
-                reply: Reply::Refused(refusal),
-                review: none,
-            };
-        }
-    };
-    let reply = edit(session, Command::TurnGroup { id });
-    let review = if reply.is_refused() { none } else { lines };
-    Answer { reply, review }
-}
-
-// The identity of the group that is to be turned, if that is asked for.
-fn turned(request: &Request) -> Option<Id>
-    ensures { result ≡ turned_by (call request.now) }
-{
-    match request {
-        Request::Edit(Command::TurnGroup { id }) => Some(*id),
-        _ => None,
-    }
-}
-
-/// Does what a line asks for.
-pub(crate) fn answer_line(alloc: Global, session: &mut Session, line: &[u8]) -> Answer
-    ensures { DidAnswer line.now session.old.state result session.new.state }
-{
-    let request = match read_request(alloc, line) {
-        Ok(request) => request,
-        Err(refusal) => {
-            return Answer {
-                reply: Reply::Refused(refusal),
-                review: Vec::new(alloc),
-            };
-        }
-    };
-    if let Some(id) = turned(&request) {
-        return turn(alloc, session, id);
-    }
-    Answer {
-        reply: reply_to(session, request),
-        review: Vec::new(alloc),
-    }
-}
-
-// Writes what is to be looked at.
-fn put_reviews<W: Write>(writer: &mut Counted<W>, lines: &[ReviewLine]) -> Result<(), WriteFault>
-    ensures { Writes W.contents writer.old writer.new result (text_of (map review_line lines.now)) }
-{
-    for line in lines {
-        if let Err(fault) = put_review(writer, *line) {
-            return Err(fault);
+impl Commands {
+    /// Before the first command.
+    pub(crate) fn new(session: Session) -> Commands
+        ensures { commands_phase result ≡ output.Commands session.state false }
+    {
+        Commands {
+            session,
+            refused: false,
         }
     }
-    Ok(())
-}
 
-/// Writes the answer to a command. The replies to accepted commands are left out where the run is quiet.
-pub(crate) fn put_answer<W: Write>(
-    writer: &mut Counted<W>,
-    quiet: bool,
-    answer: &Answer,
-) -> Result<(), WriteFault>
-    ensures { Writes W.contents writer.old writer.new result (answer_text quiet answer.now) }
-{
-    if !quiet || answer.reply.is_refused() {
-        if let Err(fault) = put_reply(writer, answer.reply) {
-            return Err(fault);
+    /// Does the command of a line and writes its answer. After a refusal that stops the run it writes the end too, and
+    /// answers the status.
+    pub(crate) fn answer<W: Write>(
+        &mut self,
+        alloc: Global,
+        flags: Flags,
+        line: &[u8],
+        writer: &mut Counted<W>,
+    ) -> Result<Option<Status>, RunFault>
+        ensures ok { IfOk result (DidStep flags (commands_phase self.old) 0 line.now (W.contents writer.old.inner) (W.contents writer.new.inner) (commands_phase self.new)) }
+        ensures unfailed { OnOk result (writer.new.failed ≡ writer.old.failed) }
+        ensures cause { IfErr result (IsCause writer.old.failed writer.new.failed) }
+        ensures written { OnErr result (DidSome flags (commands_phase self.old) 0 line.now (W.contents writer.old.inner) (W.contents writer.new.inner)) }
+        ensures memory { IsErrOf result RunFault.OutOfMemory → WroteSuch (WrittenOfLine flags (commands_phase self.old) 0 line.now) (W.contents writer.old.inner) (W.contents writer.new.inner) }
+    {
+        let answer = answer_line(alloc, &mut self.session, line);
+        if let Err(fault) = put_answer(writer, flags.quiet, &answer) {
+            return Err(RunFault::from(fault));
+        }
+        let is_refused = answer.reply.is_refused();
+        self.refused |= is_refused;
+        if flags.stop & is_refused {
+            if let Err(fault) = put_end(alloc, writer, flags, &self.session) {
+                return Err(fault);
+            }
+            return Ok(Some(Status::SomeRefused));
+        }
+        Ok(None)
+    }
+
+    /// Writes what the end of the commands prints.
+    pub(crate) fn end<W: Write>(
+        &self,
+        alloc: Global,
+        flags: Flags,
+        writer: &mut Counted<W>,
+    ) -> Result<Status, RunFault>
+        ensures status { IfOk result (λ status. status ≡ status_of self.now.refused) }
+        ensures prints { Prints W.contents writer.old writer.new result (end_text flags self.now.session.state) }
+    {
+        match put_end(alloc, writer, flags, &self.session) {
+            Ok(()) => Ok(Status::of_commands(self.refused)),
+            Err(fault) => Err(fault),
         }
     }
-    put_reviews(writer, &answer.review)
 }

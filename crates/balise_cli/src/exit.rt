@@ -1,21 +1,21 @@
-//! How the program ends: its exit status, and the fault that it tells of.
+//! How the program ends: its exit status, and the fault that it reports.
 
 ghost use Rattle.std.specs.Prelude.{◌≡◌, None, Some};
-ghost use Rattle.balise_cli.specs.Exits.{exit_behind_arguments, exit_of};
+ghost use Rattle.balise_cli.specs.Exits.{exit_after_arguments, exit_of};
 
 use crate::fault::RunFault;
 use crate::status::Status;
-use balise_arguments::ArgumentsFault;
+use balise_arguments::ArgsFault;
 use balise_history::Refusal;
 
-/// How the program ends: its exit status, and the fault, 29 to 32, that is told on standard error.
+/// How the program ends: its exit status, and the fault, 29 to 32, that is reported on standard error.
 #[derive(Clone, Copy, Debug, PartialEq, Eq)]
 pub struct Exit {
     pub code: u8,
     pub fault: Option<Refusal>,
 }
 
-/// How it ends behind a run, by whether the output could be flushed: 0, 1 and 2 as the run ended, 3 at a fault. Output
+/// How it ends after a run, by whether the output could be flushed: 0, 1 and 2 as the run ended, 3 at a fault. Output
 /// that couldn't be flushed is a fault of the writer.
 pub fn exit_of(ended: Result<Status, RunFault>, flushed: bool) -> Exit
     ensures { result ≡ exit_of ended flushed }
@@ -40,25 +40,21 @@ pub fn exit_of(ended: Result<Status, RunFault>, flushed: bool) -> Exit
     }
 }
 
-/// How it ends where the arguments ask for no run: 0 behind help and version, 64 where they aren't the program's, and 3
-/// where memory is wanting.
-pub fn exit_behind_arguments(fault: &ArgumentsFault) -> Exit
-    ensures { result ≡ exit_behind_arguments fault.now }
+/// How it ends where the arguments ask for no run: 0 after help, 64 where they aren't the program's, and 3 where memory
+/// runs out.
+pub fn exit_after_arguments(fault: &ArgsFault) -> Exit
+    ensures { result ≡ exit_after_arguments fault.now }
 {
     match fault {
-        ArgumentsFault::Help(_) => Exit {
+        ArgsFault::Help(_) => Exit {
             code: 0,
             fault: None,
         },
-        ArgumentsFault::Version(_) => Exit {
-            code: 0,
-            fault: None,
-        },
-        ArgumentsFault::Memory => Exit {
+        ArgsFault::Memory => Exit {
             code: 3,
             fault: Some(Refusal::OutOfMemory),
         },
-        ArgumentsFault::Other(_) => Exit {
+        ArgsFault::Other(_) => Exit {
             code: 64,
             fault: None,
         },

@@ -12,7 +12,7 @@ use thiserror::Error;
 pub enum RunFault {
     #[error("a line has more than 4,096 bytes, or the input more than 67,108,864")]
     InputTooLong,
-    #[error("out of memory while the plan or the journal was read, or behind the last command")]
+    #[error("out of memory while the plan or the journal was read, or after the last command")]
     OutOfMemory,
     #[error("the reader failed")]
     ReadFault,

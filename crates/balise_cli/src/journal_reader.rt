@@ -1,67 +1,74 @@
 //! The lines of the journal.
 
 ghost use Rattle.std.specs.Prelude.{◌≡◌, IfErr, IfOk};
-ghost use Rattle.balise_cli.specs.Machine.{DidRead, DidSeeJournal};
-ghost use Rattle.balise_cli.specs.Output.{in_journal, journal_begun};
-ghost use Rattle.balise_text.specs.Heads as heads;
-ghost use Rattle.balise_text.specs.JournalLines.{journal_line_of};
+ghost use Rattle.balise_cli.specs.Output.{InJournal, read_line};
+ghost use Rattle.balise_cli.specs.Phases.{journal_phase, journal_read};
+ghost use Rattle.balise_text.specs.declared.section.Section.TheVariants.{Entries};
 
-use crate::base_plan::BasePlan;
 use crate::fault::RunFault;
-use crate::machine::{Machine, Taken};
-use balise_history::{Opening, Refusal};
-use balise_text::{JournalLine, Part, read_head, read_journal_line};
+use balise_history::{Opening, Refusal, Session};
+use balise_text::{JournalLine, Section, Version, read_journal_line};
 use std::alloc::Global;
 
-/// The journal's first line.
-pub(crate) fn begin_journal(alloc: Global, plan: BasePlan, number: u64, line: &[u8]) -> Taken
-    ensures { DidRead (journal_begun plan number (heads.read_head line.now)) result }
-{
-    let head = match read_head(line) {
-        Ok(head) => head,
-        Err(refusal) => return Taken::Bad(number, refusal),
-    };
-    match plan.opening(alloc, head.next) {
-        Ok(opening) => { Taken::Good(Machine::InJournal(Part::Entries(head.version), opening)) }
-        Err(refusal) => Taken::Bad(number, refusal),
-    }
-}
-
-/// What a line of the journal is: it was taken, and the run goes on in the journal; it is refused, with its number; or the
-/// commands begin.
-pub(crate) enum JournalSeen {
-    Here,
+/// How the journal ends: it is refused, and this line is named; or the commands begin.
+#[derive(Clone, Copy)]
+pub(crate) enum JournalEnd {
     Bad(u64, Refusal),
     Edits,
 }
 
-/// A further line of it.
-pub(crate) fn read_in_journal(
-    alloc: Global,
-    part: &mut Part,
-    opening: &mut Opening,
-    number: u64,
-    line: &[u8],
-) -> Result<JournalSeen, RunFault>
-    ensures ok { IfOk result (DidSeeJournal (in_journal part.old opening.old.state number (journal_line_of part.old line.now)) part.new opening.new.state) }
-    ensures fault { IfErr result (λ e. e ≡ RunFault.OutOfMemory) }
-{
-    match read_journal_line(alloc, *part, line) {
-        Ok(JournalLine::Entry(entry)) => match opening.entry(entry) {
-            Ok(()) => Ok(JournalSeen::Here),
+/// The journal, as far as it was read: what may come there, and the session so far.
+#[derive(Drop)]
+pub(crate) struct JournalReader {
+    section: Section,
+    opening: Opening,
+}
+
+impl JournalReader {
+    /// After the first line, which has this version.
+    pub(crate) fn new(version: Version, opening: Opening) -> JournalReader
+        ensures { journal_phase result ≡ InJournal (Entries version) opening.state }
+    {
+        JournalReader {
+            section: Section::Entries(version),
+            opening,
+        }
+    }
+
+    /// Reads the line of this number: the journal goes on after it, or ends there.
+    pub(crate) fn read(
+        &mut self,
+        alloc: Global,
+        number: u64,
+        line: &[u8],
+    ) -> Result<Option<JournalEnd>, RunFault>
+        ensures ok { IfOk result (λ end. read_line (journal_phase self.old) number line.now ≡ journal_read self.new end) }
+        ensures fault { IfErr result (λ e. e ≡ RunFault.OutOfMemory) }
+    {
+        match read_journal_line(alloc, self.section, line) {
+            Ok(JournalLine::Entry(entry)) => match self.opening.entry(entry) {
+                Ok(()) => Ok(None),
+                Err(Refusal::OutOfMemory) => Err(RunFault::OutOfMemory),
+                Err(refusal) => Ok(Some(JournalEnd::Bad(number, refusal))),
+            },
+            Ok(JournalLine::Undone(serial)) => match self.opening.undone(serial) {
+                Ok(()) => {
+                    self.section = Section::Undone;
+                    Ok(None)
+                }
+                Err(Refusal::OutOfMemory) => Err(RunFault::OutOfMemory),
+                Err(refusal) => Ok(Some(JournalEnd::Bad(number, refusal))),
+            },
+            Ok(JournalLine::Edits) => Ok(Some(JournalEnd::Edits)),
             Err(Refusal::OutOfMemory) => Err(RunFault::OutOfMemory),
-            Err(refusal) => Ok(JournalSeen::Bad(number, refusal)),
-        },
-        Ok(JournalLine::Undone(serial)) => match opening.undone(serial) {
-            Ok(()) => {
-                *part = Part::Undone;
-                Ok(JournalSeen::Here)
-            }
-            Err(Refusal::OutOfMemory) => Err(RunFault::OutOfMemory),
-            Err(refusal) => Ok(JournalSeen::Bad(number, refusal)),
-        },
-        Ok(JournalLine::Edits) => Ok(JournalSeen::Edits),
-        Err(Refusal::OutOfMemory) => Err(RunFault::OutOfMemory),
-        Err(refusal) => Ok(JournalSeen::Bad(number, refusal)),
+            Err(refusal) => Ok(Some(JournalEnd::Bad(number, refusal))),
+        }
+    }
+
+    /// The session that the journal gives.
+    pub(crate) fn session(self) -> Session
+        ensures { result.state ≡ self.opening.state }
+    {
+        self.opening.done()
     }
 }

@@ -7,7 +7,8 @@ mod base_plan;
 mod journal_reader;
 mod plan_reader;
 
-// The commands, and what is printed behind them.
+// The commands, and what is printed after them.
+mod answers;
 mod commands;
 mod printing;
 
@@ -15,14 +16,20 @@ mod printing;
 mod exit;
 mod fault;
 pub mod laws;
-mod machine;
+mod phases;
 mod running;
 mod status;
 
-pub use balise_arguments::{ArgumentsFault, Flags, flags};
+// The program over its words and its three streams.
+mod command_line;
+mod program;
+
+pub use balise_arguments::{ArgsFault, Flags, flags};
 pub use balise_history::Refusal;
 pub use balise_lines::Counted;
-pub use exit::{Exit, exit_behind_arguments, exit_of};
+pub use command_line::{launch, stop_without_memory};
+pub use exit::{Exit, exit_after_arguments, exit_of};
 pub use fault::RunFault;
+pub use program::{report, start, work};
 pub use running::run;
 pub use status::Status;

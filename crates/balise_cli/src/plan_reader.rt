@@ -1,88 +1,44 @@
 //! The lines of the plan.
 
-ghost use Rattle.std.specs.Prelude.{ℕ, ◌≡◌, ◌≢◌, IfErr, IfOk, Ok, Err, OnErr, OnOk};
-ghost use Rattle.balise_cli.specs.Machine.{DidRead, DidSee};
-ghost use Rattle.balise_cli.specs.Output.{between, closed, first_line, in_group, telegram, InGroup};
+ghost use Rattle.std.specs.Prelude.{ℕ, ◌≡◌, ◌≢◌, IfErr, IfOk, Ok, Err, OnOk};
+ghost use Rattle.balise_arguments.specs.declared.options.Flags.{Flags};
+ghost use Rattle.balise_cli.specs.Output.{Bad, Header, InGroup, after_read, at_end, between, first_line, read_line, telegram};
+ghost use Rattle.balise_cli.specs.Phases.{Begins, FailsInGroup, is_telegram, plan_phase, plan_read, plan_read_as};
 ghost use Rattle.balise_cli.specs.PlanRead.{with_line};
 ghost use Rattle.balise_rules.specs.Plan.{Plan};
-ghost use Rattle.balise_text.specs.PlanLines.{plan_line_of};
+ghost use Rattle.balise_rules.specs.Session.{opened};
 
 use crate::base_plan::BasePlan;
 use crate::fault::RunFault;
-use crate::journal_reader::begin_journal;
-use crate::machine::{Machine, Taken};
-use balise_history::{Bits, Refusal};
+use crate::journal_reader::JournalReader;
+use balise_history::{Bits, Refusal, Session};
 use balise_plan::GroupReader;
-use balise_text::{PlanLine, read_plan_line};
+use balise_text::{Head, PlanLine, read_head, read_plan_line};
 use std::alloc::Global;
 use std::mem;
 
-/// The plan's first line.
-pub(crate) fn read_first_line(alloc: Global, number: u64, line: &[u8]) -> Taken
-    ensures { DidRead (first_line number (plan_line_of line.now)) result }
-{
-    match read_plan_line(line) {
-        PlanLine::FirstLine => Taken::Good(Machine::Between(BasePlan::new(alloc))),
-        _ => Taken::Bad(number, Refusal::BadLine),
-    }
+/// Where the next line of the plan stands: it is the first; it comes between groups; or it comes in a group, whose own
+/// line has this number.
+#[derive(Drop)]
+pub(crate) enum Place {
+    First,
+    Between,
+    InGroup(u64, GroupReader),
 }
 
-/// What a line in a group is: it was taken, and the run goes on in a group; it is refused, with the number of the line
-/// that it is said of; or the group ended, and it stands between groups.
-pub(crate) enum Seen {
-    Here,
+/// How the plan ends: it is refused, and this line is named; the commands begin; or a journal begins, at this line.
+#[derive(Clone, Copy)]
+pub(crate) enum PlanEnd {
     Bad(u64, Refusal),
-    Behind(PlanLine),
+    Edits,
+    Journal(u64, Head),
 }
 
-/// A line between groups. Takes the plan out where the run goes on elsewhere.
-pub(crate) fn read_between(
-    alloc: Global,
-    plan: &mut BasePlan,
-    number: u64,
-    kind: PlanLine,
-    line: &[u8],
-) -> Taken
-    ensures { DidRead (between plan.old number kind line.now) result }
-{
-    match kind {
-        PlanLine::GroupLine => Taken::Good(Machine::InGroup(
-            plan.take(alloc),
-            number,
-            GroupReader::new(alloc),
-        )),
-        PlanLine::EditsLine => {
-            Taken::Good(Machine::Commands(plan.take(alloc).session(alloc), false))
-        }
-        PlanLine::JournalLine => begin_journal(alloc, plan.take(alloc), number, line),
-        _ => Taken::Bad(number, Refusal::BadLine),
-    }
-}
-
-// The group ends, and another line follows.
-fn close(
-    alloc: Global,
-    plan: &mut BasePlan,
-    group_number: &mut u64,
-    group: &mut GroupReader,
-    number: u64,
-    kind: PlanLine,
-    line: &[u8],
-) -> Result<Seen, RunFault>
-    ensures ok { IfOk result (DidSee number line.now (closed plan.old group_number.old group.old (λ p. between p number kind line.now)) plan.new (InGroup plan.new group_number.new group.new)) }
-    ensures fault { IfErr result (λ e. e ≡ RunFault.OutOfMemory) }
-{
-    match plan.push(mem::replace(group, GroupReader::new(alloc))) {
-        Ok(()) => Ok(match kind {
-            PlanLine::GroupLine => {
-                *group_number = number;
-                Seen::Here
-            }
-            _ => Seen::Behind(kind),
-        }),
-        Err(Refusal::OutOfMemory) => Err(RunFault::OutOfMemory),
-        Err(refusal) => Ok(Seen::Bad(*group_number, refusal)),
-    }
+/// The plan, as far as it was read.
+#[derive(Drop)]
+pub(crate) struct PlanReader {
+    plan: BasePlan,
+    place: Place,
 }
 
 // Adds the telegram of a line. A ninth line isn't looked at.
@@ -101,42 +57,142 @@ fn add_telegram(alloc: Global, group: &mut GroupReader, line: &[u8]) -> Result<(
     }
 }
 
-// A telegram's line.
+// Reads a telegram's line.
 fn read_telegram(
     alloc: Global,
     group: &mut GroupReader,
     number: u64,
     line: &[u8],
-) -> Result<Seen, RunFault>
-    ensures ok { IfOk result (λ seen. (plan : Plan) (g : ℕ) → DidSee number line.now (telegram plan g group.old number line.now) plan (InGroup plan g group.new) seen) }
+) -> Result<Option<PlanEnd>, RunFault>
+    ensures ok { IfOk result (λ end. (plan : Plan) (g : ℕ) → telegram plan g group.old number line.now ≡ plan_read_as (InGroup plan g group.new) plan end) }
     ensures fault { IfErr result (λ e. e ≡ RunFault.OutOfMemory) }
 {
     match add_telegram(alloc, group, line) {
-        Ok(()) => Ok(Seen::Here),
+        Ok(()) => Ok(None),
         Err(Refusal::OutOfMemory) => Err(RunFault::OutOfMemory),
-        Err(refusal) => Ok(Seen::Bad(number, refusal)),
+        Err(refusal) => Ok(Some(PlanEnd::Bad(number, refusal))),
     }
 }
 
-/// A line in a group.
-pub(crate) fn read_in_group(
-    alloc: Global,
-    plan: &mut BasePlan,
-    group_number: &mut u64,
-    group: &mut GroupReader,
-    number: u64,
-    line: &[u8],
-) -> Result<Seen, RunFault>
-    ensures ok { IfOk result (DidSee number line.now (in_group plan.old group_number.old group.old number (plan_line_of line.now) line.now) plan.new (InGroup plan.new group_number.new group.new)) }
-    ensures fault { IfErr result (λ e. e ≡ RunFault.OutOfMemory) }
+// In a group, whether the line is a telegram's.
+fn is_telegram(kind: PlanLine) -> bool
+    ensures { result ≡ is_telegram kind }
 {
-    let kind = read_plan_line(line);
     match kind {
-        PlanLine::FirstLine => read_telegram(alloc, group, number, line),
-        PlanLine::TelegramLine => read_telegram(alloc, group, number, line),
-        PlanLine::GroupLine => close(alloc, plan, group_number, group, number, kind, line),
-        PlanLine::EditsLine => close(alloc, plan, group_number, group, number, kind, line),
-        PlanLine::JournalLine => close(alloc, plan, group_number, group, number, kind, line),
-        PlanLine::Empty => close(alloc, plan, group_number, group, number, kind, line),
+        PlanLine::FirstLine => true,
+        PlanLine::TelegramLine => true,
+        _ => false,
+    }
+}
+
+impl PlanReader {
+    /// Before the first line. Takes no memory.
+    pub(crate) fn new(alloc: Global) -> PlanReader
+        ensures { plan_phase result ≡ Header }
+    {
+        PlanReader {
+            plan: BasePlan::new(alloc),
+            place: Place::First,
+        }
+    }
+
+    // Reads the first line.
+    fn read_first(&mut self, alloc: Global, number: u64, kind: PlanLine) -> Option<PlanEnd>
+        ensures { first_line number kind ≡ plan_read self.new result }
+    {
+        match kind {
+            PlanLine::FirstLine => {
+                self.plan = BasePlan::new(alloc);
+                self.place = Place::Between;
+                None
+            }
+            _ => Some(PlanEnd::Bad(number, Refusal::BadLine)),
+        }
+    }
+
+    // Reads a line between groups.
+    fn read_between(
+        &mut self,
+        alloc: Global,
+        number: u64,
+        kind: PlanLine,
+        line: &[u8],
+    ) -> Option<PlanEnd>
+        ensures { between self.old.plan number kind line.now ≡ plan_read self.new result }
+    {
+        match kind {
+            PlanLine::GroupLine => {
+                self.place = Place::InGroup(number, GroupReader::new(alloc));
+                None
+            }
+            PlanLine::EditsLine => Some(PlanEnd::Edits),
+            PlanLine::JournalLine => match read_head(line) {
+                Ok(head) => Some(PlanEnd::Journal(number, head)),
+                Err(refusal) => Some(PlanEnd::Bad(number, refusal)),
+            },
+            _ => Some(PlanEnd::Bad(number, Refusal::BadLine)),
+        }
+    }
+
+    /// Reads the line of this number: the plan goes on after it, or ends there. Memory can run out in a group alone.
+    pub(crate) fn read(
+        &mut self,
+        alloc: Global,
+        number: u64,
+        line: &[u8],
+    ) -> Result<Option<PlanEnd>, RunFault>
+        ensures ok { IfOk result (λ end. read_line (plan_phase self.old) number line.now ≡ plan_read self.new end) }
+        ensures fault { IfErr result (FailsInGroup (plan_phase self.old)) }
+    {
+        let kind = read_plan_line(line);
+        match &mut self.place {
+            Place::First => Ok(self.read_first(alloc, number, kind)),
+            Place::Between => Ok(self.read_between(alloc, number, kind, line)),
+            Place::InGroup(group_number, group) => {
+                if is_telegram(kind) {
+                    return read_telegram(alloc, group, number, line);
+                }
+                match self.plan.push(mem::replace(group, GroupReader::new(alloc))) {
+                    Ok(()) => Ok(self.read_between(alloc, number, kind, line)),
+                    Err(Refusal::OutOfMemory) => Err(RunFault::OutOfMemory),
+                    Err(refusal) => Ok(Some(PlanEnd::Bad(*group_number, refusal))),
+                }
+            }
+        }
+    }
+
+    /// The input ends here, before the commands: which line is named, and as what. Memory can run out in a group alone.
+    pub(crate) fn end(&mut self, alloc: Global, number: u64) -> Result<(u64, Refusal), RunFault>
+        ensures ok { IfOk result (λ bad. (flags : Flags) → at_end flags (plan_phase self.old) number ≡ after_read (Bad bad.0 bad.1)) }
+        ensures fault { IfErr result (FailsInGroup (plan_phase self.old)) }
+    {
+        match &mut self.place {
+            Place::First => Ok((number, Refusal::BadLine)),
+            Place::Between => Ok((number, Refusal::BadLine)),
+            Place::InGroup(group_number, group) => {
+                match self.plan.push(mem::replace(group, GroupReader::new(alloc))) {
+                    Ok(()) => Ok((number, Refusal::BadLine)),
+                    Err(Refusal::OutOfMemory) => Err(RunFault::OutOfMemory),
+                    Err(refusal) => Ok((*group_number, refusal)),
+                }
+            }
+        }
+    }
+
+    /// The session over the plan, which it takes along. Takes no memory.
+    pub(crate) fn session(&mut self, alloc: Global) -> Session
+        ensures { result.state ≡ opened self.old.plan }
+    {
+        self.plan.take(alloc).session(alloc)
+    }
+
+    /// The journal over the plan, which it takes along. Takes no memory.
+    pub(crate) fn journal(&mut self, alloc: Global, head: Head) -> Result<JournalReader, Refusal>
+        ensures { Begins self.old.plan head result }
+    {
+        match self.plan.take(alloc).opening(alloc, head.next) {
+            Ok(opening) => Ok(JournalReader::new(head.version, opening)),
+            Err(refusal) => Err(refusal),
+        }
     }
 }

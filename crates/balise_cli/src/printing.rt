@@ -1,4 +1,4 @@
-//! What is printed behind the replies.
+//! What is printed after the replies.
 
 mod journal;
 mod plan;

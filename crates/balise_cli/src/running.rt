@@ -1,17 +1,25 @@
-//! The run: reads lines, and does each as it comes.
+//! The run over all of an input: the plan, perhaps its journal, and the commands.
 
-ghost use Rattle.std.specs.Prelude.{◌≡◌, IfErr, IfOk, IsErrOf, OnErr, OnOk, [], false};
-ghost use Rattle.balise_cli.specs.Ends.{ComesToEnd, DidLines, NoneComplete, WritesOutput, WritesSome};
-ghost use Rattle.balise_cli.specs.Faults.{IsFault};
-ghost use Rattle.balise_cli.specs.Machine.{phase_of};
-ghost use Rattle.balise_cli.specs.Output.{Ended, Header, TooLong};
-ghost use Rattle.balise_lines.specs.Reading.{ahead, is_over, number_of, place_of};
+ghost use Rattle.std.specs.Prelude.{◌≡◌, IfErr, IfOk, IsErrOf, OnErr, OnOk, false};
+ghost use Rattle.balise_cli.specs.Ends.{ComesToEnd, DidLines, NoneComplete, RunsOutOfMemory, WritesOutput, WritesSome, WritesStanding};
+ghost use Rattle.balise_cli.specs.Faults.{IsFault, Prints};
+ghost use Rattle.balise_cli.specs.Output.{Commands as AtCommands, Ended, Phase, TooLong};
+ghost use Rattle.balise_cli.specs.Phases.{journal_phase, plan_phase};
+ghost use Rattle.balise_cli.specs.Progress.{RunsOn};
+ghost use Rattle.balise_lines.specs.Reading.{OverAtEnd};
+ghost use Rattle.balise_rules.specs.Session.{State};
+ghost use Rattle.balise_text.specs.Replies.{bad_line};
 
+use crate::commands::Commands;
 use crate::fault::RunFault;
-use crate::machine::Machine;
+use crate::journal_reader::{JournalEnd, JournalReader};
+use crate::phases::{answer_commands, read_journal, read_plan};
+use crate::plan_reader::{PlanEnd, PlanReader};
 use crate::status::Status;
 use balise_arguments::Flags;
-use balise_lines::{Counted, LineFault, Lines, Next};
+use balise_history::{Refusal, Session};
+use balise_lines::{Counted, Lines};
+use balise_text::put_bad;
 use std::alloc::Global;
 use std::io::{Read, Write};
 
@@ -26,56 +34,96 @@ pub fn run<R: Read, W: Write>(
     writer: &mut Counted<W>,
     flags: Flags,
 ) -> Result<Status, RunFault>
+    ensures held { IfOk result (WritesStanding flags (R.remaining reader.old.inner) (W.contents writer.old.inner) (W.contents writer.new.inner)) }
     ensures ok { IfOk result (λ status. WritesOutput flags (R.remaining reader.old.inner) (W.contents writer.old.inner) (W.contents writer.new.inner) (Ended status)) }
     ensures read { IfOk result (λ status. DidLines flags (R.remaining reader.old.inner) (R.remaining reader.new.inner) (W.contents writer.old.inner) (W.contents writer.new.inner) (ComesToEnd flags (R.remaining reader.new.inner) status)) }
     ensures unread { OnOk result (reader.new.failed ≡ reader.old.failed) }
     ensures unwritten { OnOk result (writer.new.failed ≡ writer.old.failed) }
     ensures long { IsErrOf result RunFault.InputTooLong → WritesOutput flags (R.remaining reader.old.inner) (W.contents writer.old.inner) (W.contents writer.new.inner) TooLong }
     ensures fault { IfErr result (IsFault reader.old.failed reader.new.failed writer.old.failed writer.new.failed) }
+    ensures memory { IsErrOf result RunFault.OutOfMemory → DidLines flags (R.remaining reader.old.inner) (R.remaining reader.new.inner) (W.contents writer.old.inner) (W.contents writer.new.inner) (RunsOutOfMemory flags (R.remaining reader.new.inner)) }
     ensures complete { IsErrOf result RunFault.ReadFault → DidLines flags (R.remaining reader.old.inner) (R.remaining reader.new.inner) (W.contents writer.old.inner) (W.contents writer.new.inner) NoneComplete }
     ensures some { OnErr result (WritesSome flags (R.remaining reader.old.inner) (R.remaining reader.new.inner) (W.contents writer.old.inner) (W.contents writer.new.inner)) }
 {
     let mut lines = Lines::new();
-    let mut machine = Machine::new();
-    read_all(alloc, flags, &mut lines, &mut machine, reader, writer)
+    let mut plan = PlanReader::new(alloc);
+    run_plan(alloc, flags, &mut lines, &mut plan, reader, writer)
 }
 
-// The same, from the first line on. What holds the lines and the machine is lent, so that the ways out have nothing to drop.
-fn read_all<R: Read, W: Write>(
+// Writes the line for a plan or a journal that is refused.
+fn refuse<W: Write>(
+    writer: &mut Counted<W>,
+    number: u64,
+    refusal: Refusal,
+) -> Result<Status, RunFault>
+    ensures status { IfOk result (λ status. status ≡ Status.BadInput) }
+    ensures fault { IfErr result (λ e. e ≡ RunFault.WriteFault) }
+    ensures line { Prints W.contents writer.old writer.new result (bad_line number refusal) }
+{
+    match put_bad(writer, number, refusal) {
+        Ok(()) => Ok(Status::BadInput),
+        Err(fault) => Err(RunFault::from(fault)),
+    }
+}
+
+// Runs from a line of the plan on. What owns much is lent, so that no way out has to drop it.
+fn run_plan<R: Read, W: Write>(
     alloc: Global,
     flags: Flags,
     lines: &mut Lines,
-    machine: &mut Machine,
+    plan: &mut PlanReader,
     reader: &mut Counted<R>,
     writer: &mut Counted<W>,
 ) -> Result<Status, RunFault>
-    requires ahead { ahead lines.old ≡ [] }
-    requires place { place_of lines.old ≡ 0 }
-    requires number { number_of lines.old ≡ 1 }
-    requires over { is_over lines.old ≡ false }
-    requires phase { phase_of machine.old ≡ Header }
-    ensures ok { IfOk result (λ status. WritesOutput flags (R.remaining reader.old.inner) (W.contents writer.old.inner) (W.contents writer.new.inner) (Ended status)) }
-    ensures read { IfOk result (λ status. DidLines flags (R.remaining reader.old.inner) (R.remaining reader.new.inner) (W.contents writer.old.inner) (W.contents writer.new.inner) (ComesToEnd flags (R.remaining reader.new.inner) status)) }
-    ensures unread { OnOk result (reader.new.failed ≡ reader.old.failed) }
-    ensures unwritten { OnOk result (writer.new.failed ≡ writer.old.failed) }
-    ensures long { IsErrOf result RunFault.InputTooLong → WritesOutput flags (R.remaining reader.old.inner) (W.contents writer.old.inner) (W.contents writer.new.inner) TooLong }
-    ensures fault { IfErr result (IsFault reader.old.failed reader.new.failed writer.old.failed writer.new.failed) }
-    ensures complete { IsErrOf result RunFault.ReadFault → DidLines flags (R.remaining reader.old.inner) (R.remaining reader.new.inner) (W.contents writer.old.inner) (W.contents writer.new.inner) NoneComplete }
-    ensures some { OnErr result (WritesSome flags (R.remaining reader.old.inner) (R.remaining reader.new.inner) (W.contents writer.old.inner) (W.contents writer.new.inner)) }
+    requires over { OverAtEnd lines.old (R.remaining reader.old.inner) }
+    ensures { RunsOn flags (plan_phase plan.old) lines.old R.remaining W.contents reader.old reader.new writer.old writer.new result }
 {
-    'lines: loop {
-        let number = lines.number();
-        match lines.next(reader) {
-            Err(LineFault::TooLong) => return Err(RunFault::InputTooLong),
-            Err(LineFault::Read) => return Err(RunFault::ReadFault),
-            Ok(Next::End) => return machine.finish(alloc, flags, number, writer),
-            Ok(Next::Line { is_ended: _ }) => {
-                match machine.step(alloc, flags, number, lines.line(), writer) {
-                    Err(fault) => return Err(fault),
-                    Ok(Some(status)) => return Ok(status),
-                    Ok(None) => {}
-                }
-            }
+    match read_plan(alloc, lines, plan, reader) {
+        Err(fault) => Err(fault),
+        Ok(PlanEnd::Bad(number, refusal)) => refuse(writer, number, refusal),
+        Ok(PlanEnd::Edits) => {
+            run_commands(alloc, flags, lines, plan.session(alloc), reader, writer)
+        }
+        Ok(PlanEnd::Journal(number, head)) => match plan.journal(alloc, head) {
+            Err(refusal) => refuse(writer, number, refusal),
+            Ok(journal) => run_journal(alloc, flags, lines, journal, reader, writer),
+        },
+    }
+}
+
+// Runs from a line of the journal on.
+fn run_journal<R: Read, W: Write>(
+    alloc: Global,
+    flags: Flags,
+    lines: &mut Lines,
+    mut journal: JournalReader,
+    reader: &mut Counted<R>,
+    writer: &mut Counted<W>,
+) -> Result<Status, RunFault>
+    requires over { OverAtEnd lines.old (R.remaining reader.old.inner) }
+    ensures { RunsOn flags (journal_phase journal) lines.old R.remaining W.contents reader.old reader.new writer.old writer.new result }
+{
+    match read_journal(alloc, lines, &mut journal, reader) {
+        Err(fault) => Err(fault),
+        Ok(JournalEnd::Bad(number, refusal)) => refuse(writer, number, refusal),
+        Ok(JournalEnd::Edits) => {
+            run_commands(alloc, flags, lines, journal.session(), reader, writer)
         }
     }
+}
+
+// Runs from a command on.
+fn run_commands<R: Read, W: Write>(
+    alloc: Global,
+    flags: Flags,
+    lines: &mut Lines,
+    session: Session,
+    reader: &mut Counted<R>,
+    writer: &mut Counted<W>,
+) -> Result<Status, RunFault>
+    requires over { OverAtEnd lines.old (R.remaining reader.old.inner) }
+    ensures { RunsOn flags (AtCommands session.state false) lines.old R.remaining W.contents reader.old reader.new writer.old writer.new result }
+{
+    let mut commands = Commands::new(session);
+    answer_commands(alloc, flags, lines, &mut commands, reader, writer)
 }

@@ -12,7 +12,7 @@ pub enum Status {
 }
 
 impl Status {
-    /// The status behind commands, by whether one was refused.
+    /// The status after commands, by whether one was refused.
     pub(crate) fn of_commands(refused: bool) -> Status
         ensures { result ≡ status_of refused }
     {

@@ -14,10 +14,14 @@ const GROUP: &[u8] =
 /// What is printed of the same plan.
 const PLAN: &[u8] = b"plan 1\ngroup\na1007f80a0327fffffffffffffffffffffffffffffffffffffffc0\n";
 
+/// A plan with a packet 66.
+const REVOCATION: &[u8] =
+    b"plan 1\ngroup\na1007f80a03250900f82ffffffffffffffffffffffffffffffffc0\nedits\n";
+
 /// Two commands, of which the second undoes the first.
 const PART: &[u8] = b"seth 5.100 0 M_MCOUNT 7\nundo\n";
 
-/// That a command line of so many letters, behind a plan without groups, has a run end so and print this.
+/// That a run over a plan without groups and a command line of so many letters prints this and ends so.
 fn check_line(
     rt: &impl Abort,
     alloc: Global,
@@ -69,7 +73,7 @@ fn check_quiet(rt: &impl Abort, alloc: Global, times: u64, replies: &[u8]) {
     check_replies(rt, writer.inner().as_slice(), replies);
 }
 
-/// The millionth command is the last that is done, whatever comes behind it.
+/// The millionth command is the last that is done, whatever comes after it.
 #[test]
 fn replies_at_the_limit(rt: HostRuntime) {
     check_quiet(&rt, rt.alloc(), 500_000, b"");
@@ -85,7 +89,7 @@ fn check_end(rt: &impl Abort, writer: &Counted<Vec<u8>>, end: &[u8]) {
     assert!(rt; writer.inner().as_slice().ends_with(end));
 }
 
-/// A line that is no command is refused as that behind the millionth command, too.
+/// A line that is no command is refused as such after the millionth command, too.
 #[test]
 fn bad_lines_at_the_limit(rt: HostRuntime) {
     let part = b"seth 5.100 0 M_MCOUNT 7\nundo\nfrobnicate\n";
@@ -118,7 +122,7 @@ fn a_thousand_edits_undone(rt: HostRuntime) {
 /// An input without end is too long at last.
 #[test]
 fn longest_input(rt: HostRuntime) {
-    let mut reader = Repeated::new(GROUP, b"undo\n", u64::MAX);
+    let mut reader = Repeated::new(REVOCATION, b"undo\n", u64::MAX);
     let mut writer = Tally::new();
     let answer = run(rt.alloc(), &mut reader, &mut writer, PLAIN);
     assert!(rt; answer == Err(RunFault::InputTooLong));

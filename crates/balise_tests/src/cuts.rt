@@ -1,7 +1,7 @@
-//! An input with a turn, an insertion and a strike, cut behind each byte.
+//! An input with a turn, an insertion and a strike, cut after each byte.
 
 use crate::runs;
-use crate::runs::{PLAIN, Row};
+use crate::runs::{PLAIN, Row, push};
 use balise_cli::Status;
 use std::alloc::Global;
 use std::process::Abort;
@@ -24,7 +24,7 @@ const TURN: &str =
     "ok 1\nreview 5.100 1 0 opaque 44\nreview 5.100 2 0 D_TSR 0 200\nreview 5.101 0 0 D_LINK 0 500\n";
 
 /// A run of lengths, from the first up to the last, all of them or each second one.
-type Lengths = (usize, usize, bool);
+pub(crate) type Lengths = (usize, usize, bool);
 
 /// What the plan is refused for where so many bytes are left of the input.
 const REFUSED: &[(Lengths, &str)] = &[
@@ -106,30 +106,39 @@ const ANSWERED: &[(Lengths, bool, &str, &str, Status)] = &[
     ),
 ];
 
-fn holds(lengths: Lengths, length: usize) -> bool {
+pub(crate) fn holds(lengths: Lengths, length: usize) -> bool {
     let (first, last, is_each) = lengths;
     first <= length && length <= last && (is_each || length % 2 == first % 2)
 }
 
-/// That this is printed for an input of this length.
-fn check(rt: &impl Abort, alloc: Global, length: usize, due: &str, status: Status) {
+/// That a run over so many bytes of an input prints this and ends so.
+pub(crate) fn check(rt: &impl Abort, alloc: Global, whole: &Row, length: usize) {
     let row = Row {
-        flags: PLAIN,
-        input: INPUT.get(..length).unwrap_or(&[]),
-        output: due.as_bytes(),
-        status,
+        flags: whole.flags,
+        input: whole.input.get(..length).unwrap_or(&[]),
+        output: whole.output,
+        status: whole.status,
     };
     runs::check(rt, alloc, &row, 1);
     runs::check(rt, alloc, &row, 4096);
 }
 
-/// Looks at the rows of a plan that is refused which hold a length, and answers how many there are.
+fn row<'a>(output: &'a str, status: Status) -> Row<'a> {
+    Row {
+        flags: PLAIN,
+        input: INPUT,
+        output: output.as_bytes(),
+        status,
+    }
+}
+
+/// Looks at the rows of a plan that is refused which hold a length, and returns how many there are.
 fn check_refused(rt: &impl Abort, alloc: Global, length: usize) -> u32 {
     let mut rows: u32 = 0;
     for (lengths, text) in REFUSED.iter() {
         if holds(*lengths, length) {
             rows = rows.saturating_add(1);
-            check(rt, alloc, length, *text, Status::BadInput);
+            check(rt, alloc, &row(*text, Status::BadInput), length);
         }
     }
     rows
@@ -142,7 +151,7 @@ fn check_answered(rt: &impl Abort, alloc: Global, length: usize) -> u32 {
         if holds(*lengths, length) {
             rows = rows.saturating_add(1);
             let due = due_of(rt, alloc, *is_turned, *text, *plan);
-            check(rt, alloc, length, due.as_str(), *status);
+            check(rt, alloc, &row(due.as_str(), *status), length);
         }
     }
     rows
@@ -156,10 +165,6 @@ fn due_of(rt: &impl Abort, alloc: Global, is_turned: bool, text: &str, plan: &st
     push(rt, &mut due, text);
     push(rt, &mut due, plan);
     due
-}
-
-fn push(rt: &impl Abort, due: &mut String, text: &str) {
-    due.push_str(text).expect(rt, "memory");
 }
 
 /// Each length is in one row of the tables, and what stands there is printed.

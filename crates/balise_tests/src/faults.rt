@@ -7,7 +7,7 @@ use std::alloc::Global;
 use std::io::ErrorKind;
 use std::process::Abort;
 
-/// An input with so many lines before its commands, what each command is answered, and what is printed behind.
+/// An input with so many lines before its commands, what each command is answered, and what is printed after them.
 struct Case {
     flags: Flags,
     input: &'static [u8],
@@ -17,7 +17,7 @@ struct Case {
     status: Status,
 }
 
-const CASES: [Case; 3] = [
+const CASES: [Case; 5] = [
     Case {
         flags: Flags {
             quiet: false,
@@ -61,6 +61,32 @@ const CASES: [Case; 3] = [
         end: "plan 1\ngroup\na1007f80a03250900f84ffffffffffffffffffffffffffffffffc0\njournal 2 2\n1 set b0/0/b0 NID_TSR 0 9 5\n{\"country\":5,\"number\":100,\"telegrams\":[{\"bits\":210,\"m_dup\":0,\"m_mcount\":255,\"m_version\":33,\"packets\":[{\"fields\":[[\"NID_PACKET\",66],[\"Q_DIR\",1],[\"L_PACKET\",31],[\"NID_TSR\",9]],\"known\":true}],\"q_link\":1,\"used\":89}]}\n",
         status: Status::Accepted,
     },
+    Case {
+        flags: Flags {
+            quiet: false,
+            stop: false,
+            journal: true,
+            json: false,
+        },
+        input: b"plan 1\ngroup\na1007f80a03250900f82ffffffffffffffffffffffffffffffffc0\njournal 1 2\n1 set b0/0/b0 NID_TSR 0 9 5\nedits\nundo\n",
+        front: 6,
+        answers: ["undone 1\n", "", ""],
+        end: "plan 1\ngroup\na1007f80a03250900f82ffffffffffffffffffffffffffffffffc0\njournal 2 2\n1 set b0/0/b0 NID_TSR 0 9 5\nundone 1\n",
+        status: Status::Accepted,
+    },
+    Case {
+        flags: Flags {
+            quiet: false,
+            stop: false,
+            journal: true,
+            json: false,
+        },
+        input: b"plan 1\ngroup\na1007f80a0327fffffffffffffffffffffffffffffffffffffffc0\njournal 2 3\n1 insert b0/0 ^ 42403e0a\n2 insert b0/0 n1 42403e0c\nundone 1\nedits\nundo\nredo\nredo\n",
+        front: 8,
+        answers: ["undone 2\n", "redone 2\n", "redone 1\n"],
+        end: "plan 1\ngroup\na1007f80a03250900f82a1201f06ffffffffffffffffffffffffc0\njournal 2 3\n1 insert b0/0 ^ 42403e0a\n2 insert b0/0 n1 42403e0c\n",
+        status: Status::Accepted,
+    },
 ];
 
 /// How many bytes a call gives or takes.
@@ -94,7 +120,7 @@ fn lines_in(bytes: &[u8]) -> usize {
     lines
 }
 
-/// Runs with reads of so many bytes, and answers how many there were.
+/// Runs with reads of so many bytes, and returns how many there were.
 fn reads_of(rt: &impl Abort, alloc: Global, case: &Case, step: usize) -> u64 {
     let mut reader = Slow::new(case.input, step);
     let mut writer = Counted::new(Vec::new(alloc));
@@ -104,7 +130,7 @@ fn reads_of(rt: &impl Abort, alloc: Global, case: &Case, step: usize) -> u64 {
     reader.inner().calls
 }
 
-/// Runs with writes of so many bytes, and answers how many there were.
+/// Runs with writes of so many bytes, and returns how many there were.
 fn writes_of(rt: &impl Abort, alloc: Global, case: &Case, step: usize) -> u64 {
     let mut writer = Narrow::new(alloc, step, 0, Failure::Nothing);
     check_ended(rt, write(alloc, case, &mut writer), case.status);
@@ -123,7 +149,7 @@ fn check_narrow(rt: &impl Abort, writer: &Counted<Narrow>, text: &[u8]) {
     assert!(rt; writer.inner().text.as_slice() == text);
 }
 
-/// That the read of this number fails, and no read comes behind it; answers how many lines were given before.
+/// That the read of this number fails, and is the last one. Returns how many lines were given before.
 fn lines_given(rt: &impl Abort, case: &Case, reader: &Counted<Slow>, call: u64) -> usize {
     assert!(rt; reader.failed() == 1);
     assert!(rt; reader.inner().calls == call);
@@ -162,7 +188,7 @@ fn fail_reads(rt: &impl Abort, alloc: Global, case: &Case, step: usize) {
 }
 
 /// The replies to the commands whose lines came before the failing call have been written, and nothing else. No read
-/// comes behind it.
+/// comes after it.
 #[test]
 fn each_read_fails(rt: HostRuntime) {
     for case in &CASES {
@@ -172,7 +198,7 @@ fn each_read_fails(rt: HostRuntime) {
     }
 }
 
-/// That the write of this number fails, and no write comes behind it; and that what was written is a beginning.
+/// That the write of this number fails and is the last one, and that what was written is a beginning.
 fn check_beginning(rt: &impl Abort, writer: &Counted<Narrow>, whole: &[u8], call: u64) {
     assert!(rt; writer.failed() == 1);
     assert!(rt; writer.inner().calls == call);
@@ -214,7 +240,7 @@ fn fail_writes(rt: &impl Abort, alloc: Global, case: &Case, whole: &[u8], step: 
     }
 }
 
-/// What was written is a beginning of the output, which ends where the failing call came. No write comes behind it.
+/// What was written is a beginning of the output, which ends where the failing call came. No write comes after it.
 #[test]
 fn each_write_fails(rt: HostRuntime) {
     for case in &CASES {

@@ -1,6 +1,8 @@
 //! Whole runs: what is printed for an input, however few bytes a read gives.
 
 #[cfg(test)]
+mod damaged;
+#[cfg(test)]
 mod edits;
 #[cfg(test)]
 mod journals;

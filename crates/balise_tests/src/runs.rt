@@ -19,6 +19,13 @@ pub(crate) const QUIET: Flags = Flags {
     json: false,
 };
 
+pub(crate) const JOURNAL: Flags = Flags {
+    quiet: false,
+    stop: false,
+    journal: true,
+    json: false,
+};
+
 /// An input with its flags, and what a run over it prints and ends with.
 #[derive(Clone, Copy)]
 pub(crate) struct Row<'a> {
@@ -34,6 +41,24 @@ pub(crate) fn check(rt: &impl Abort, alloc: Global, row: &Row, step: usize) {
     let ended = run_slowly(alloc, row, step, &mut writer);
     check_ended(rt, ended, row.status);
     check_text(rt, &writer, row.output);
+}
+
+/// Runs over an input that is read at once, with what it prints.
+pub(crate) fn check_at_once(
+    rt: &impl Abort,
+    alloc: Global,
+    flags: Flags,
+    texts: (&str, &str),
+    status: Status,
+) {
+    let (input, output) = texts;
+    let row = Row {
+        flags,
+        input: input.as_bytes(),
+        output: output.as_bytes(),
+        status,
+    };
+    check(rt, alloc, &row, 4096);
 }
 
 fn run_slowly(
@@ -65,4 +90,9 @@ pub(crate) fn run_often(
     let (front, part, times) = text;
     let mut reader = Repeated::new(front, part, times);
     run(alloc, &mut reader, writer, flags)
+}
+
+/// Adds to a text.
+pub(crate) fn push(rt: &impl Abort, text: &mut String, more: &str) {
+    text.push_str(more).expect(rt, "memory");
 }

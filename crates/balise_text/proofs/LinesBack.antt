@@ -7,8 +7,8 @@ use Rattle.balise_rules.specs.declared.refusal.Refusal.TheVariants.{BadLine}
 use Rattle.balise_rules.specs.Journal.{Line}
 use Rattle.balise_text.specs.declared.head.Version.{Version}
 use Rattle.balise_text.specs.declared.head.Version.TheVariants.{One, Two}
-use Rattle.balise_text.specs.declared.part.Part.{Part}
-use Rattle.balise_text.specs.declared.part.Part.TheVariants.{Entries, Undone}
+use Rattle.balise_text.specs.declared.section.Section.{Section}
+use Rattle.balise_text.specs.declared.section.Section.TheVariants.{Entries, Undone}
 use Rattle.balise_text.specs.Words.{Word, words_of, is_digit, all_digits, number_of, or_bad, read_as}
 use Rattle.balise_text.specs.Texts.{behind_marks}
 use Rattle.balise_text.specs.Entries.{edit_words, noted_words, entry_text, undone_text}
@@ -38,7 +38,7 @@ not_edits l h = differs (decimal l.serial) (behind_marks 32 (edit_words l.edit +
 serial_not_undone : (s : ℕ) → IsNumber s → bytes_eq (decimal s) (codes "undone") ≡ false
 serial_not_undone s h = ap (λ (t : Word). bytes_eq t (codes "undone")) (sym (append-nil (decimal s))) ∙ differs (decimal s) [] 117 (codes "ndone") (digits_of_decimal s h) (decimal_nonempty s (omega arith)) (omega arith)
 
-as_line : (line : Word) (part : Part) (x : JournalLine) → bytes_eq line (codes "edits") ≡ false → line_in part (words_of line) ≡ Some (Ok x) → journal_line_of part line ≡ Ok x
+as_line : (line : Word) (part : Section) (x : JournalLine) → bytes_eq line (codes "edits") ≡ false → line_in part (words_of line) ≡ Some (Ok x) → journal_line_of part line ≡ Ok x
 as_line line part x e f = rw e (ap or_bad f)
 
 entry_in_part : (v : Version) (ws : List Word) (l : Line) → undone_in ws ≡ None → entry_in ws ≡ Some (Ok l) → line_in (Entries v) ws ≡ Some (Ok (EntryLine l))

@@ -1,5 +1,5 @@
 -- The lines of commands: which command a line is, or why it is none. The digits are looked at where the line is of the grammar.
-use Rattle.std.specs.Prelude.{if◌then◌else◌, Bool, true, false, List, [], ◌∷◌, codes, bytes_eq, Option, Some, None, Result, Ok, option_map}
+use Rattle.std.specs.Prelude.{◌&&◌, if◌then◌else◌, is_some, Bool, true, false, List, [], ◌∷◌, codes, bytes_eq, Option, Some, None, Result, Ok, option_map}
 use Rattle.balise_rules.specs.declared.refusal.Refusal.{Refusal}
 use Rattle.balise_rules.specs.Variables.{var_named}
 use Rattle.balise_rules.specs.Digits.{read_digits}
@@ -11,7 +11,7 @@ use Rattle.balise_text.specs.Kinds.{kind_of}
 use Rattle.balise_text.specs.DigitWords.{some_word, some_words, telegrams_in}
 use Rattle.balise_text.specs.Words.{Word, words_of, number_of, id_of, taken, and_then, no_more, or_bad, read_as}
 
--- What the words behind a name ask for, where they are of its grammar.
+-- What the words after a name ask for, where they are of its grammar.
 
 -- C.N PIG PKT VAR K VALUE
 abbrev pub set_words : List Word → Option Command
@@ -67,7 +67,7 @@ command_words (Some Drop) ws = option_map Ok (drop_words ws)
 command_words (Some Renumber) ws = option_map Ok (renumber_words ws)
 command_words (Some Turn) ws = option_map Ok (turn_words ws)
 
--- the words behind a name, by it
+-- the words after a name, by it
 abbrev pub named_words : Word → List Word → Option (Result Call Refusal)
 named_words name ws =
     if bytes_eq name (codes "undo") then option_map Ok (no_more ws Undo)
@@ -92,6 +92,6 @@ abbrev pub has_digits : List Word → Bool
 has_digits [] = false
 has_digits (name ∷ ws) = is_digits_kind (kind_of name)
 
--- whether memory may be wanted to read a line: its name is `insert` or `add`
+-- whether reading a line may run out of memory: it is of the grammar, and its name is `insert` or `add`
 abbrev pub reads_digits : Word → Bool
-reads_digits line = has_digits (words_of line)
+reads_digits line = is_some (call_in (words_of line)) && has_digits (words_of line)

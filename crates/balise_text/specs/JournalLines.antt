@@ -1,5 +1,5 @@
--- The lines behind the first of a journal, as they are read. The digits are looked at where the line is of the grammar.
-use Rattle.std.specs.Prelude.{ℕ, if◌then◌else◌, Bool, drop, List, codes, bytes_eq, Option, Some, None, Result, Ok, Err, option_map}
+-- The lines after the first of a journal, as they are read. The digits are looked at where the line is of the grammar.
+use Rattle.std.specs.Prelude.{ℕ, ◌&&◌, if◌then◌else◌, is_some, Bool, false, drop, List, codes, bytes_eq, Option, Some, None, Result, Ok, Err, option_map}
 use Rattle.balise_rules.specs.declared.refusal.Refusal.{Refusal}
 use Rattle.balise_rules.specs.declared.refusal.Refusal.TheVariants.{BadHex, JournalMismatch}
 use Rattle.balise_rules.specs.declared.tag.Tag.{Tag}
@@ -9,15 +9,15 @@ use Rattle.balise_rules.specs.Journal.{Line, LineEdit, LineSetVar, LineSetHead, 
 use Rattle.balise_text.specs.declared.head.Version.TheVariants.{One, Two}
 use Rattle.balise_text.specs.declared.kind.Kind.{Kind}
 use Rattle.balise_text.specs.declared.kind.Kind.TheVariants.{Set, SetHead, Insert, Delete, Move, Add, Drop, Renumber, Turn}
-use Rattle.balise_text.specs.declared.part.Part.{Part}
-use Rattle.balise_text.specs.declared.part.Part.TheVariants.{Entries, Undone}
+use Rattle.balise_text.specs.declared.section.Section.{Section}
+use Rattle.balise_text.specs.declared.section.Section.TheVariants.{Entries, Undone}
 use Rattle.balise_text.specs.Commands.{has_digits}
 use Rattle.balise_text.specs.Kinds.{kind_of}
 use Rattle.balise_text.specs.DigitWords.{some_word, some_words, telegrams_in}
 use Rattle.balise_text.specs.Places.{tag_of, anchor_of, neighbour_of, telegram_path_of, packet_path_of}
 use Rattle.balise_text.specs.Words.{Word, words_of, number_of, taken, and_then, no_more, or_bad, read_as}
 
--- What the words behind a serial and a name say, where they are of the grammar.
+-- What the words after a serial and a name say, where they are of the grammar.
 
 abbrev pub entry : ℕ → LineEdit → Noted → Line
 entry s e m = record { serial = s; edit = e; noted = m }
@@ -54,7 +54,7 @@ turn_entry s ws = and_then (taken tag_of ws) (λ g ws. no_more ws (entry s (Line
 abbrev pub insert_entry : ℕ → List Word → Option (Result Line Refusal)
 insert_entry s ws = and_then (taken telegram_path_of ws) (λ p ws. and_then (taken anchor_of ws) (λ a ws. and_then (taken some_word ws) (λ w ws. no_more ws (read_as (λ b. entry s (LineInsertPacket p.0 p.1 a b) Nothing) (read_digits w)))))
 
--- bad digits are told; a telegram of another length, or with bits behind its last, makes the journal one of another plan
+-- bad digits are answered as such; a telegram of another length, or with bits after its last, makes the journal one of another plan
 abbrev pub told : Refusal → Refusal
 told BadHex = BadHex
 told r = JournalMismatch
@@ -89,9 +89,9 @@ entry_in ws = and_then (taken number_of ws) (λ s ws. and_then (taken Some ws) (
 abbrev pub entry_of : Word → Result Line Refusal
 entry_of line = or_bad (entry_in (words_of line))
 
--- whether memory may be wanted to read a line: behind its serial the name is `insert` or `add`
-abbrev pub line_reads_digits : Word → Bool
-line_reads_digits line = has_digits (drop 1 (words_of line))
+-- whether reading it may run out of memory: it is of the grammar, and after its serial the name is `insert` or `add`
+abbrev pub entry_reads_digits : Word → Bool
+entry_reads_digits line = is_some (entry_in (words_of line)) && has_digits (drop 1 (words_of line))
 
 -- Any line.
 
@@ -112,12 +112,17 @@ abbrev pub undone_or : Option ℕ → Option (Result JournalLine Refusal) → Op
 undone_or (Some s) other = Some (Ok (UndoneLine s))
 undone_or None other = other
 
--- Among the entries an entry may come, in a journal of version 2 also the first undone edit; behind that only undone edits.
-abbrev pub line_in : Part → List Word → Option (Result JournalLine Refusal)
+-- Among the entries an entry may come, in a journal of version 2 also the first undone edit; after that only undone edits.
+abbrev pub line_in : Section → List Word → Option (Result JournalLine Refusal)
 line_in (Entries One) ws = option_map (read_as EntryLine) (entry_in ws)
 line_in (Entries Two) ws = undone_or (undone_in ws) (option_map (read_as EntryLine) (entry_in ws))
 line_in Undone ws = undone_or (undone_in ws) None
 
--- what a line behind the first is, or why it is none
-abbrev pub journal_line_of : Part → Word → Result JournalLine Refusal
-journal_line_of part line = if bytes_eq line (codes "edits") then Ok EditsLine else or_bad (line_in part (words_of line))
+-- what a line after the first is, or why it is none
+abbrev pub journal_line_of : Section → Word → Result JournalLine Refusal
+journal_line_of section line = if bytes_eq line (codes "edits") then Ok EditsLine else or_bad (line_in section (words_of line))
+
+-- whether reading a line may run out of memory: an entry's, where entries may come
+abbrev pub line_reads_digits : Section → Word → Bool
+line_reads_digits (Entries version) line = entry_reads_digits line
+line_reads_digits Undone line = false

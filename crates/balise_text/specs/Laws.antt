@@ -6,7 +6,7 @@ use Rattle.balise_rules.specs.Telegram.{IsLength}
 use Rattle.balise_rules.specs.Journal.{Line, LineEdit, LineSetVar, LineSetHead, LineInsertPacket, LineDeletePacket, LineMovePacket, LineAddGroup, LineDropGroup, LineRenumber, LineTurnGroup, Noted, Nothing, Value, Number, BeforePacket, BeforeGroup}
 use Rattle.balise_text.specs.declared.head.Version.{Version}
 use Rattle.balise_text.specs.declared.head.Version.TheVariants.{Two}
-use Rattle.balise_text.specs.declared.part.Part.TheVariants.{Entries, Undone}
+use Rattle.balise_text.specs.declared.section.Section.TheVariants.{Entries, Undone}
 use Rattle.balise_text.specs.Texts.{Text}
 use Rattle.balise_text.specs.Words.{most_number}
 use Rattle.balise_text.specs.Entries.{entry_text, head_text, undone_text}

@@ -17,7 +17,7 @@ abbrev pub anchor_text : Option Tag → Text
 anchor_text None = codes "^"
 anchor_text (Some a) = tag_text a
 
--- what stood directly behind: a tag, or the end
+-- what stood directly after it: a tag, or the end
 abbrev pub neighbour_text : Option Tag → Text
 neighbour_text None = codes "$"
 neighbour_text (Some b) = tag_text b

@@ -30,7 +30,7 @@ abbrev pub all_digits : Word → Bool
 all_digits [] = true
 all_digits (b ∷ bs) = is_digit b && all_digits bs
 
--- the value of digits, behind a value
+-- the value of digits, after a value
 abbrev pub value_after : ℕ → Word → ℕ
 value_after n [] = n
 value_after n (b ∷ bs) = value_after (n * 10 + (b - 48)) bs
@@ -38,7 +38,7 @@ value_after n (b ∷ bs) = value_after (n * 10 + (b - 48)) bs
 abbrev pub most_number : ℕ
 most_number = 4294967295
 
--- the value of digits behind a value, which is at most 4294967295
+-- the value of digits after a value, which is at most 4294967295
 abbrev pub value_from : ℕ → Word → Option ℕ
 value_from n w = if all_digits w && nat_le (value_after n w) most_number then Some (value_after n w) else None
 
@@ -48,7 +48,7 @@ number_of [] = None
 number_of (b ∷ []) = value_from 0 (b ∷ [])
 number_of (b ∷ c ∷ bs) = if b == 48 then None else value_from 0 (b ∷ c ∷ bs)
 
--- what the next word says, and the words behind it; none where no word comes, or it doesn't say such a thing
+-- what the next word says, and the words after it; none where no word comes, or it doesn't say such a thing
 abbrev pub with_words : {A : Type 0} → Option A → List Word → Option (A × List Word)
 with_words None ws = None
 with_words (Some x) ws = Some (x, ws)

@@ -1,6 +1,6 @@
 //! What the words of an edit's command ask for.
 
-ghost use Rattle.std.specs.Prelude.{◌≡◌, ◌≢◌, Err, IfErr, IfOk, Ok, option_map, true};
+ghost use Rattle.std.specs.Prelude.{◌≡◌, ◌≢◌, ◌&&◌, is_some, Err, IfErr, IfOk, Ok, option_map, true};
 ghost use Rattle.balise_commands.specs.Commands.{command_of};
 ghost use Rattle.balise_text.specs.Commands.{add_words, command_words, delete_words, drop_words, insert_words, is_digits_kind, move_words, renumber_words, set_head_words, set_words, turn_words};
 ghost use Rattle.balise_text.specs.Left.{left};
@@ -155,6 +155,7 @@ fn read_turn(words: Parts) -> Option<Command>
 fn read_insert(alloc: Global, words: Parts) -> Result<Command, Refusal>
     ensures ok { IfOk result (λ c. or_bad (insert_words (left words.entry)) ≡ Ok (command_of c)) }
     ensures fault { IfErr result (λ e. e ≢ Refusal.OutOfMemory → or_bad (insert_words (left words.entry)) ≡ Err e) }
+    ensures memory { IfErr result (λ e. e ≡ Refusal.OutOfMemory → is_some (insert_words (left words.entry)) ≡ true) }
 {
     let Some((id, words)) = words.id() else {
         return Err(Refusal::BadLine);
@@ -185,6 +186,7 @@ fn read_insert(alloc: Global, words: Parts) -> Result<Command, Refusal>
 fn read_add(alloc: Global, words: Parts) -> Result<Command, Refusal>
     ensures ok { IfOk result (λ c. or_bad (add_words (left words.entry)) ≡ Ok (command_of c)) }
     ensures fault { IfErr result (λ e. e ≢ Refusal.OutOfMemory → or_bad (add_words (left words.entry)) ≡ Err e) }
+    ensures memory { IfErr result (λ e. e ≡ Refusal.OutOfMemory → is_some (add_words (left words.entry)) ≡ true) }
 {
     let Some((at, words)) = words.number() else {
         return Err(Refusal::BadLine);
@@ -210,7 +212,7 @@ fn plainly(command: Option<Command>) -> Result<Command, Refusal>
     }
 }
 
-/// What the words behind the name of an edit ask for.
+/// What the words after the name of an edit ask for.
 pub(crate) fn read_command(
     alloc: Global,
     kind: Option<Kind>,
@@ -218,7 +220,7 @@ pub(crate) fn read_command(
 ) -> Result<Command, Refusal>
     ensures ok { IfOk result (λ c. or_bad (command_words kind (left words.entry)) ≡ Ok (command_of c)) }
     ensures fault { IfErr result (λ e. e ≢ Refusal.OutOfMemory → or_bad (command_words kind (left words.entry)) ≡ Err e) }
-    ensures memory { IfErr result (λ e. e ≡ Refusal.OutOfMemory → is_digits_kind kind ≡ true) }
+    ensures memory { IfErr result (λ e. e ≡ Refusal.OutOfMemory → (is_some (command_words kind (left words.entry)) && is_digits_kind kind) ≡ true) }
 {
     match kind {
         None => Err(Refusal::BadLine),

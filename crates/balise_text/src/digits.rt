@@ -9,7 +9,7 @@ use balise_bits::Bits;
 use balise_lines::{Counted, WriteFault, put};
 use std::io::Write;
 
-// The byte from a place on, behind the last bit filled with zeros.
+// The byte from a place on, filled with zeros after the last bit.
 fn byte(bits: &Bits, at: usize) -> u8
     requires within { at < length bits.now }
     requires whole { at % 8 ≡ 0 }

@@ -1,6 +1,6 @@
 //! What the words of an entry of a journal say.
 
-ghost use Rattle.std.specs.Prelude.{◌≡◌, ◌≢◌, Err, IfErr, IfOk, Ok, option_map, true};
+ghost use Rattle.std.specs.Prelude.{◌≡◌, ◌≢◌, ◌&&◌, is_some, Err, IfErr, IfOk, Ok, option_map, true};
 ghost use Rattle.balise_commands.specs.Lines.{line_in};
 ghost use Rattle.balise_bits.specs.Faults.{refusal_of};
 ghost use Rattle.balise_text.specs.Commands.{is_digits_kind};
@@ -189,6 +189,7 @@ fn read_turn(serial: u32, words: Parts) -> Option<Line>
 fn read_insert(alloc: Global, serial: u32, words: Parts) -> Result<Line, Refusal>
     ensures ok { IfOk result (λ l. or_bad (insert_entry serial (left words.entry)) ≡ Ok (line_in l)) }
     ensures fault { IfErr result (λ e. e ≢ Refusal.OutOfMemory → or_bad (insert_entry serial (left words.entry)) ≡ Err e) }
+    ensures memory { IfErr result (λ e. e ≡ Refusal.OutOfMemory → is_some (insert_entry serial (left words.entry)) ≡ true) }
 {
     let Some(((g, t), words)) = words.telegram_path() else {
         return Err(Refusal::BadLine);
@@ -220,6 +221,7 @@ fn read_insert(alloc: Global, serial: u32, words: Parts) -> Result<Line, Refusal
 fn read_add(alloc: Global, serial: u32, words: Parts) -> Result<Line, Refusal>
     ensures ok { IfOk result (λ l. or_bad (add_entry serial (left words.entry)) ≡ Ok (line_in l)) }
     ensures fault { IfErr result (λ e. e ≢ Refusal.OutOfMemory → or_bad (add_entry serial (left words.entry)) ≡ Err e) }
+    ensures memory { IfErr result (λ e. e ≡ Refusal.OutOfMemory → is_some (add_entry serial (left words.entry)) ≡ true) }
 {
     let Some((after, words)) = words.anchor() else {
         return Err(Refusal::BadLine);
@@ -249,7 +251,7 @@ fn plainly(line: Option<Line>) -> Result<Line, Refusal>
     }
 }
 
-/// What the words behind the serial and the name of an entry say.
+/// What the words after the serial and the name of an entry say.
 pub(crate) fn read_entry(
     alloc: Global,
     serial: u32,
@@ -258,7 +260,7 @@ pub(crate) fn read_entry(
 ) -> Result<Line, Refusal>
     ensures ok { IfOk result (λ l. or_bad (entry_words serial kind (left words.entry)) ≡ Ok (line_in l)) }
     ensures fault { IfErr result (λ e. e ≢ Refusal.OutOfMemory → or_bad (entry_words serial kind (left words.entry)) ≡ Err e) }
-    ensures memory { IfErr result (λ e. e ≡ Refusal.OutOfMemory → is_digits_kind kind ≡ true) }
+    ensures memory { IfErr result (λ e. e ≡ Refusal.OutOfMemory → (is_some (entry_words serial kind (left words.entry)) && is_digits_kind kind) ≡ true) }
 {
     match kind {
         None => Err(Refusal::BadLine),

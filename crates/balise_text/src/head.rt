@@ -12,7 +12,7 @@ use balise_rules::Refusal;
 pub enum Version {
     /// 1: the standing edits alone.
     One,
-    /// 2: behind them those that were undone.
+    /// 2: after them those that were undone.
     Two,
 }
 

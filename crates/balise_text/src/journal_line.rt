@@ -1,21 +1,21 @@
-//! A line of a journal behind the first, as it is read.
+//! A line of a journal after the first, as it is read.
 
 ghost use Rattle.std.specs.Prelude.{◌≡◌, ◌≢◌, Err, IfErr, IfOk, Ok, option_map, true};
 ghost use Rattle.balise_commands.specs.Lines.{line_in};
-ghost use Rattle.balise_text.specs.JournalLines.{EntryLine, entry_in, entry_of, journal_line_of, line_reads_digits, undone_in, undone_word};
+ghost use Rattle.balise_text.specs.JournalLines.{EntryLine, entry_in, entry_of, entry_reads_digits, journal_line_of, line_reads_digits, undone_in, undone_word};
 ghost use Rattle.balise_text.specs.ReadLines.{journal_line_in};
 ghost use Rattle.balise_text.specs.Words.{or_bad, read_as, words_of};
 
 use crate::entries::read_entry;
 use crate::head::Version;
 use crate::kind::read_kind;
-use crate::part::Part;
+use crate::section::Section;
 use crate::words::Parts;
 use balise_commands::Line;
 use balise_rules::Refusal;
 use std::alloc::Global;
 
-/// What a line of a journal behind the first is.
+/// What a line of a journal after the first is.
 #[derive(Drop)]
 pub enum JournalLine {
     /// An entry.
@@ -57,7 +57,7 @@ fn undone(line: &[u8]) -> Option<u32>
 fn entry(alloc: Global, line: &[u8]) -> Result<Line, Refusal>
     ensures ok { IfOk result (λ l. entry_of line.now ≡ Ok (line_in l)) }
     ensures fault { IfErr result (λ e. e ≢ Refusal.OutOfMemory → entry_of line.now ≡ Err e) }
-    ensures memory { IfErr result (λ e. e ≡ Refusal.OutOfMemory → line_reads_digits line.now ≡ true) }
+    ensures memory { IfErr result (λ e. e ≡ Refusal.OutOfMemory → entry_reads_digits line.now ≡ true) }
 {
     let Some((serial, words)) = Parts::words(line).number() else {
         return Err(Refusal::BadLine);
@@ -71,7 +71,7 @@ fn entry(alloc: Global, line: &[u8]) -> Result<Line, Refusal>
 fn entry_line(alloc: Global, line: &[u8]) -> Result<JournalLine, Refusal>
     ensures ok { IfOk result (λ l. or_bad (option_map (read_as EntryLine) (entry_in (words_of line.now))) ≡ Ok (journal_line_in l)) }
     ensures fault { IfErr result (λ e. e ≢ Refusal.OutOfMemory → or_bad (option_map (read_as EntryLine) (entry_in (words_of line.now))) ≡ Err e) }
-    ensures memory { IfErr result (λ e. e ≡ Refusal.OutOfMemory → line_reads_digits line.now ≡ true) }
+    ensures memory { IfErr result (λ e. e ≡ Refusal.OutOfMemory → entry_reads_digits line.now ≡ true) }
 {
     match entry(alloc, line) {
         Ok(line) => Ok(JournalLine::Entry(line)),
@@ -79,28 +79,33 @@ fn entry_line(alloc: Global, line: &[u8]) -> Result<JournalLine, Refusal>
     }
 }
 
-/// What a line of a journal, without its end, is, behind the first line and in this part of the journal.
+/// What a line of a journal, without its end, is, after the first line and in this section of the journal.
 ///
-/// Refused: `BadLine` where the line is outside the grammar of the part; then `BadHex` for the words of digits of an
+/// Refused: `BadLine` where the line is outside the grammar of the section; then `BadHex` for the words of digits of an
 /// insertion and of an added group, and for those of an added group, word by word, `JournalMismatch` where the digits
-/// are no telegram's. `OutOfMemory` may stand in place of any answer to these two, and of no other.
-pub fn read_journal_line(alloc: Global, part: Part, line: &[u8]) -> Result<JournalLine, Refusal>
-    ensures ok { IfOk result (λ l. journal_line_of part line.now ≡ Ok (journal_line_in l)) }
-    ensures fault { IfErr result (λ e. e ≢ Refusal.OutOfMemory → journal_line_of part line.now ≡ Err e) }
-    ensures memory { IfErr result (λ e. e ≡ Refusal.OutOfMemory → line_reads_digits line.now ≡ true) }
+/// are no telegram's. `OutOfMemory` may stand in place of any answer to these two, where the line is of the grammar, and
+/// of no other.
+pub fn read_journal_line(
+    alloc: Global,
+    section: Section,
+    line: &[u8],
+) -> Result<JournalLine, Refusal>
+    ensures ok { IfOk result (λ l. journal_line_of section line.now ≡ Ok (journal_line_in l)) }
+    ensures fault { IfErr result (λ e. e ≢ Refusal.OutOfMemory → journal_line_of section line.now ≡ Err e) }
+    ensures memory { IfErr result (λ e. e ≡ Refusal.OutOfMemory → line_reads_digits section line.now ≡ true) }
 {
     if line == b"edits".as_slice() {
         return Ok(JournalLine::Edits);
     }
-    match part {
-        Part::Entries(Version::One) => entry_line(alloc, line),
-        Part::Entries(Version::Two) => {
+    match section {
+        Section::Entries(Version::One) => entry_line(alloc, line),
+        Section::Entries(Version::Two) => {
             if let Some(serial) = undone(line) {
                 return Ok(JournalLine::Undone(serial));
             }
             entry_line(alloc, line)
         }
-        Part::Undone => {
+        Section::Undone => {
             if let Some(serial) = undone(line) {
                 return Ok(JournalLine::Undone(serial));
             }

@@ -13,9 +13,9 @@ mod commands;
 mod entries;
 mod head;
 mod journal_line;
-mod part;
 mod plan_line;
 mod request;
+mod section;
 
 // Lines that are printed.
 mod digits;
@@ -34,10 +34,10 @@ pub use digits::put_digits;
 pub use head::{Head, Version, read_head};
 pub use journal_line::{JournalLine, read_journal_line};
 pub use journal_text::{put_entry, put_head, put_undone};
-pub use part::Part;
 pub use plan_line::{PlanLine, read_plan_line};
 pub use printing::put_texts;
 pub use replies::{put_bad, put_fault, put_reply};
 pub use reply::Reply;
 pub use request::{Request, read_request};
 pub use reviews::put_review;
+pub use section::Section;

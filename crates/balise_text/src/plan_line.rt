@@ -10,7 +10,7 @@ pub enum PlanLine {
     FirstLine,
     /// `group`.
     GroupLine,
-    /// `edits`, behind which the commands stand.
+    /// `edits`: the commands come after it.
     EditsLine,
     /// Begins with `journal ` and its blank.
     JournalLine,

@@ -162,7 +162,7 @@ pub(crate) fn put_words<W: Write>(writer: &mut Counted<W>, words: &[Word]) -> Re
     Ok(())
 }
 
-/// Writes a line of a name and of words behind it, with its end.
+/// Writes a line of a name and of words after it, with its end.
 pub(crate) fn put_line<W: Write>(
     writer: &mut Counted<W>,
     name: &[u8],

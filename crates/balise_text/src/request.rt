@@ -73,7 +73,7 @@ fn plainly(request: Option<Request>) -> Result<Request, Refusal>
 ///
 /// Refused: `BadLine` where the line is outside the grammar; then for the words of digits of `insert` and `add`
 /// `BadHex`, and for those of `add` `BadLength` and `SpareBits`, word by word. `OutOfMemory` may stand in place of any
-/// answer to `insert` and `add`, and of no other.
+/// answer to an `insert` or an `add` of the grammar, and of no other.
 pub fn read_request(alloc: Global, line: &[u8]) -> Result<Request, Refusal>
     ensures ok { IfOk result (λ r. call_of line.now ≡ Ok (call r)) }
     ensures fault { IfErr result (λ e. e ≢ Refusal.OutOfMemory → call_of line.now ≡ Err e) }

@@ -1,6 +1,8 @@
 //! Lines of commands and of plans.
 
-use balise_text::{Command, Id, PlanLine, Refusal, Request, Var, read_plan_line, read_request};
+use balise_text::{
+    Bits, Command, Id, PlanLine, Refusal, Request, Var, read_plan_line, read_request,
+};
 use std::alloc::Global;
 use std::process::Abort;
 
@@ -191,10 +193,73 @@ const DIGITS: &[(&str, Refusal)] = &[
 ];
 
 #[test]
-fn digits_are_judged_behind_the_grammar(rt: HostRuntime) {
+fn digits_are_judged_after_the_grammar(rt: HostRuntime) {
     for (line, refusal) in DIGITS.iter() {
         check_refused(&rt, rt.alloc(), line.as_bytes(), *refusal);
     }
+}
+
+const TELEGRAM: &str = "a1007f80a0327fffffffffffffffffffffffffffffffffffffffc0";
+
+fn are_all(telegrams: &[Bits], telegram: &Bits) -> bool {
+    for bits in telegrams {
+        if bits != telegram {
+            return false;
+        }
+    }
+    true
+}
+
+/// Whether so many telegrams are added at place 2, each with these bits.
+fn is_add_of(answer: &Answer, telegram: &Bits, count: usize) -> bool {
+    match answer {
+        Ok(Request::Edit(Command::AddGroup { at: 2, telegrams })) => {
+            telegrams.len() == count && are_all(telegrams, telegram)
+        }
+        _ => false,
+    }
+}
+
+fn push(rt: &impl Abort, line: &mut String, text: &str) {
+    line.push_str(text).expect(rt, "memory");
+}
+
+fn push_telegrams(rt: &impl Abort, line: &mut String, count: usize) {
+    push(rt, line, "add 2");
+    for _ in 0..count {
+        push(rt, line, " ");
+        push(rt, line, TELEGRAM);
+    }
+}
+
+fn check_added(rt: &impl Abort, alloc: Global, telegram: &Bits, count: usize) {
+    let mut line = String::new(alloc);
+    push_telegrams(rt, &mut line, count);
+    assert!(rt; is_add_of(&read_request(alloc, line.as_bytes()), telegram, count));
+}
+
+/// A line has room for 74 telegrams. How many a group may have is no matter of its text.
+#[test]
+fn each_number_of_telegrams_is_read(rt: HostRuntime) {
+    let telegram = Bits::from_hex(rt.alloc(), TELEGRAM, 210).expect(&rt, "digits");
+    for count in 1..75 {
+        check_added(&rt, rt.alloc(), &telegram, count);
+    }
+}
+
+/// That nine telegrams and a word after them are refused so.
+fn check_tenth(rt: &impl Abort, alloc: Global, word: &str, refusal: Refusal) {
+    let mut line = String::new(alloc);
+    push_telegrams(rt, &mut line, 9);
+    push(rt, &mut line, word);
+    check_refused(rt, alloc, line.as_bytes(), refusal);
+}
+
+#[test]
+fn words_after_a_ninth_telegram(rt: HostRuntime) {
+    check_tenth(&rt, rt.alloc(), " zz", Refusal::BadHex);
+    check_tenth(&rt, rt.alloc(), " 00", Refusal::BadLength);
+    check_tenth(&rt, rt.alloc(), " ", Refusal::BadLine);
 }
 
 const PLAN_LINES: &[(&str, PlanLine)] = &[

@@ -1,8 +1,8 @@
 //! Lines of journals, read and printed again.
 
 use balise_text::{
-    Counted, Head, JournalLine, Part, Refusal, Version, put_entry, put_head, put_undone, read_head,
-    read_journal_line,
+    Counted, Head, JournalLine, Refusal, Section, Version, put_entry, put_head, put_undone,
+    read_head, read_journal_line,
 };
 use std::alloc::Global;
 use std::process::Abort;
@@ -23,9 +23,9 @@ fn check_text(rt: &impl Abort, writer: &Counted<Vec<u8>>, text: &[u8]) {
 }
 
 // The line is read, and printed as the other.
-fn check_printed(rt: &impl Abort, alloc: Global, part: Part, line: &str, printed: &str) {
+fn check_printed(rt: &impl Abort, alloc: Global, section: Section, line: &str, printed: &str) {
     let mut writer = Counted::new(Vec::new(alloc));
-    let read = read_journal_line(alloc, part, line.as_bytes()).expect(rt, "memory");
+    let read = read_journal_line(alloc, section, line.as_bytes()).expect(rt, "memory");
     put(rt, &mut writer, &read);
     check_text(rt, &writer, printed.as_bytes());
 }
@@ -59,7 +59,7 @@ fn each_kind_of_entry(rt: HostRuntime) {
         check_printed(
             &rt,
             rt.alloc(),
-            Part::Entries(Version::One),
+            Section::Entries(Version::One),
             *line,
             *printed,
         );
@@ -84,8 +84,8 @@ fn two_added(rt: &impl Abort, alloc: Global, end: &str) -> String {
 fn check_two(rt: &impl Abort, alloc: Global) {
     let line = two_added(rt, alloc, "");
     let printed = two_added(rt, alloc, "\n");
-    let part = Part::Entries(Version::Two);
-    check_printed(rt, alloc, part, line.as_str(), printed.as_str());
+    let section = Section::Entries(Version::Two);
+    check_printed(rt, alloc, section, line.as_str(), printed.as_str());
 }
 
 #[test]
@@ -96,10 +96,10 @@ fn a_group_of_two(rt: HostRuntime) {
 #[test]
 fn undone_edits(rt: HostRuntime) {
     let alloc = rt.alloc();
-    let (entries, last) = (Part::Entries(Version::Two), "undone 4294967295");
+    let (entries, last) = (Section::Entries(Version::Two), "undone 4294967295");
     check_printed(&rt, alloc, entries, "undone 3", "undone 3\n");
-    check_printed(&rt, alloc, Part::Undone, last, "undone 4294967295\n");
-    check_printed(&rt, alloc, Part::Undone, "edits", "")
+    check_printed(&rt, alloc, Section::Undone, last, "undone 4294967295\n");
+    check_printed(&rt, alloc, Section::Undone, "edits", "")
 }
 
 fn is_refused(answer: &Result<JournalLine, Refusal>, refusal: Refusal) -> bool {
@@ -109,8 +109,8 @@ fn is_refused(answer: &Result<JournalLine, Refusal>, refusal: Refusal) -> bool {
     }
 }
 
-fn check_refused(rt: &impl Abort, alloc: Global, part: Part, line: &str, refusal: Refusal) {
-    assert!(rt; is_refused(&read_journal_line(alloc, part, line.as_bytes()), refusal));
+fn check_refused(rt: &impl Abort, alloc: Global, section: Section, line: &str, refusal: Refusal) {
+    assert!(rt; is_refused(&read_journal_line(alloc, section, line.as_bytes()), refusal));
 }
 
 const BAD: &[&str] = &[
@@ -140,8 +140,8 @@ const BAD: &[&str] = &[
 #[test]
 fn lines_outside_the_grammar(rt: HostRuntime) {
     for line in BAD.iter() {
-        let part = Part::Entries(Version::One);
-        check_refused(&rt, rt.alloc(), part, *line, Refusal::BadLine);
+        let section = Section::Entries(Version::One);
+        check_refused(&rt, rt.alloc(), section, *line, Refusal::BadLine);
     }
 }
 
@@ -158,14 +158,14 @@ const DIGITS: &[(&str, Refusal)] = &[
 ];
 
 #[test]
-fn digits_are_judged_behind_the_grammar(rt: HostRuntime) {
+fn digits_are_judged_after_the_grammar(rt: HostRuntime) {
     for (line, refusal) in DIGITS.iter() {
-        let part = Part::Entries(Version::Two);
-        check_refused(&rt, rt.alloc(), part, *line, *refusal);
+        let section = Section::Entries(Version::Two);
+        check_refused(&rt, rt.alloc(), section, *line, *refusal);
     }
 }
 
-const BEHIND: &[&str] = &[
+const AFTER: &[&str] = &[
     "1 turn b0",
     "1 insert b0/0 ^ zz",
     "undone",
@@ -174,9 +174,9 @@ const BEHIND: &[&str] = &[
 ];
 
 #[test]
-fn behind_the_first_undone_edit(rt: HostRuntime) {
-    for line in BEHIND.iter() {
-        check_refused(&rt, rt.alloc(), Part::Undone, *line, Refusal::BadLine);
+fn after_the_first_undone_edit(rt: HostRuntime) {
+    for line in AFTER.iter() {
+        check_refused(&rt, rt.alloc(), Section::Undone, *line, Refusal::BadLine);
     }
 }
 

@@ -36,7 +36,7 @@ fn check_shown(rt: &impl Abort, shown: &str, line: &str) {
 }
 
 /// That the group of these telegrams is shown by this line.
-fn check_read(rt: &impl Abort, alloc: Global, text: &str, line: &str) {
+pub(crate) fn check_read(rt: &impl Abort, alloc: Global, text: &str, line: &str) {
     let group = read(rt, alloc, text);
     check_line(rt, alloc, &group, line);
 }

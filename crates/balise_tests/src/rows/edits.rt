@@ -3,7 +3,7 @@
 use crate::rows::{Row, check_rows};
 use balise_cli::{Flags, Status};
 
-const ROWS: [Row; 30] = [
+const ROWS: [Row; 33] = [
     Row {
         flags: Flags {
             quiet: false,
@@ -332,6 +332,39 @@ const ROWS: [Row; 30] = [
         },
         input: "plan 1\ngroup\na1007f80a0327fffffffffffffffffffffffffffffffffffffffc0\nedits\nundo\nredo\nstrike 9\nfrobnicate\n",
         output: "refused 23 NothingToUndo\nplan 1\ngroup\na1007f80a0327fffffffffffffffffffffffffffffffffffffffc0\n",
+        status: Status::SomeRefused,
+    },
+    Row {
+        flags: Flags {
+            quiet: false,
+            stop: false,
+            journal: false,
+            json: false,
+        },
+        input: "plan 1\ngroup\na1007f80a03250900f82ffffffffffffffffffffffffffffffffc0\nedits\nset 5.100 0 0 NID_TSR 0 9\n",
+        output: "ok 1\nplan 1\ngroup\na1007f80a03250900f84ffffffffffffffffffffffffffffffffc0\n",
+        status: Status::Accepted,
+    },
+    Row {
+        flags: Flags {
+            quiet: false,
+            stop: false,
+            journal: false,
+            json: false,
+        },
+        input: "plan 1\ngroup\na1007f80a03250900f82ffffffffffffffffffffffffffffffffc0\nedits\nset 5.100 0 0 NID_TSR 0 9\nundo\n",
+        output: "ok 1\nundone 1\nplan 1\ngroup\na1007f80a03250900f82ffffffffffffffffffffffffffffffffc0\n",
+        status: Status::Accepted,
+    },
+    Row {
+        flags: Flags {
+            quiet: false,
+            stop: false,
+            journal: false,
+            json: false,
+        },
+        input: "plan 1\ngroup\na1007f80a0327fffffffffffffffffffffffffffffffffffffffc0\nedits\nundo\nset 5.999 0 0 NID_TSR 0 9\nset 5.100 1 0 NID_TSR 0 9\nset 5.100 0 0 NID_TSR 0 9\nseth 5.100 0 N_PIG 0\nseth 5.100 0 M_DUP 4\nfrobnicate\nundo now\nseth 5.100 0 Q_LINK 0",
+        output: "refused 23 NothingToUndo\nrefused 14 NoSuchGroup\nrefused 15 NoSuchTelegram\nrefused 16 NoSuchPacket\nrefused 18 Steering\nrefused 19 ValueTooWide\nrefused 1 BadLine\nrefused 1 BadLine\nok 1\nplan 1\ngroup\na1007f80a0323fffffffffffffffffffffffffffffffffffffffc0\n",
         status: Status::SomeRefused,
     },
 ];

@@ -3,7 +3,7 @@
 use crate::rows::{Row, check_rows};
 use balise_cli::{Flags, Status};
 
-const ROWS: [Row; 16] = [
+const ROWS: [Row; 9] = [
     Row {
         flags: Flags {
             quiet: false,
@@ -33,7 +33,7 @@ const ROWS: [Row; 16] = [
             journal: false,
             json: false,
         },
-        input: "plan 1\ngroup\na1007f80a03250900f82ffffffffffffffffffffffffffffffffc0\njournal 1 2\n1 set b0/0/b0 NID_TSR 0 9 4\nedits\n",
+        input: "plan 1\ngroup\na1007f80a03250900f82ffffffffffffffffffffffffffffffffc0\njournal 1 2\n1 set b0/0/b0 NID_TSR 0 9 4\nedits\nundo\n",
         output: "bad 5 27 JournalMismatch\n",
         status: Status::BadInput,
     },
@@ -96,88 +96,11 @@ const ROWS: [Row; 16] = [
         flags: Flags {
             quiet: false,
             stop: false,
-            journal: false,
+            journal: true,
             json: false,
         },
         input: "plan 1\ngroup\na1007f80a03250900f82ffffffffffffffffffffffffffffffffc0\njournal 2 2\n1 set b0/0/b0 NID_TSR 0 9 5\nundone 7\nedits\n",
         output: "bad 6 27 JournalMismatch\n",
-        status: Status::BadInput,
-    },
-    Row {
-        flags: Flags {
-            quiet: false,
-            stop: false,
-            journal: false,
-            json: false,
-        },
-        input: "plan 1\ngroup\na1007f80a03250900f82ffffffffffffffffffffffffffffffffc0\njournal 1 3\n1 set b0/0/b0 NID_TSR 0 9 5\n1 set b0/0/b0 NID_TSR 0 7 9\nedits\n",
-        output: "bad 6 27 JournalMismatch\n",
-        status: Status::BadInput,
-    },
-    Row {
-        flags: Flags {
-            quiet: false,
-            stop: false,
-            journal: false,
-            json: false,
-        },
-        input: "plan 1\ngroup\na1007f80a03250900f82ffffffffffffffffffffffffffffffffc0\njournal 1 3\n3 set b0/0/b0 NID_TSR 0 9 5\nedits\n",
-        output: "bad 5 27 JournalMismatch\n",
-        status: Status::BadInput,
-    },
-    Row {
-        flags: Flags {
-            quiet: false,
-            stop: false,
-            journal: false,
-            json: false,
-        },
-        input: "plan 1\ngroup\na1007f80a03250900f82ffffffffffffffffffffffffffffffffc0\njournal 1 3\n1 set b0/0/n9 NID_TSR 0 9 5\nedits\n",
-        output: "bad 5 27 JournalMismatch\n",
-        status: Status::BadInput,
-    },
-    Row {
-        flags: Flags {
-            quiet: false,
-            stop: false,
-            journal: false,
-            json: false,
-        },
-        input: "plan 1\ngroup\na1007f80a03250900f82ffffffffffffffffffffffffffffffffc0\njournal 1 0\nedits\n",
-        output: "bad 4 27 JournalMismatch\n",
-        status: Status::BadInput,
-    },
-    Row {
-        flags: Flags {
-            quiet: false,
-            stop: false,
-            journal: false,
-            json: false,
-        },
-        input: "plan 1\ngroup\na1007f80a03250900f82ffffffffffffffffffffffffffffffffc0\njournal 1 4000000001\nedits\n",
-        output: "bad 4 27 JournalMismatch\n",
-        status: Status::BadInput,
-    },
-    Row {
-        flags: Flags {
-            quiet: false,
-            stop: false,
-            journal: false,
-            json: false,
-        },
-        input: "plan 1\ngroup\na1007f80a03250900f82ffffffffffffffffffffffffffffffffc0\njournal 1 3\n1 set b0/0/b0 SPEED 0 9 5\nedits\n",
-        output: "bad 5 1 BadLine\n",
-        status: Status::BadInput,
-    },
-    Row {
-        flags: Flags {
-            quiet: false,
-            stop: false,
-            journal: false,
-            json: false,
-        },
-        input: "plan 1\ngroup\na1007f80a03250900f82ffffffffffffffffffffffffffffffffc0\njournal 1 3\n1 insert b0/0 ^ 4z\nedits\n",
-        output: "bad 5 2 BadHex\n",
         status: Status::BadInput,
     },
 ];

@@ -1,0 +1,96 @@
+-- What a run wrote is still there once it is flushed.
+use Rattle.std.proofs.Common.{◌≡◌, ℕ, Bool, true, List, ◌++◌, OnOk, Option, Result, Ok, Err, is_ok, subst, sym, ◌∙◌}
+use Rattle.std.specs.Io.KnownBytes.{Keeps}
+use Rattle.std.proofs.KnownBytes.{Appends-kept}
+use Rattle.balise_lines.specs.Counts.{Counts}
+use Rattle.balise_lines.specs.Lines.{Line}
+use Rattle.balise_arguments.specs.declared.options.Flags.{Flags}
+use Rattle.balise_text.specs.Texts.{Text}
+use Rattle.balise_cli.specs.Ends.{DidLines, WritesOutput, WritesSome, WritesStanding}
+use Rattle.balise_cli.specs.Output.{Ending, Phase}
+use Rattle.balise_cli.specs.Program.{Runs, count_after}
+use Rattle.balise_cli.specs.declared.fault.RunFault.{RunFault}
+use Rattle.balise_cli.specs.declared.status.Status.{Status}
+
+standing_kept : (flags : Flags) (had old mid new : Option Text) (status : Status) → Keeps mid new → WritesStanding flags had old mid status → WritesStanding flags had old new status
+standing_kept flags had old mid new status k w = record {
+  input = w.input;
+  is_input = w.is_input;
+  out = w.out;
+  prints = w.prints;
+  appended = Appends-kept old mid new w.out w.appended k;
+}
+
+output_kept : (flags : Flags) (had old mid new : Option Text) (e : Ending) → Keeps mid new → WritesOutput flags had old mid e → WritesOutput flags had old new e
+output_kept flags had old mid new e k w = record {
+  input = w.input;
+  is_input = w.is_input;
+  out = w.out;
+  is_output = w.is_output;
+  appended = Appends-kept old mid new w.out w.appended k;
+}
+
+some_kept : (flags : Flags) (had has old mid new : Option Text) → Keeps mid new → WritesSome flags had has old mid → WritesSome flags had has old new
+some_kept flags had has old mid new k w = record {
+  read = w.read;
+  consumed = w.consumed;
+  out = w.out;
+  e = w.e;
+  is_output = w.is_output;
+  written = record {
+    done = w.written.done;
+    begins = w.written.begins;
+    appended = Appends-kept old mid new w.written.done w.written.appended k;
+  };
+}
+
+lines_kept : (flags : Flags) (had has old mid new : Option Text) (P : Phase → ℕ → List Line → Text → Type 0) → Keeps mid new → DidLines flags had has old mid P → DidLines flags had has old new P
+lines_kept flags had has old mid new P k w = record {
+  read = w.read;
+  consumed = w.consumed;
+  done = w.done;
+  behind = w.behind;
+  cut = w.cut;
+  out = w.out;
+  phase = w.phase;
+  steps = w.steps;
+  last = w.last;
+  ends = w.ends;
+  appended = Appends-kept old mid new (w.out ++ w.last) w.appended k;
+}
+
+pub runs_kept : (flags : Flags) (had has old mid new : Option Text) (ended : Result Status RunFault) → Keeps mid new → Runs flags had has old mid ended → Runs flags had has old new ended
+runs_kept flags had has old mid new (Ok status) k w = record {
+  held = standing_kept flags had old mid new status k w.held;
+  ok = output_kept flags had old mid new _ k w.ok;
+  read = lines_kept flags had has old mid new _ k w.read;
+  long = λ e. output_kept flags had old mid new _ k (w.long e);
+  memory = λ e. lines_kept flags had has old mid new _ k (w.memory e);
+  complete = λ e. lines_kept flags had has old mid new _ k (w.complete e);
+  some = tt;
+}
+runs_kept flags had has old mid new (Err fault) k w = record {
+  held = tt;
+  ok = tt;
+  read = tt;
+  long = λ e. output_kept flags had old mid new _ k (w.long e);
+  memory = λ e. lines_kept flags had has old mid new _ k (w.memory e);
+  complete = λ e. lines_kept flags had has old mid new _ k (w.complete e);
+  some = some_kept flags had has old mid new k w.some;
+}
+
+counted_at : {A E : Type 0} (old new : ℕ) (r : Result A E) → Counts old new r → new ≡ count_after (is_ok r) old
+counted_at old new (Ok a) w = w
+counted_at old new (Err x) w = w
+
+-- a flush that failed was counted
+pub flush_counted : {A E : Type 0} (old new : ℕ) (r : Result A E) (flushed : Bool) → flushed ≡ is_ok r → Counts old new r → new ≡ count_after flushed old
+flush_counted old new r flushed e w = subst (λ b. new ≡ count_after b old) (sym e) (counted_at old new r w)
+
+done_at : {A E P : Type 0} (r : Result A E) → OnOk r P → is_ok r ≡ true → P
+done_at (Ok a) p t = p
+done_at (Err x) p t = absurd cc
+
+-- what holds after a flush
+pub flush_done : {A E P : Type 0} (r : Result A E) (flushed : Bool) → flushed ≡ is_ok r → OnOk r P → flushed ≡ true → P
+flush_done r flushed e p t = done_at r p (sym e ∙ t)

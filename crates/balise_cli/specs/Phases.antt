@@ -1,0 +1,117 @@
+-- The phases as the code has them, and what one line or the end does in each.
+use Rattle.std.specs.Prelude.{◌≡◌, ℕ, Bool, true, false, [], ◌++◌, Option, Some, None, Result, Ok, Err}
+use Rattle.std.specs.Io.KnownBytes.{Appends}
+use Rattle.balise_rules.specs.declared.refusal.Refusal.{Refusal}
+use Rattle.balise_rules.specs.declared.refusal.Refusal.TheVariants.{JournalMismatch}
+use Rattle.balise_rules.specs.Opening.{opened_at}
+use Rattle.balise_rules.specs.Plan.{Plan}
+use Rattle.balise_rules.specs.Session.{opened}
+use Rattle.balise_lines.specs.Writing.{AppendsSome, IsPrefixOf}
+use Rattle.balise_arguments.specs.declared.options.Flags.{Flags}
+use Rattle.balise_text.specs.Texts.{Text}
+use Rattle.balise_text.specs.declared.head.Head.{Head}
+use Rattle.balise_text.specs.declared.section.Section.TheVariants.{Entries}
+use Rattle.balise_text.specs.declared.plan_line.PlanLine.{PlanLine}
+use Rattle.balise_text.specs.declared.plan_line.PlanLine.TheVariants.{FirstLine, TelegramLine}
+use Rattle.balise_cli.specs.Output.{Phase, Header, Between, InGroup, InJournal, Commands, Read, Good, Bad, Next, On, Over, IsStep, journal_begun}
+use Rattle.balise_cli.specs.PlanTexts.{end_text}
+use Rattle.balise_cli.specs.declared.commands.Commands as code
+use Rattle.balise_cli.specs.declared.fault.RunFault.{RunFault}
+use Rattle.balise_cli.specs.declared.fault.RunFault.TheVariants.{OutOfMemory}
+use Rattle.balise_cli.specs.declared.journal_reader.JournalEnd.{JournalEnd}
+use Rattle.balise_cli.specs.declared.journal_reader.JournalEnd.TheVariants as journal
+use Rattle.balise_cli.specs.declared.journal_reader.JournalReader.{JournalReader}
+use Rattle.balise_cli.specs.declared.plan_reader.Place.{Place}
+use Rattle.balise_cli.specs.declared.plan_reader.Place.TheVariants as place
+use Rattle.balise_cli.specs.declared.plan_reader.PlanEnd.{PlanEnd}
+use Rattle.balise_cli.specs.declared.plan_reader.PlanEnd.TheVariants as plan
+use Rattle.balise_cli.specs.declared.plan_reader.PlanReader.{PlanReader}
+use Rattle.balise_cli.specs.declared.status.Status.{Status}
+use Rattle.balise_cli.specs.declared.status.Status.TheVariants.{SomeRefused}
+
+-- The phases.
+
+abbrev pub phase_at : Place → Plan → Phase
+phase_at place.First p = Header
+phase_at place.Between p = Between p
+phase_at (place.InGroup g ys) p = InGroup p g ys
+
+abbrev pub plan_phase : PlanReader → Phase
+plan_phase r = phase_at r.place r.plan
+
+abbrev pub journal_phase : JournalReader → Phase
+journal_phase r = InJournal r.section r.opening.state
+
+abbrev pub commands_phase : code.Commands → Phase
+commands_phase c = Commands c.session.state c.refused
+
+-- The plan and the journal.
+
+-- in a group, whether the line is a telegram's
+abbrev pub is_telegram : PlanLine → Bool
+is_telegram FirstLine = true
+is_telegram TelegramLine = true
+is_telegram _ = false
+
+-- what a line of the plan is read as, where it goes on in this phase with this plan, or ends there
+abbrev pub plan_read_as : Phase → Plan → Option PlanEnd → Read
+plan_read_as now p None = Good now
+plan_read_as now p (Some (plan.Bad n r)) = Bad n r
+plan_read_as now p (Some plan.Edits) = Good (Commands (opened p) false)
+plan_read_as now p (Some (plan.Journal n head)) = journal_begun p n (Ok head)
+
+abbrev pub plan_read : PlanReader → Option PlanEnd → Read
+plan_read r end = plan_read_as (plan_phase r) r.plan end
+
+-- the same of a line of the journal
+abbrev pub journal_read : JournalReader → Option JournalEnd → Read
+journal_read r None = Good (journal_phase r)
+journal_read r (Some (journal.Bad n refusal)) = Bad n refusal
+journal_read r (Some journal.Edits) = Good (Commands r.opening.state false)
+
+-- a journal begins over a plan, or its next serial isn't one that a journal has
+abbrev pub Begins : Plan → Head → Result JournalReader Refusal → Type 0
+Begins p head (Ok r) = (opened_at p head.next ≡ Some r.opening.state) × (r.section ≡ Entries head.version)
+Begins p head (Err r) = (opened_at p head.next ≡ None) × (r ≡ JournalMismatch)
+
+-- The run is in a group.
+abbrev pub IsInGroup : Phase → Type 0
+IsInGroup (InGroup p g ys) = Unit {0}
+IsInGroup _ = ⊥
+
+-- memory ran out, in a group
+abbrev pub FailsInGroup : Phase → RunFault → Type 0
+FailsInGroup p e = (e ≡ OutOfMemory) × IsInGroup p
+
+-- What one line or the end does.
+
+abbrev pub last_text : Next → Text
+last_text (On p) = []
+last_text (Over text status) = text
+
+-- one line was done and what it gives was written: the run goes on in a phase, or is over with a status
+abbrev pub DidStep : Flags → Phase → ℕ → Text → Option Text → Option Text → Phase → Option Status → Type 0
+DidStep flags p n line old new q None = (out : Text) × (IsStep flags true p n line out (On q) × Appends old new out)
+DidStep flags p n line old new q (Some status) = (out : Text) × ((text : Text) × (IsStep flags true p n line out (Over text status) × Appends old new (out ++ text)))
+
+-- a beginning of what one line gives was written
+abbrev pub DidSome : Flags → Phase → ℕ → Text → Option Text → Option Text → Type 0
+DidSome flags p n line old new = (out : Text) × ((next : Next) × (IsStep flags true p n line out next × AppendsSome old new (out ++ last_text next)))
+
+-- What was written of a line that memory ran out in: of one in a group or in the journal nothing; of a command that stops the run its answer, and a beginning of the end. No other line ends a run so.
+abbrev pub WrittenOfLine : Flags → Phase → ℕ → Text → Text → Type 0
+WrittenOfLine flags (InGroup p g ys) n line last = last ≡ []
+WrittenOfLine flags (InJournal section s) n line last = last ≡ []
+WrittenOfLine flags (Commands s refused) n line last =
+    (now : Text) × ((text : Text) × ((begun : Text) × (IsStep flags true (Commands s refused) n line now (Over text SomeRefused) × IsPrefixOf begun text × (last ≡ now ++ begun))))
+WrittenOfLine flags _ n line last = ⊥
+
+-- what was written of the input's end, where memory ran out in it: in a group nothing; after the commands a beginning of the end
+abbrev pub WrittenOfEnd : Flags → Phase → Text → Type 0
+WrittenOfEnd flags (InGroup p g ys) last = last ≡ []
+WrittenOfEnd flags (Commands s refused) last = IsPrefixOf last (end_text flags s)
+WrittenOfEnd flags _ last = ⊥
+
+-- such a text was written
+abbrev pub WroteSuch : (Text → Type 0) → Option Text → Option Text → Type 0
+WroteSuch P old new = (last : Text) × (P last × Appends old new last)

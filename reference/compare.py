@@ -1,0 +1,180 @@
+#!/usr/bin/env python3
+"""Compares a program with the reference on random inputs.
+
+usage: compare.py PROGRAM FROM TO [--size small|medium] [-j PROCESSES] [--keep FOLDER]
+
+Status 0: the program printed the same for all seeds. 1: for some it differs, and each
+such input is kept, made shorter. 2: there is no such program.
+"""
+
+import argparse
+import importlib
+import multiprocessing
+import os
+import shlex
+import shutil
+import subprocess
+import sys
+from collections.abc import Iterable, Iterator
+from dataclasses import dataclass
+from io import BytesIO
+from pathlib import Path
+
+from baliseplan import answer
+from random_inputs import Input, make_input
+from random_plans import SIZES
+
+SECONDS = 120
+MOST_TRIALS = 600
+NO_STATUS = -1
+
+
+@dataclass(frozen=True)
+class Printed:
+    """Standard output and status of a run; -1 where it didn't end."""
+
+    output: bytes
+    status: int
+
+
+def program_words(program: str) -> list[str] | None:
+    """The words that start a program, or none if there is no such program."""
+    words = shlex.split(program)
+    found = shutil.which(words[0]) if words else None
+    scripts = [word for word in words[1:2] if word.endswith(".py")]
+    if found is None or not all(os.path.isfile(script) for script in scripts):
+        return None
+    return [found, *words[1:]]
+
+
+def by_program(words: list[str], given: Input) -> Printed:
+    try:
+        done = subprocess.run(
+            [*words, *given.arguments], input=given.text, capture_output=True, timeout=SECONDS
+        )
+    except (OSError, subprocess.TimeoutExpired):
+        return Printed(b"", NO_STATUS)
+    return Printed(done.stdout, done.returncode)
+
+
+def by_reference(given: Input) -> Printed:
+    """The reference's answer; its own error, if it has one, stands as output."""
+    try:
+        done = answer(list(given.arguments), BytesIO(given.text).read)
+    except Exception as error:  # an error here is a finding, not the end of the comparison
+        return Printed(repr(error).encode(), NO_STATUS)
+    return Printed(done.output, done.status)
+
+
+def differs(words: list[str], given: Input) -> bool:
+    return by_program(words, given) != by_reference(given)
+
+
+def shrunk(words: list[str], given: Input) -> Input:
+    """The input with fewer arguments and lines, as long as the answers differ."""
+    for argument in given.arguments:
+        fewer = tuple(word for word in given.arguments if word != argument)
+        if differs(words, Input(fewer, given.text)):
+            given = Input(fewer, given.text)
+    lines = given.text.splitlines(keepends=True)
+    size, trials = max(1, len(lines) // 2), 0
+    while size and trials < MOST_TRIALS:
+        place, dropped = 0, False
+        while place < len(lines) and trials < MOST_TRIALS:
+            trial = lines[:place] + lines[place + size :]
+            trials += 1
+            if differs(words, Input(given.arguments, b"".join(trial))):
+                lines, dropped = trial, True
+            else:
+                place += size
+        if not (dropped and size == 1):
+            size //= 2
+    return Input(given.arguments, b"".join(lines))
+
+
+@dataclass(frozen=True)
+class Task:
+    """One seed to compare."""
+
+    words: tuple[str, ...]
+    seed: int
+    size: str
+
+
+Compared = tuple[int, Input | None]
+
+
+def compare(task: Task) -> Compared:
+    """The input of a seed made shorter if the answers differ, else none."""
+    words = list(task.words)
+    given = make_input(task.seed, task.size)
+    return task.seed, shrunk(words, given) if differs(words, given) else None
+
+
+def keep(folder: Path, name: str, words: list[str], given: Input) -> Path:
+    """Writes an input and both answers under a name that is free."""
+    folder.mkdir(parents=True, exist_ok=True)
+    number = 1
+    while True:
+        path = folder / (f"{name}.in" if number == 1 else f"{name}-{number}.in")
+        try:
+            with path.open("xb") as file:
+                file.write(given.text)
+            break
+        except FileExistsError:
+            number += 1
+    path.with_suffix(".flags").write_text("".join(word + "\n" for word in given.arguments))
+    answers = {"program": by_program(words, given), "reference": by_reference(given)}
+    for suffix, printed in answers.items():
+        path.with_suffix(f".{suffix}").write_bytes(printed.output)
+        path.with_suffix(f".{suffix}_status").write_text(f"{printed.status}\n")
+    return path
+
+
+def counted(results: Iterable[Compared], total: int) -> Iterator[Compared]:
+    """The results, with a bar or a count on standard error."""
+    try:
+        bar = importlib.import_module("tqdm").tqdm
+    except ImportError:
+        for done, result in enumerate(results, 1):
+            if done % 50 == 0 or done == total:
+                sys.stderr.write(f"\r{done} of {total}")
+            yield result
+        sys.stderr.write("\n")
+    else:
+        yield from bar(results, total=total)
+
+
+def compare_all(words: list[str], asked: argparse.Namespace) -> list[Path]:
+    """Compares all seeds; the inputs that differ are kept."""
+    tasks = [Task(tuple(words), seed, asked.size) for seed in range(asked.first, asked.last + 1)]
+    kept = []
+    with multiprocessing.Pool(asked.processes) as pool:
+        for seed, given in counted(pool.imap_unordered(compare, tasks, chunksize=4), len(tasks)):
+            if given is not None:
+                kept.append(keep(Path(asked.keep), f"{asked.size}_{seed}", words, given))
+    return kept
+
+
+def main() -> int:
+    parser = argparse.ArgumentParser(description="Compares a program with the reference.")
+    parser.add_argument("program", metavar="PROGRAM", help="a program, perhaps with arguments")
+    parser.add_argument("first", metavar="FROM", type=int, help="the first seed")
+    parser.add_argument("last", metavar="TO", type=int, help="the last seed")
+    parser.add_argument("--size", choices=sorted(SIZES), default="small")
+    parser.add_argument("-j", dest="processes", type=int, default=os.cpu_count() or 1)
+    parser.add_argument("--keep", metavar="FOLDER", default="differences")
+    asked = parser.parse_args()
+    words = program_words(asked.program)
+    if words is None:
+        print(f"compare.py: there is no program {asked.program}", file=sys.stderr)
+        return 2
+    kept = compare_all(words, asked)
+    for path in kept:
+        print(f"differs: {path}")
+    print(f"{asked.last - asked.first + 1} inputs ({asked.size}), {len(kept)} differ")
+    return 1 if kept else 0
+
+
+if __name__ == "__main__":
+    sys.exit(main())

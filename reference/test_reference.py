@@ -1,0 +1,183 @@
+"""Tests of the reference: worked examples, and laws on random sessions.
+
+Run them here: python3 -m unittest
+"""
+
+import subprocess
+import sys
+import unittest
+from io import BytesIO
+from pathlib import Path
+
+import compare
+import pairs
+from baliseplan import Answer, answer
+from random_inputs import Input, make_input
+from refusals import Fault, Refused
+from run import GREATEST_NEXT, BadInput, Commands, Flags, Lines, Reading, journal_lines
+from session import Session
+
+HERE = Path(__file__).resolve().parent
+ROOT = HERE.parent
+REVOCATION = "plan 1\ngroup\na1007f80a03250900f82ffffffffffffffffffffffffffffffffc0\n"
+SEEDS = range(100)
+
+
+def answered(text: str | bytes, *arguments: str) -> Answer:
+    given = text.encode("latin-1") if isinstance(text, str) else text
+    return answer(list(arguments), BytesIO(given).read)
+
+
+def words_of_file(path: Path) -> list[str]:
+    return path.read_text().split() if path.exists() else []
+
+
+def done(given: Input) -> Session | None:
+    """The session that an input leaves, if its plan and journal are read."""
+    lines = Lines(BytesIO(given.text).read)
+    try:
+        session = Reading(lines).session()
+        commands = Commands(session, Flags(), [])
+        while (line := lines.next()) is not None:
+            commands.take(line)
+    except (BadInput, Fault):
+        return None
+    return session
+
+
+class WorkedExamples(unittest.TestCase):
+    def test_formats_page(self) -> None:
+        script = ROOT / "scripts" / "check" / "formats.py"
+        done = subprocess.run(
+            [sys.executable, str(script), str(HERE / "baliseplan.py")],
+            capture_output=True,
+            text=True,
+        )
+        self.assertEqual((done.returncode, done.stderr), (0, ""), done.stdout)
+
+    def test_examples(self) -> None:
+        plans = sorted((ROOT / "examples").glob("*.plan"))
+        self.assertTrue(plans)
+        for plan in plans:
+            with self.subTest(plan.stem):
+                given = answered(plan.read_bytes(), *words_of_file(plan.with_suffix(".flags")))
+                self.assertEqual(given.output, plan.with_suffix(".out").read_bytes())
+
+    def test_rows(self) -> None:
+        rows = sorted((ROOT / "checks" / "rows").glob("*.in"))
+        self.assertTrue(rows)
+        for row in rows:
+            with self.subTest(row.stem):
+                given = answered(row.read_bytes(), *words_of_file(row.with_suffix(".flags")))
+                self.assertEqual(given.output, row.with_suffix(".out").read_bytes())
+                self.assertEqual(given.status, int(row.with_suffix(".status").read_text()))
+
+
+class Arguments(unittest.TestCase):
+    def test_statuses(self) -> None:
+        for arguments, status in (
+            ("", 0),
+            ("--quiet --stop --journal --json", 0),
+            ("--quiet --", 0),
+            ("-- --quiet", 64),
+            ("--quiet --quiet", 64),
+            ("--version", 64),
+            ("-V", 64),
+            ("--help --loud", 0),
+            ("--loud --help", 64),
+            ("-", 64),
+        ):
+            with self.subTest(arguments):
+                given = answered(REVOCATION + "edits\n", *arguments.split())
+                self.assertEqual(given.status, status)
+
+
+class Lengths(unittest.TestCase):
+    def test_input_ends_at_its_limit(self) -> None:
+        start = REVOCATION + "edits\n"
+        whole = 67108864
+        # Each line of x is refused; only the last one reaches the limit.
+        lines, rest = divmod(whole - len(start) - 2, 4097)
+        text = start + ("x" * 4096 + "\n") * lines + "x" * (rest + 1)
+        self.assertEqual(len(text), whole - 1)
+        for end, status in (("", 1), ("x", 1), ("\n", 1), ("xx", 3), ("x\n", 3)):
+            with self.subTest(end):
+                self.assertEqual(answered(text + end).status, status)
+
+    def test_long_line_comes_before_the_group(self) -> None:
+        given = answered("plan 1\ngroup\n" + "x" * 4097)
+        self.assertEqual((given.output, given.status), (b"", 3))
+        self.assertEqual(given.error, "fault 29 InputTooLong\n")
+
+
+class Laws(unittest.TestCase):
+    """What has to hold of each session, tried on random ones."""
+
+    def sessions(self) -> list[Session]:
+        made = [done(make_input(seed, "small")) for seed in SEEDS]
+        return [session for session in made if session is not None]
+
+    def test_strike_and_redo(self) -> None:
+        struck = 0
+        for session in self.sessions():
+            plan, standing = session.plan(), list(session.standing)
+            for entry in standing:
+                try:
+                    session.strike(entry.serial)
+                except Refused:
+                    continue
+                session.plan()
+                session.redo()
+                struck += 1
+                self.assertEqual((session.plan(), session.standing), (plan, standing))
+        self.assertGreater(struck, 100)
+
+    def test_journal_is_read_back(self) -> None:
+        sessions = self.sessions()
+        readable = [each for each in sessions if each.next_serial <= GREATEST_NEXT]
+        self.assertGreater(len(readable), 50)
+        for session in readable:
+            lines = [*journal_lines(session), "edits"]
+            text = "".join(line + "\n" for line in lines).encode()
+            reading = Reading(Lines(BytesIO(text).read), session.first)
+            again = reading.journal(reading.line())
+            self.assertEqual(again, session)
+
+
+class Inputs(unittest.TestCase):
+    def test_seed_says_all(self) -> None:
+        for size in ("small", "medium"):
+            self.assertEqual(make_input(5, size), make_input(5, size))
+            self.assertNotEqual(make_input(5, size), make_input(6, size))
+
+    def test_most_commands_are_accepted(self) -> None:
+        given = [make_input(seed, "small") for seed in SEEDS]
+        replies = [answered(each.text, "--journal").output.decode() for each in given]
+        lines = [line for reply in replies for line in reply.splitlines()]
+        accepted = [line for line in lines if line.startswith(("ok ", "struck ", "redone "))]
+        refused = [line for line in lines if line.startswith("refused ")]
+        self.assertGreater(len(accepted), 2 * len(refused))
+
+    def test_pairs(self) -> None:
+        commands = pairs.commands()
+        self.assertEqual(len(commands), len(set(commands)))
+        text = "\n".join([*pairs.plan(), "edits", *commands[:1]])
+        self.assertEqual(answered(text).status, 0)
+
+
+class Comparing(unittest.TestCase):
+    def test_shorter_input_that_differs(self) -> None:
+        given = Input(("--quiet",), (REVOCATION + "edits\nundo\nredo\nundo\n").encode())
+        words = ["/bin/sh", "-c", "cat > /dev/null; printf 'plan 1\\n'"]
+        shorter = compare.shrunk(words, given)
+        self.assertTrue(compare.differs(words, shorter))
+        self.assertEqual(shorter.arguments, ())
+        self.assertLess(len(shorter.text), len(given.text))
+
+    def test_no_such_program(self) -> None:
+        self.assertIsNone(compare.program_words("/no/such/program"))
+        self.assertIsNone(compare.program_words(f"{sys.executable} no_such_program.py"))
+
+
+if __name__ == "__main__":
+    unittest.main()

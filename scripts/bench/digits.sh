@@ -1,7 +1,7 @@
 #!/usr/bin/env bash
 # Times the reading and printing of telegrams in digits beside Python's bytes.fromhex and hex, over the same text.
 set -eu
-cd "$(dirname "$0")/.."
+cd "$(dirname "$0")/../.."
 
 program=$PWD/crates/balise_bench/out/balise_bench
 mkdir -p crates/balise_bench/out
@@ -9,8 +9,8 @@ mkdir -p crates/balise_bench/out
 
 folder=$(mktemp -d)
 trap 'rm -r "$folder"' EXIT
-python3 bench/make_digits.py 210 1000000 > "$folder/1,000,000 of 210 bits"
-python3 bench/make_digits.py 830 200000 > "$folder/200,000 of 830 bits"
+python3 scripts/bench/make_digits.py 210 1000000 > "$folder/1,000,000 of 210 bits"
+python3 scripts/bench/make_digits.py 830 200000 > "$folder/200,000 of 830 bits"
 
 python='
 import sys

@@ -2,10 +2,10 @@
 # Times 1,000,000 commands, a header's field set and taken back in turn, over a plan of one telegram.
 # Another program that reads the same text may be named: it is timed in the same run.
 set -eu
-cd "$(dirname "$0")/.."
+other=${1:+$(realpath "$1")}
+cd "$(dirname "$0")/../.."
 
 program=$PWD/crates/baliseplan/out/baliseplan
-other=${1:-}
 mkdir -p crates/baliseplan/out
 (cd crates/baliseplan && rt run < stdin > out/run.stdout 2> out/run.log)
 

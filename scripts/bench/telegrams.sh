@@ -2,17 +2,17 @@
 # Times the holding of a whole plan: all its telegrams are read, held at once as their bits, and printed again.
 # Another program that reads and prints a plan may be named: it is timed in the same run.
 set -eu
-cd "$(dirname "$0")/.."
+other=${1:+$(realpath "$1")}
+cd "$(dirname "$0")/../.."
 
 program=$PWD/crates/balise_bench/out/balise_bench
-other=${1:-}
 mkdir -p crates/balise_bench/out
 (cd crates/balise_bench && rt run -- digits < stdin > out/digits.stdout 2> out/digits.log)
 
 folder=$(mktemp -d)
 trap 'rm -rf "$folder"' EXIT
 export LC_ALL=C
-python3 bench/make_plan.py 592568 > "$folder/input"
+python3 scripts/bench/make_plan.py 592568 > "$folder/input"
 telegrams='.{54}|.{208}'
 { grep -vxE "$telegrams" "$folder/input"; grep -xE "$telegrams" "$folder/input"; } > "$folder/sorted"
 grep -vx edits "$folder/input" > "$folder/plan"

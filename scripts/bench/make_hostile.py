@@ -37,7 +37,7 @@ def long_telegram(head, packets):
 
 
 def links(count):
-    """A packet 5 whose elements name the group 0.0. The first says the country, which goes for those behind it."""
+    """A packet 5 whose elements name the group 0.0. The first says the country, which holds for those after it."""
     def element(country):
         return field(500, 15) + country + field(0, 14) + "1" + "00" + field(12, 6)
 
@@ -46,7 +46,7 @@ def links(count):
 
 
 def one_plan(*groups):
-    """A plan of groups, each a list of telegrams, and the line behind it."""
+    """A plan of groups, each a list of telegrams, and the line after it."""
     yield "plan 1"
     for telegrams in groups:
         yield "group"
@@ -97,7 +97,7 @@ def telegrams_without_end(steps):
 
 
 def commands(*lines):
-    """A load that repeats lines behind a plan of one telegram."""
+    """A load that repeats lines after a plan of one telegram."""
     def load(steps):
         yield from one_plan([EMPTY])
         for _ in steps:
@@ -137,7 +137,7 @@ def strikes_of_a_million(steps):
 
 
 def strikes_of_a_million_elsewhere(steps):
-    """The same with settings in a hundred other groups behind the first."""
+    """The same with settings in a hundred other groups after the first."""
     yield from one_plan(*([group(n)] for n in range(101)))
     yield "seth 0.100 0 Q_LINK 0"
     for i in range(999_000):
@@ -185,7 +185,7 @@ def turns_of_one_named(steps):
 
 
 def added_by_journal(serials):
-    """A journal that adds a group behind the last for each serial."""
+    """A journal that adds a group after the last for each serial."""
     yield "plan 1"
     yield f"journal 2 {serials[-1] + 1}"
     last = "^"

@@ -1,9 +1,9 @@
 #!/usr/bin/env bash
-# Runs the program on small inputs, and compares exit status and standard error: bench/statuses.sh [PROGRAM]. Without a
-# program the one of crates/baliseplan is built.
+# Runs the program on small inputs, and compares exit status and standard error: scripts/check/statuses.sh [PROGRAM].
+# Without a program the one of crates/baliseplan is built.
 set -eu
 program=${1:+$(realpath "$1")}
-cd "$(dirname "$0")/.."
+cd "$(dirname "$0")/../.."
 
 if [ -z "$program" ]; then
     program=$PWD/crates/baliseplan/out/baliseplan
@@ -40,22 +40,22 @@ printf 'plan 1\nedits\nundo\n' | expect 1 ""
 printf 'plan 2\n' | expect 2 ""
 printf 'plan 1\nedits\n%05000d\n' 0 | expect 3 "fault 29 InputTooLong"
 
-# What standard input may be: closed, a folder, written alone, and empty without waiting.
+# What standard input may be: closed, a folder, open for writing alone, and non-blocking and empty.
 expect 3 "fault 31 ReadFault" <&-
 expect 3 "fault 31 ReadFault" < "$folder"
 expect 3 "fault 31 ReadFault" 0> "$folder/written"
 got=0
 sleep 2 | python3 -c 'import os, sys; os.set_blocking(0, False); os.execv(sys.argv[1], sys.argv[1:])' "$program" \
     > "$folder/out" 2> "$folder/err" || got=$?
-ended 3 "fault 31 ReadFault" "$got" "an input that isn't waited for"
+ended 3 "fault 31 ReadFault" "$got" "a non-blocking input that is empty"
 
-# What standard output may be: closed, read alone, full, and a pipe that nobody reads.
+# What standard output may be: closed, open for reading alone, full, and a pipe without a reader.
 got=0
 "$program" < "$stored" >&- 2> "$folder/err" || got=$?
 ended 3 "fault 32 WriteFault" "$got" "a closed output"
 got=0
 "$program" < "$stored" 1< "$stored" 2> "$folder/err" || got=$?
-ended 3 "fault 32 WriteFault" "$got" "an output that is read alone"
+ended 3 "fault 32 WriteFault" "$got" "an output that is open for reading alone"
 output=/dev/full expect 3 "fault 32 WriteFault" < "$stored"
 
 # A pipe that is closed at its other end.
@@ -68,7 +68,7 @@ os.close(reading)
 with open(stored, "rb") as source, open(error, "wb") as told:
     sys.exit(subprocess.run([program], stdin=source, stdout=writing, stderr=told).returncode)
 UNREAD
-ended 3 "fault 32 WriteFault" "$got" "a pipe that nobody reads"
+ended 3 "fault 32 WriteFault" "$got" "a pipe without a reader"
 
 # A file that may not grow: its signal ends the program, or where that is ignored the write fails.
 printf 'plan 1\nedits\n' > "$folder/long"
@@ -82,19 +82,19 @@ ended 3 "fault 32 WriteFault" "$got" "the same, its signal ignored"
 [ "$(stat -c %s "$folder/out")" = 1024 ] || failed=1
 
 # Memory that runs out while a plan is read.
-python3 bench/make_hostile.py groups 300000 > "$folder/long"
+python3 scripts/bench/make_hostile.py groups 300000 > "$folder/long"
 got=0
 (ulimit -v 60000; exec "$program" < "$folder/long" > "$folder/out" 2> "$folder/err") || got=$?
 ended 3 "fault 30 OutOfMemory" "$got" "memory that runs out"
 [ -s "$folder/out" ] && failed=1
 
-# Two faults at once: the one that ended the run is told.
+# Two faults at once: the one that ended the run is reported.
 printf 'plan 1\nedits\nundo\n%05000d\n' 0 > "$folder/long"
 output=/dev/full expect 3 "fault 29 InputTooLong" < "$folder/long"
 got=0
 "$program" < "$folder/long" > /dev/null 2>&- || got=$?
 : > "$folder/err"
-ended 3 "" "$got" "a fault that can't be told"
+ended 3 "" "$got" "a fault that can't be reported"
 
 # told STATUS STREAM TEXT: runs the program with the words that follow, and looks for the text on the one stream alone
 told() {

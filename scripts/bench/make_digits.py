@@ -1,4 +1,4 @@
-"""Prints telegrams in digits: COUNT lines of 210 or of 830 bits, pseudo-random, the bits behind the last zero."""
+"""Prints telegrams in digits: COUNT lines of 210 or of 830 bits, pseudo-random, the bits after the last one zero."""
 import random
 import sys
 

@@ -1,10 +1,10 @@
 #!/usr/bin/env python3
-"""Times one command of each kind at plans of four sizes and behind three lengths of history.
+"""Times one command of each kind at plans of four sizes and after three lengths of history.
 
 Usage: growth.py PROGRAM OTHER [PICTURE]
 
 Prints two tables, microseconds of processor time for each command as PROGRAM / OTHER, and draws both as an SVG picture.
-A time is that of a run with 200,000 commands (50,000 behind 950,000 edits, fewer of strikes that ask many) less that of
+A time is that of a run with 200,000 commands (50,000 after 950,000 edits, fewer of strikes that ask many) less that of
 the same input without them, the least of five runs each, all in turn: let nothing else run.
 """
 import os
@@ -58,8 +58,8 @@ def elsewhere(count, rng):
     return lines
 
 
-def behind_edits(kind, count, i):
-    """Commands behind `count` settings, each in another group, that leave as many standing."""
+def after_edits(kind, count, i):
+    """Commands after `count` settings, each in another group, that leave as many standing."""
     if kind == "undo and redo":
         return ["undo", "redo"]
     if kind == "set and undo":
@@ -69,7 +69,7 @@ def behind_edits(kind, count, i):
     return ["strike 1", "redo"]
 
 
-BEHIND = ("undo and redo", "set and undo", "strike the last but ten, and redo", "strike the first, and redo")
+AFTER = ("undo and redo", "set and undo", "strike the last but ten, and redo", "strike the first, and redo")
 
 
 def seconds(program, path):
@@ -122,13 +122,13 @@ def main(program, other, picture=None):
         before += ["edits", "seth 0.0 0 M_MCOUNT 1"]
         before += [f"seth {name(1 + i % 9999)} 0 M_MCOUNT {i % 250}" for i in range(count - 1)]
         pairs = min(PAIRS, (1_000_000 - count) // 2)
-        if kind == BEHIND[-1]:
+        if kind == AFTER[-1]:
             pairs = max(20, min(pairs, 2_000_000 // count))
-        return each((program, other), folder, before, [line for i in range(pairs) for line in behind_edits(kind, count, i)])
+        return each((program, other), folder, before, [line for i in range(pairs) for line in after_edits(kind, count, i)])
 
     tables = [
         ("groups in the plan", GROUPS, table("a command and its undo, at groups", GROUPS, ON_GROUPS, of_groups)),
-        ("standing edits", EDITS, table("a pair of commands, behind edits", EDITS, BEHIND, of_edits)),
+        ("standing edits", EDITS, table("a pair of commands, after edits", EDITS, AFTER, of_edits)),
     ]
     if picture:
         from growth_picture import draw

@@ -1,11 +1,12 @@
 #!/usr/bin/env bash
-# Counts the instructions that the program takes for a command, by callgrind: bench/instructions.sh [OTHER]. They are those
-# of a run with 20,000 commands, less those of a run with none. Another program that reads the same text may be named.
+# Counts the instructions that the program takes for a command, by callgrind: scripts/bench/instructions.sh [OTHER].
+# They are those of a run with 20,000 commands, less those of a run with none. Another program that reads the same text
+# may be named.
 set -eu
-cd "$(dirname "$0")/.."
+other=${1:+$(realpath "$1")}
+cd "$(dirname "$0")/../.."
 
 program=$PWD/crates/baliseplan/out/baliseplan
-other=${1:-}
 mkdir -p crates/baliseplan/out
 (cd crates/baliseplan && rt run < stdin > out/run.stdout 2> out/run.log)
 
@@ -14,7 +15,7 @@ trap 'rm -rf "$folder"' EXIT
 
 # instructions PROGRAM NAME COUNT
 instructions() {
-    python3 bench/make_load.py "$2" "$3" > "$folder/input"
+    python3 scripts/bench/make_load.py "$2" "$3" > "$folder/input"
     valgrind --tool=callgrind --callgrind-out-file=/dev/null "$1" < "$folder/input" 2>&1 > /dev/null | sed -n 's/.*Collected : //p'
 }
 

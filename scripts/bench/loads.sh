@@ -1,11 +1,11 @@
 #!/usr/bin/env bash
-# Times the program on one load after another: bench/loads.sh [OTHER]. Another program that reads the same text may be
-# named: it is timed in turn, and the outputs are compared. Processor time, the least of eight runs, and memory.
+# Times the program on one load after another: scripts/bench/loads.sh [OTHER]. Another program that reads the same text
+# may be named: it is timed in turn, and the outputs are compared. Processor time, the least of eight runs, and memory.
 set -eu
-cd "$(dirname "$0")/.."
+other=${1:+$(realpath "$1")}
+cd "$(dirname "$0")/../.."
 
 program=$PWD/crates/baliseplan/out/baliseplan
-other=${1:-}
 mkdir -p crates/baliseplan/out
 (cd crates/baliseplan && rt run < stdin > out/run.stdout 2> out/run.log)
 
@@ -16,7 +16,7 @@ trap 'rm -rf "$folder"' EXIT
 load() {
     local name=$1 count=$2
     shift 2
-    python3 bench/make_load.py "$name" "$count" > "$folder/input"
+    python3 scripts/bench/make_load.py "$name" "$count" > "$folder/input"
     python3 - "$folder" "$program" "$other" "$name $count $*" "$@" <<'MEASURE'
 import filecmp, os, subprocess, sys
 folder, program, other, title, *flags = sys.argv[1:]

@@ -5,7 +5,7 @@ Usage: fail_devices.py PROGRAM INPUT|FOLDER ..
 
 Reads give and writes take 1, 2 or 3 bytes, or as many as there are. A read that fails (also one that was only
 interrupted) has to end the run with status 3 and 'fault 31 ReadFault', with the replies to all lines that had come, and
-no read behind it. A write that fails has to end it with 'fault 32 WriteFault', what was written being a beginning of the
+no read after it. A write that fails has to end it with 'fault 32 WriteFault', what was written being a beginning of the
 output; one that was interrupted is tried again. Needs cc.
 """
 import errno
@@ -61,7 +61,7 @@ class Judge:
             for error in in_hand(READ_ERRORS, step, read):
                 told = {"read_step": step, "failed_read": read, "read_error": error}
                 done = self.runner.run(self.text, self.flags, **told)
-                is_right = (done.status, done.error) == READ_FAULT and done.report["reads_behind"] == 0
+                is_right = (done.status, done.error) == READ_FAULT and done.report["reads_after"] == 0
                 is_right = is_right and done.output == self.replies_to(done.report["taken"])
                 self.note("reads failed", is_right, done, told)
 

@@ -1,7 +1,7 @@
 #!/usr/bin/env bash
 # Times the reading, setting and writing of packets, a million of each kind.
 set -eu
-cd "$(dirname "$0")/.."
+cd "$(dirname "$0")/../.."
 
 program=$PWD/crates/balise_bench/out/balise_bench
 mkdir -p crates/balise_bench/out

@@ -4,17 +4,17 @@
 Usage: refuse_growths.py PROGRAM INPUT|FOLDER .. [--own-flags]
 
 Each input is run with each set of flags (with --own-flags: with its own alone). Which line was in hand at the growth is
-known, since the input is given byte by byte. A growth before the commands, or behind the last of them, has to end the
+known, since the input is given byte by byte. A growth before the commands, or after the last of them, has to end the
 run with status 3 and 'fault 30 OutOfMemory', with nothing written, or with all replies and a beginning of the rest. A
 growth within a command has to be answered 'refused 30 OutOfMemory' there, and all else has to be as if the command
-weren't in the input. Words of which there is no run may also be answered as with ample memory. Needs cc.
+weren't in the input. Words of which there is no run may also be answered as with enough memory. Needs cc.
 """
 import sys
 from collections import Counter
 
 from hostile_runs import EVERY_SET, in_turn, inputs_of, replies_of
 
-SEEN = ("arguments", "before the commands", "commands", "behind the commands")
+SEEN = ("arguments", "before the commands", "commands", "after the commands")
 FAULT = b"fault 30 OutOfMemory\n"
 REPLY = b"refused 30 OutOfMemory\n"
 
@@ -33,11 +33,11 @@ class Judge:
         self.answers = {}
 
     def without(self, line):
-        """The output that answers the command on a line with want of memory."""
+        """The output that answers the command on a line by 30 OutOfMemory."""
         if line not in self.answers:
-            before, behind = self.lines[:line], self.lines[line + 1 :]
+            before, after = self.lines[:line], self.lines[line + 1 :]
             cut = self.runner.run(b"".join(before), self.flags).output
-            rest = cut if "--stop" in self.flags else self.runner.run(b"".join(before + behind), self.flags).output
+            rest = cut if "--stop" in self.flags else self.runner.run(b"".join(before + after), self.flags).output
             at = len(replies_of(cut))
             rest = rest.splitlines(True)
             self.answers[line] = b"".join(rest[:at] + [REPLY] + rest[at:])
@@ -52,9 +52,9 @@ class Judge:
         if in_hand <= self.commands and not (at_end and self.has_commands):
             return "before the commands" if has_fault and done.output == b"" else None
         if has_fault:
-            is_behind = at_end or place == self.whole.report["taken"]
+            is_after = at_end or place == self.whole.report["taken"]
             is_beginning = self.whole.output.startswith(done.output) and done.output.startswith(self.replies)
-            return "behind the commands" if is_behind and is_beginning else None
+            return "after the commands" if is_after and is_beginning else None
         is_answered = done.status == 1 and done.error == b"" and done.output == self.without(in_hand - 1)
         return "commands" if is_answered else None
 

@@ -2,17 +2,17 @@
 # Times a whole plan: its groups are read, held with the indexes of identities and of names, and printed again.
 # Another program that reads and prints a plan may be named: it is timed in the same run.
 set -eu
-cd "$(dirname "$0")/.."
+other=${1:+$(realpath "$1")}
+cd "$(dirname "$0")/../.."
 
 program=$PWD/crates/balise_bench/out/balise_bench
-other=${1:-}
 mkdir -p crates/balise_bench/out
 (cd crates/balise_bench && rt run -- digits < stdin > out/digits.stdout 2> out/digits.log)
 
 folder=$(mktemp -d)
 trap 'rm -rf "$folder"' EXIT
 for groups in 592568 10000; do
-    python3 bench/make_plan.py "$groups" > "$folder/input"
+    python3 scripts/bench/make_plan.py "$groups" > "$folder/input"
     grep -vx edits "$folder/input" > "$folder/plan"
 
     # Of each program in turn the least processor time of five runs, and the most memory that it held.

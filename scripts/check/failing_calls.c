@@ -1,7 +1,7 @@
-// Loaded before the C library: growths of memory, reads of standard input and writes of standard output that are told to
-// fail, or to give and take little. What is told stands in the environment; at the end one line is written to the
-// descriptor REPORT, with the numbers of growths, reads and writes, and where the input stood at the growth that failed.
-// NO_GROWTH_FROM is a number of bytes: once so many were read, no growth is given.
+// Loaded before the C library. Lets chosen growths of memory, reads of standard input and writes of standard output
+// fail, or lets them give and take little. The environment says which. At the end it writes one line to the descriptor
+// REPORT: the numbers of growths, reads and writes, and where the input stood at the growth that failed.
+// NO_GROWTH_FROM is a number of bytes: once that many were read, no growth is given.
 #define _GNU_SOURCE
 #include <dlfcn.h>
 #include <errno.h>
@@ -12,8 +12,8 @@
 #include <unistd.h>
 
 static long growths, refused_growth, no_growth_from, place_of_refusal = -1, end_at_refusal;
-static long reads, failed_read, read_step, read_error, taken, at_end, reads_behind;
-static long writes, failed_write, write_step, write_error, writes_behind;
+static long reads, failed_read, read_step, read_error, taken, at_end, reads_after;
+static long writes, failed_write, write_step, write_error, writes_after;
 
 static long told(const char *name) {
     const char *text = getenv(name);
@@ -38,7 +38,7 @@ __attribute__((destructor)) static void report(void) {
     char line[200];
     int to = (int) told("REPORT");
     int size = snprintf(line, sizeof line, "%ld %ld %ld %ld %ld %ld %ld %ld %ld\n", growths, place_of_refusal,
-                        end_at_refusal, reads, taken, at_end, reads_behind, writes, writes_behind);
+                        end_at_refusal, reads, taken, at_end, reads_after, writes, writes_after);
     ssize_t (*next)(int, const void *, size_t) = (ssize_t (*)(int, const void *, size_t)) dlsym(RTLD_NEXT, "write");
     if (to > 0 && next(to, line, (size_t) size) < 0) return;
 }
@@ -75,7 +75,7 @@ ssize_t read(int from, void *bytes, size_t size) {
     if (!next) next = (ssize_t (*)(int, void *, size_t)) dlsym(RTLD_NEXT, "read");
     if (from != 0) return next(from, bytes, size);
     reads++;
-    if (failed_read && reads > failed_read) reads_behind++;
+    if (failed_read && reads > failed_read) reads_after++;
     if (reads == failed_read) {
         errno = (int) read_error;
         return -1;
@@ -92,7 +92,7 @@ ssize_t write(int to, const void *bytes, size_t size) {
     if (!next) next = (ssize_t (*)(int, const void *, size_t)) dlsym(RTLD_NEXT, "write");
     if (to != 1) return next(to, bytes, size);
     writes++;
-    if (failed_write && writes > failed_write) writes_behind++;
+    if (failed_write && writes > failed_write) writes_after++;
     if (writes == failed_write) {
         if (write_error == 0) return 0;
         errno = (int) write_error;

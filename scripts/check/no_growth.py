@@ -25,7 +25,7 @@ def main(program):
     done = Runner(program).run(before + text(BACK), (), read_step=1, no_growth_from=len(before) + 1)
     replies = done.output[: len(text(REPLIES))]
     is_right = replies == text(REPLIES)
-    print(f"no growth behind three edits: {len(BACK)} commands, {'all accepted' if is_right else 'WRONG: ' + repr(done)}")
+    print(f"no growth after three edits: {len(BACK)} commands, {'all accepted' if is_right else 'WRONG: ' + repr(done)}")
     return 0 if is_right else 1
 
 

@@ -1,4 +1,4 @@
-"""Inputs of a folder, and runs of a program over them in which calls fail that are told to."""
+"""Inputs of a folder, and runs of a program over them in which chosen calls fail."""
 import os
 import subprocess
 import tempfile
@@ -44,7 +44,7 @@ class Done(NamedTuple):
     report: dict
 
 
-COUNTS = ("growths", "place", "at_end", "reads", "taken", "ended", "reads_behind", "writes", "writes_behind")
+COUNTS = ("growths", "place", "at_end", "reads", "taken", "ended", "reads_after", "writes", "writes_after")
 
 
 class Runner:

@@ -41,7 +41,7 @@ def others():
 
 
 def telegram(width, pig, total, packets):
-    """The telegram as a number, the spare bits behind it with it, of country 0 and number 0."""
+    """The telegram as a number, with the spare bits after it, of country 0 and number 0."""
     head = fixed(1, 1) + fixed(33, 7) + fixed(0, 1) + fixed(pig, 3) + fixed(total - 1, 3) + fixed(0, 2)
     bits = head + some(8) + fixed(0, 24) + some(1) + packets + fixed(255, 8)
     return int(bits.ljust(width, "1"), 2) << -width % 8

@@ -1,0 +1,2 @@
+pub mod FlagBits
+pub mod Outcome

@@ -1,0 +1,75 @@
+//! A run over bytes in memory.
+
+ghost use Rattle.std.specs.Prelude.{◌≡◌, ◌≤◌, [], length, take, drop, IsErrOf};
+ghost use Rattle.balise_c.specs.Outcome.{HasSize, IsPrinted};
+
+use crate::copying::copy_front;
+use crate::output_text::OutputText;
+use balise_cli::{Counted, Flags, RunFault, Status, run};
+use std::alloc::Global;
+
+// Runs over all of the input, into a text that is empty.
+fn run_into(
+    alloc: Global,
+    input: &[u8],
+    flags: Flags,
+    writer: &mut Counted<OutputText>,
+) -> Result<Status, RunFault>
+    requires { writer.old.inner.bytes.items ≡ [] }
+    ensures { IsPrinted flags input.now writer.new.inner.bytes.items result }
+{
+    let mut reader = Counted::new(input);
+    run(alloc, &mut reader, writer, flags)
+}
+
+/// Runs, and copies what was printed to the front of the output. What doesn't fit is the fault of the writer.
+pub(crate) fn fill(
+    alloc: Global,
+    input: &[u8],
+    flags: Flags,
+    output: &mut [u8],
+    written: &mut usize,
+) -> Result<Status, RunFault>
+    ensures within { written.new ≤ length output.old }
+    ensures kept { drop written.new output.new ≡ drop written.new output.old }
+    ensures text { IsPrinted flags input.now (take written.new output.new) result }
+    ensures full { IsErrOf result RunFault.WriteFault → written.new ≡ length output.old }
+{
+    *written = 0;
+    let Ok(text) = OutputText::with_room(alloc, output.len()) else {
+        return Err(RunFault::OutOfMemory);
+    };
+    let mut writer = Counted::new(text);
+    let ended = run_into(alloc, input, flags, &mut writer);
+    let text = writer.inner().bytes();
+    let count = copy_front(text, output);
+    *written = count;
+    // No contract says how much room the writer has after the run, so this is looked at again.
+    if count < text.len() {
+        return Err(RunFault::WriteFault);
+    }
+    match ended {
+        // There was room left, so the write ran out of memory.
+        Err(RunFault::WriteFault) if count < output.len() => Err(RunFault::OutOfMemory),
+        ended => ended,
+    }
+}
+
+/// Runs, and counts what was printed. Here a write fails only where memory runs out.
+#[tactic(auto, using(crate::proofs::Texts::sized))]
+pub(crate) fn measure(
+    alloc: Global,
+    input: &[u8],
+    flags: Flags,
+    size: &mut usize,
+) -> Result<Status, RunFault>
+    ensures { HasSize flags input.now size.new result }
+{
+    let mut writer = Counted::new(OutputText::growing(alloc));
+    let ended = run_into(alloc, input, flags, &mut writer);
+    *size = writer.inner().bytes().len();
+    match ended {
+        Err(RunFault::WriteFault) => Err(RunFault::OutOfMemory),
+        ended => ended,
+    }
+}

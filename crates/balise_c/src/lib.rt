@@ -1,0 +1,73 @@
+//! The program as calls over memory, for C and all that can call C.
+#![tactic(auto)]
+
+ghost use Rattle.std.specs.Prelude.{◌≡◌, ◌<◌, ◌≤◌, pos};
+ghost use Rattle.balise_c.specs.FlagBits.{flags_of};
+ghost use Rattle.balise_c.specs.Outcome.{Fills, Measures};
+
+// From the parameters of a call to a run.
+mod flag_bits;
+mod output_text;
+
+// From a run to the answer of a call.
+mod answer;
+mod call;
+mod copying;
+#[cfg(test)]
+mod tests;
+
+use crate::answer::number_of;
+use crate::call::{fill, measure};
+use crate::flag_bits::{FIRST_UNKNOWN, flags_of};
+use std::alloc::Global;
+
+/// The answer where a bit is set that is no flag.
+const USAGE: i32 = 64;
+
+/// The number that `BALISEPLAN_ABI` of the header has to have.
+const ABI: u32 = 1;
+
+/// Which parameters and answers the calls have, so that a caller can compare it with its header.
+#[unsafe(no_mangle)]
+pub extern "C" fn baliseplan_abi() -> u32
+    ensures { result ≡ 1 }
+{
+    ABI
+}
+
+/// Does what the program does, from memory to memory. Answers the exit status 0, 1 or 2, or a fault's number 29 to 32;
+/// then only a beginning of an output may be written. 32: the output is too small.
+///
+/// Flags are a sum of 1 quiet, 2 stop, 4 journal and 8 JSON. With any other bit it answers 64 and writes nothing.
+#[unsafe(no_mangle)]
+pub extern "C" fn baliseplan_run(
+    alloc: Global,
+    input: &[u8],
+    flags: u32,
+    output: &mut [u8],
+    written: &mut usize,
+) -> i32
+    ensures known { flags < 16 → Fills (flags_of flags) input.now output.old output.new written.new result }
+    ensures other { 16 ≤ flags → (result ≡ pos 64) × (written.new ≡ 0) × (output.new ≡ output.old) }
+{
+    if flags >= FIRST_UNKNOWN {
+        *written = 0;
+        return USAGE;
+    }
+    number_of(fill(alloc, input, flags_of(flags), output, written))
+}
+
+/// Counts what `baliseplan_run` would write with enough room, and answers as that would. Never 32.
+///
+/// It is a whole run, whose output it keeps in memory until it returns.
+#[unsafe(no_mangle)]
+pub extern "C" fn baliseplan_size(alloc: Global, input: &[u8], flags: u32, size: &mut usize) -> i32
+    ensures known { flags < 16 → Measures (flags_of flags) input.now size.new result }
+    ensures other { 16 ≤ flags → (result ≡ pos 64) × (size.new ≡ 0) }
+{
+    if flags >= FIRST_UNKNOWN {
+        *size = 0;
+        return USAGE;
+    }
+    number_of(measure(alloc, input, flags_of(flags), size))
+}

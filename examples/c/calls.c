@@ -1,0 +1,78 @@
+/* Calls the library as a caller may get it wrong or go to its limits, and checks each answer: nothing to run, no room,
+ * too little room, unknown flags, bytes that must stay, and the same call again and again.
+ *
+ * usage: calls [COUNT]: with COUNT that many calls, for a tool that looks for leaks
+ */
+#include <stdio.h>
+#include <stdlib.h>
+#include <string.h>
+
+#include "baliseplan.h"
+
+static const char PLAN[] = "plan 1\n"
+                           "group\n"
+                           "a1007f80a03250900f82ffffffffffffffffffffffffffffffffc0\n"
+                           "edits\n"
+                           "set 5.100 0 0 NID_TSR 0 9\n"
+                           "set 5.100 0 0 NID_TSR 0 256\n";
+static const char OUTPUT[] = "ok 1\n"
+                             "refused 19 ValueTooWide\n"
+                             "plan 1\n"
+                             "group\n"
+                             "a1007f80a03250900f84ffffffffffffffffffffffffffffffffc0\n";
+enum { ROOM = 256, FILL = 0xA5 };
+
+static int failed;
+
+/* Compares a call with what is due: its answer, its bytes, and that those after them stayed. */
+static void expect(const char *what, const char *input, uint32_t flags, size_t room, int32_t due, const char *text,
+                   size_t len)
+{
+    uint8_t output[ROOM];
+    size_t written = 99, i;
+    memset(output, FILL, sizeof output);
+    int32_t answer = baliseplan_run((const uint8_t *)input, input ? strlen(input) : 0, flags, room ? output : NULL,
+                                    room, &written);
+    for (i = written; i < ROOM && output[i] == FILL; i++) {
+    }
+    if (answer == due && written == len && i == ROOM && !memcmp(output, text, len))
+        return;
+    printf("%s: answered %d and wrote %zu bytes\n", what, (int)answer, written);
+    failed = 1;
+}
+
+static void expect_size(const char *what, const char *input, uint32_t flags, int32_t due, size_t len)
+{
+    size_t size = 99;
+    int32_t answer = baliseplan_size((const uint8_t *)input, input ? strlen(input) : 0, flags, &size);
+    if (answer == due && size == len)
+        return;
+    printf("the size of %s: answered %d and %zu bytes\n", what, (int)answer, size);
+    failed = 1;
+}
+
+int main(int argc, char **argv)
+{
+    size_t whole = strlen(OUTPUT);
+    for (size_t room = 0; room < whole; room++)
+        expect("a small output", PLAN, 0, room, BALISEPLAN_OUTPUT_FULL, OUTPUT, room);
+    expect("an output that just fits", PLAN, 0, whole, BALISEPLAN_SOME_REFUSED, OUTPUT, whole);
+    expect("a whole run", PLAN, 0, ROOM, BALISEPLAN_SOME_REFUSED, OUTPUT, whole);
+    expect("no reply to what was accepted", PLAN, BALISEPLAN_QUIET, ROOM, BALISEPLAN_SOME_REFUSED, OUTPUT + 5,
+           whole - 5);
+    expect("no input", NULL, 0, ROOM, BALISEPLAN_BAD_INPUT, "bad 1 1 BadLine\n", 16);
+    expect("no input and no room", NULL, 0, 0, BALISEPLAN_OUTPUT_FULL, "", 0);
+    for (int bit = 4; bit < 32; bit++)
+        expect("an unknown flag", PLAN, 1u << bit | BALISEPLAN_FLAGS, ROOM, BALISEPLAN_USAGE, "", 0);
+    expect_size("a whole run", PLAN, 0, BALISEPLAN_SOME_REFUSED, whole);
+    expect_size("no input", NULL, 0, BALISEPLAN_BAD_INPUT, 16);
+    expect_size("an unknown flag", PLAN, 16, BALISEPLAN_USAGE, 0);
+    for (long count = argc > 1 ? atol(argv[1]) : 0; count > 0; count--) {
+        size_t room = (size_t)count % ROOM;
+        int32_t due = room < whole ? BALISEPLAN_OUTPUT_FULL : BALISEPLAN_SOME_REFUSED;
+        expect("the same call again", PLAN, 0, room, due, OUTPUT, room < whole ? room : whole);
+    }
+    if (!failed)
+        puts("all calls answered what is due");
+    return failed;
+}

@@ -1,0 +1,136 @@
+//! Edits ETCS balise plans in this process, by the proved library that `make library` builds.
+//!
+//! ```
+//! use baliseplan::{run, Flags, Status};
+//!
+//! let input = b"plan 1\ngroup\na1007f80a03250900f82ffffffffffffffffffffffffffffffffc0\nedits\nundo\n";
+//! let run = run(input, Flags::QUIET)?;
+//! assert_eq!(run.status, Status::SomeRefused);
+//! assert!(run.output.starts_with(b"refused 23 NothingToUndo\nplan 1\n"));
+//! # Ok::<(), baliseplan::Fault>(())
+//! ```
+
+mod raw;
+
+use std::error::Error;
+use std::fmt;
+use std::ops::BitOr;
+
+/// What else a run prints or leaves out. Flags are combined by `|`.
+#[derive(Clone, Copy, Debug, Default, PartialEq, Eq)]
+pub struct Flags(u32);
+
+impl Flags {
+    /// Leave out the replies to accepted commands.
+    pub const QUIET: Flags = Flags(1);
+    /// Do no command after the first refused one.
+    pub const STOP: Flags = Flags(2);
+    /// Print the journal after the plan.
+    pub const JOURNAL: Flags = Flags(4);
+    /// Print a line of JSON for each group after that.
+    pub const JSON: Flags = Flags(8);
+}
+
+impl BitOr for Flags {
+    type Output = Flags;
+
+    fn bitor(self, other: Flags) -> Flags {
+        Flags(self.0 | other.0)
+    }
+}
+
+/// How a run ended that came to its end.
+#[derive(Clone, Copy, Debug, PartialEq, Eq)]
+pub enum Status {
+    Accepted,
+    SomeRefused,
+    /// The plan or the journal was refused: the output is one line that says where and why.
+    BadInput,
+}
+
+/// Why a run didn't come to its end.
+#[derive(Clone, Copy, Debug, PartialEq, Eq)]
+pub enum Fault {
+    InputTooLong,
+    OutOfMemory,
+    ReadFault,
+    /// The output is too small. Only `run_into` has this.
+    WriteFault,
+}
+
+impl Fault {
+    /// The number that the program prints before the name.
+    pub fn number(self) -> u8 {
+        match self {
+            Fault::InputTooLong => 29,
+            Fault::OutOfMemory => 30,
+            Fault::ReadFault => 31,
+            Fault::WriteFault => 32,
+        }
+    }
+}
+
+impl fmt::Display for Fault {
+    fn fmt(&self, f: &mut fmt::Formatter<'_>) -> fmt::Result {
+        f.write_str(match self {
+            Fault::InputTooLong => {
+                "a line has more than 4,096 bytes, or the input more than 67,108,864"
+            }
+            Fault::OutOfMemory => "out of memory",
+            Fault::ReadFault => "the input can't be read",
+            Fault::WriteFault => "the output is too small",
+        })
+    }
+}
+
+impl Error for Fault {}
+
+/// A run that came to its end, with all that it printed.
+#[derive(Clone, Debug, PartialEq, Eq)]
+pub struct Run {
+    pub status: Status,
+    pub output: Vec<u8>,
+}
+
+/// Runs over an input: a plan, perhaps its journal, and commands.
+pub fn run(input: &[u8], flags: Flags) -> Result<Run, Fault> {
+    let mut output = vec![0; 2 * input.len() + 65536];
+    let mut ended = run_into(input, flags, &mut output);
+    if ended.0 == Err(Fault::WriteFault) {
+        let (sized, size) = output_size(input, flags);
+        sized?;
+        output.resize(size, 0);
+        ended = run_into(input, flags, &mut output);
+    }
+    output.truncate(ended.1);
+    Ok(Run {
+        status: ended.0?,
+        output,
+    })
+}
+
+/// Runs, and writes to the front of the output. Also returns the number of bytes written, which after a fault are a
+/// beginning of a right output.
+pub fn run_into(input: &[u8], flags: Flags, output: &mut [u8]) -> (Result<Status, Fault>, usize) {
+    let (answer, written) = raw::run(input, flags.0, output);
+    (ended(answer), written)
+}
+
+/// How many bytes a run prints, and how it ends. It is a whole run.
+pub fn output_size(input: &[u8], flags: Flags) -> (Result<Status, Fault>, usize) {
+    let (answer, size) = raw::size(input, flags.0);
+    (ended(answer), size)
+}
+
+fn ended(answer: i32) -> Result<Status, Fault> {
+    match answer {
+        0 => Ok(Status::Accepted),
+        1 => Ok(Status::SomeRefused),
+        2 => Ok(Status::BadInput),
+        29 => Err(Fault::InputTooLong),
+        30 => Err(Fault::OutOfMemory),
+        31 => Err(Fault::ReadFault),
+        32 => Err(Fault::WriteFault),
+        other => unreachable!("flags are known, so no call answers {other}"),
+    }
+}

@@ -1,0 +1,96 @@
+#!/usr/bin/env python3
+"""Compares callers of the library with a program: status and output, byte by byte.
+
+usage: library_runs.py COUNT PROGRAM CALLER ..
+
+The module of examples/python is a caller too. Inputs are the examples and the rows of checks/ and balise_tests with
+each set of flags, and COUNT of them damaged in up to three places, by random numbers from a fixed seed, with one set of
+flags each.
+Ends with 0, or with 1 if something differs.
+"""
+
+import ast
+import random
+import re
+import subprocess
+import sys
+from pathlib import Path
+
+ROOT = Path(__file__).resolve().parents[2]
+WORDS = ("--quiet", "--stop", "--journal", "--json")
+BYTES = b"\n\r\0\t 019afFgz^./-$\x7f\x80\xff"
+FAULT = 3
+
+sys.path.insert(0, str(ROOT / "examples" / "python"))
+import baliseplan  # noqa: E402
+
+
+def words_of(flags):
+    return [word for bit, word in enumerate(WORDS) if flags >> bit & 1]
+
+
+def by_program(program, data, flags):
+    done = subprocess.run([program, *words_of(flags)], input=data, capture_output=True, timeout=120)
+    return done.returncode, done.stdout
+
+
+def by_module(data, flags):
+    """The whole output, and 3 for a fault, after which only the answer of the call has the output."""
+    size = 4 * len(data) + 65536
+    answer, output = baliseplan.call(data, flags, size)
+    return (FAULT if answer in baliseplan.FAULTS else answer), output
+
+
+def damaged(data):
+    """The text with bytes lost, put in, changed, or lines doubled, in up to three places."""
+    for _ in range(random.randint(1, 3)):
+        at = random.randrange(len(data) + 1)
+        kind = random.randrange(4)
+        if kind == 3:
+            lines = data.splitlines(keepends=True)
+            at = random.randrange(len(lines) + 1)
+            data = b"".join(lines[:at] + lines[max(at - 1, 0) :])
+        else:
+            put = b"" if kind == 0 else bytes([random.choice(BYTES)])
+            data = data[:at] + put + data[at + (kind != 1) :]
+    return data
+
+
+def rows():
+    """The inputs of the rows, which are literals without any escape that Python hasn't."""
+    for file in sorted((ROOT / "crates" / "balise_tests" / "src" / "rows").glob("*.rt")):
+        for literal in re.findall(r'input: ("(?:[^"\\]|\\.)*")', file.read_text()):
+            yield ast.literal_eval(literal).encode("latin-1")
+
+
+def inputs(count):
+    texts = [plan.read_bytes() for plan in sorted((ROOT / "examples").glob("*.plan"))]
+    texts += [(ROOT / "examples" / "line.base").read_bytes() + b"edits\nturn 5.300\nstrike 1\n"]
+    texts += [file.read_bytes() for file in sorted((ROOT / "checks" / "rows").glob("*.in"))]
+    texts += [b"", texts[0] + b"x" * 4097, *rows()]
+    yield from ((text, flags) for text in texts for flags in range(16))
+    for _ in range(count):
+        yield damaged(random.choice(texts)), random.randrange(16)
+
+
+def main(words):
+    random.seed(1)
+    count, program, callers = int(words[0]), words[1], words[2:]
+    done = differing = 0
+    for data, flags in inputs(count):
+        due = by_program(program, data, flags)
+        got = {"examples/python": by_module(data, flags)}
+        for caller in callers:
+            got[caller] = by_program(caller, data, flags)
+        done += 1
+        for caller, found in got.items():
+            # After a fault a caller may throw away what it has.
+            if found != due and not (found[0] == due[0] == FAULT and due[1].startswith(found[1])):
+                differing += 1
+                print(f"{caller} {' '.join(words_of(flags))}: {found[0]} and not {due[0]}, for {data!r}")
+    print(f"{done} inputs, {differing} differing")
+    return 1 if differing else 0
+
+
+if __name__ == "__main__":
+    sys.exit(main(sys.argv[1:]))

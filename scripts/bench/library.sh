@@ -1,0 +1,41 @@
+#!/usr/bin/env bash
+# Times a call of the library beside starting the program: scripts/bench/library.sh PROGRAM LIBRARY. LIBRARY is what
+# `make library` makes, out/libbaliseplan.a. Ten groups with ten commands, and a plan of 64 MiB; processor time, the
+# least of five rounds, in microseconds.
+set -eu
+if [ $# != 2 ] || [ ! -x "$1" ] || [ ! -f "$2" ]; then
+    echo "usage: scripts/bench/library.sh PROGRAM LIBRARY (make library makes out/libbaliseplan.a)" >&2
+    exit 2
+fi
+program=$(realpath "$1")
+library=$(realpath "$2")
+cd "$(dirname "$0")"
+
+folder=$(mktemp -d)
+trap 'rm -rf "$folder"' EXIT
+cc -O2 -I../../include -o "$folder/calls" library_calls.c "$library"
+
+# started FILE COUNT: microseconds for one start of the program
+started() {
+    python3 - "$program" "$1" "$2" <<'MEASURE'
+import os, subprocess, sys
+program, path, count = sys.argv[1], sys.argv[2], int(sys.argv[3])
+least = 1e9
+for _ in range(5):
+    before = os.times()
+    for _ in range(count):
+        with open(path, "rb") as text:
+            subprocess.run([program], stdin=text, stdout=subprocess.DEVNULL)
+    after = os.times()
+    took = after.children_user + after.children_system - before.children_user - before.children_system
+    least = min(least, took / count)
+print(f"{least * 1e6:.1f}")
+MEASURE
+}
+
+python3 make_load.py plan 10 | sed '/^edits$/,$d' > "$folder/small"
+first=$(python3 make_load.py commands 1 | sed -n '/^edits$/{n;p;}')
+{ cat "$folder/small"; echo edits; for _ in 1 2 3 4 5 6 7 8 9 10; do echo "$first"; done; } > "$folder/ten"
+python3 make_load.py plan 590000 > "$folder/large"
+echo "ten groups and ten commands: a call $("$folder/calls" "$folder/ten" 2000), a start $(started "$folder/ten" 200)"
+echo "a plan of 590,000 groups: a call $("$folder/calls" "$folder/large" 1), a start $(started "$folder/large" 1)"

@@ -1,10 +1,11 @@
 """The nine edits: what each makes of a plan, and what it notes."""
 
+from collections.abc import Callable
 from dataclasses import dataclass, replace
 
 from packets import NO_GROUP, STEERING, WIDTHS, Packet, read_packet_in_bytes
-from plans import MOST_TELEGRAMS, BaliseGroup, Identity, Plan, identities, is_named
-from plans import make_group, named_by, with_new_group
+from plans import MOST_TELEGRAMS, BaliseGroup, Identity, Plan, identities, make_group
+from plans import named_by, with_new_group
 from refusals import Refusal, Refused
 from telegrams import FREE_IN_HEADER, TaggedPacket, Telegram, anchor_at, place_after, place_of
 from telegrams import read_telegram, tag_at
@@ -109,6 +110,21 @@ def _in_telegram(edit: Edit, telegram: Telegram, country: int, tag: str) -> tupl
     return telegram.with_packets(place, place + 1, TaggedPacket(edit.packet, changed)), note
 
 
+def _where_named(
+    plan: Plan, identity: Identity, variable: str, change: Callable[[int], int]
+) -> Plan:
+    """The plan with a variable changed in each element that names an identity (3.4)."""
+
+    def changed(packet: Packet, country: int) -> Packet:
+        for element, name in enumerate(named_by(packet, country)):
+            at = packet.place(variable, element)
+            if name == identity and at is not None:
+                packet = packet.with_value(at, change(packet.fields[at][1]))
+        return packet
+
+    return plan.each_packet(changed)
+
+
 def _renumber(edit: Edit, plan: Plan, place: int) -> tuple[Plan, Note]:
     """A new NID_BG in the headers of a group and wherever it is named (3.4)."""
     group = plan.groups[place]
@@ -117,19 +133,12 @@ def _renumber(edit: Edit, plan: Plan, place: int) -> tuple[Plan, Note]:
     _check_width("NID_BG", edit.value)
     if edit.value == NO_GROUP:
         raise Refused(Refusal.NumberReserved)
-    if plan.has(new) or is_named(plan, new):
+    if plan.has(new) or new in plan.names():
         raise Refused(Refusal.NumberTaken)
-
-    def renamed(packet: Packet, country: int) -> Packet:
-        for element, name in enumerate(named_by(packet, country)):
-            at = packet.place("NID_BG", element)
-            if name == old and at is not None:
-                packet = packet.with_value(at, edit.value)
-        return packet
-
     telegrams = tuple(telegram.with_header(NID_BG=edit.value) for telegram in group.telegrams)
     plan = plan.with_groups(place, place + 1, replace(group, telegrams=telegrams))
-    return plan.each_packet(renamed), Note(old=old[1], own=(old, new))
+    plan = _where_named(plan, old, "NID_BG", lambda _: edit.value)
+    return plan, Note(old=old[1], own=(old, new))
 
 
 def _other_direction(packet: Packet, _: int) -> Packet:
@@ -150,23 +159,9 @@ def _turned(group: BaliseGroup) -> BaliseGroup:
 def _turn(plan: Plan, place: int) -> tuple[Plan, Note]:
     """A group turned, and the other Q_LINKORIENTATION in each link to it (3.4)."""
     turned = plan.groups[place].identity
-
-    def other_orientation(packet: Packet, country: int) -> Packet:
-        for element, name in enumerate(named_by(packet, country)):
-            at = packet.place("Q_LINKORIENTATION", element)
-            if name == turned and at is not None:
-                packet = packet.with_value(at, 1 - packet.fields[at][1])
-        return packet
-
     plan = plan.with_groups(place, place + 1, _turned(plan.groups[place]))
-    return plan.each_packet(other_orientation), Note(own=(turned,))
-
-
-def _group_names(group: BaliseGroup) -> tuple[Identity, ...]:
-    packets = Plan((group,)).packets()
-    return tuple(
-        name for _, _, _, packet in packets for name in identities(packet, group.identity[0])
-    )
+    plan = _where_named(plan, turned, "Q_LINKORIENTATION", lambda value: 1 - value)
+    return plan, Note(own=(turned,))
 
 
 def _add(edit: Edit, plan: Plan, tag: str) -> tuple[Plan, Note]:
@@ -175,7 +170,7 @@ def _add(edit: Edit, plan: Plan, tag: str) -> tuple[Plan, Note]:
         raise Refused(Refusal.GroupSize)
     telegrams = tuple(read_telegram(bits, pig) for pig, bits in enumerate(edit.bits))
     group = make_group(tag, telegrams)
-    note = Note(own=(group.identity,), names=_group_names(group))
+    note = Note(own=(group.identity,), names=Plan((group,)).names())
     return with_new_group(plan, place, group), note
 
 
@@ -192,7 +187,7 @@ def do(plan: Plan, serial: int, edit: Edit) -> tuple[Plan, Note]:
         return _turn(plan, place)
     if edit.kind == "drop":
         own, before = (group.identity,), tag_at(plan.groups, place + 1)
-        note = Note(before=before, own=own, names=_group_names(group))
+        note = Note(before=before, own=own, names=Plan((group,)).names())
         return plan.with_groups(place, place + 1), note
     pig = group.telegram_place(edit.telegram)
     telegram, note = _in_telegram(edit, group.telegrams[pig], group.identity[0], tag)

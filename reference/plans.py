@@ -79,6 +79,14 @@ class Plan:
                 for place, item in enumerate(telegram.packets):
                     yield group, pig, place, item.packet
 
+    def names(self) -> tuple[Identity, ...]:
+        """The identities that links and infill location references name (3.4)."""
+        return tuple(
+            name
+            for group, _, _, packet in self.packets()
+            for name in identities(packet, group.identity[0])
+        )
+
 
 def named_by(packet: Packet, country: int) -> list[Identity]:
     """What the elements of packet 5 or 136 name, with the NID_C in force at each (3.4).
@@ -97,14 +105,6 @@ def named_by(packet: Packet, country: int) -> list[Identity]:
 def identities(packet: Packet, country: int) -> list[Identity]:
     """The identities that a packet names; 16383 names nothing."""
     return [name for name in named_by(packet, country) if name[1] != NO_GROUP]
-
-
-def is_named(plan: Plan, identity: Identity) -> bool:
-    """Whether a link or an infill location reference names an identity (3.4)."""
-    return any(
-        identity in identities(packet, group.identity[0])
-        for group, _, _, packet in plan.packets()
-    )
 
 
 def make_group(tag: str, telegrams: tuple[Telegram, ...]) -> BaliseGroup:

@@ -75,26 +75,27 @@ class Reading:
     def line(self) -> str:
         line = self.lines.next()
         if line is None:
-            raise self._bad(Refused(Refusal.BadLine))
+            raise Refused(Refusal.BadLine)
         return line
-
-    def _bad(self, refused: Refused, line: int | None = None) -> BadInput:
-        return BadInput(line or self.lines.number, refused)
 
     def session(self) -> Session:
         """The session that stands before the first command."""
+        try:
+            return self._session()
+        except Refused as refused:
+            raise BadInput(self.lines.number, refused) from None
+
+    def _session(self) -> Session:
         if self.line() != "plan 1":
-            raise self._bad(Refused(Refusal.BadLine))
+            raise Refused(Refusal.BadLine)
         line: str | None = self.line()
         while line == "group":
             line = self._group()
-        if line is None:
-            raise self._bad(Refused(Refusal.BadLine))
         if line == "edits":
             return Session(self.plan)
-        if line.startswith("journal "):
-            return self.journal(line)
-        raise self._bad(Refused(Refusal.BadLine))
+        if line is None or not line.startswith("journal "):
+            raise Refused(Refusal.BadLine)
+        return self.journal(line)
 
     def _group(self) -> str | None:
         """Reads a group; the line that ends it, or none at the end."""
@@ -102,36 +103,30 @@ class Reading:
         telegrams: list[Telegram] = []
         line = self.lines.next()
         while line and line not in ("group", "edits") and not line.startswith("journal "):
-            try:
-                if len(telegrams) == MOST_TELEGRAMS:
-                    raise Refused(Refusal.GroupSize)
-                telegrams.append(read_telegram(telegram_bits(line), len(telegrams)))
-            except Refused as refused:
-                raise self._bad(refused) from None
+            if len(telegrams) == MOST_TELEGRAMS:
+                raise Refused(Refusal.GroupSize)
+            telegrams.append(read_telegram(telegram_bits(line), len(telegrams)))
             line = self.lines.next()
         try:
             group = make_group(f"b{len(self.plan.groups)}", tuple(telegrams))
             self.plan = with_new_group(self.plan, len(self.plan.groups), group)
         except Refused as refused:
-            raise self._bad(refused, start) from None
+            raise BadInput(start, refused) from None
         return line
 
     def journal(self, first: str) -> Session:
         """The session of a journal; its entries are done and its `undone` struck."""
-        try:
-            version, session = self._opened(first)
-            last, entries_only = 0, True
-            while (line := self.line()) != "edits":
-                words = words_of(line)
-                if words[0] == "undone" and version == "2":
-                    entries_only = False
-                    self._undone(session, words)
-                elif entries_only:
-                    last = self._entry(session, line, last)
-                else:
-                    raise Refused(Refusal.BadLine)
-        except Refused as refused:
-            raise self._bad(refused) from None
+        version, session = self._opened(first)
+        last, entries_only = 0, True
+        while (line := self.line()) != "edits":
+            words = words_of(line)
+            if words[0] == "undone" and version == "2":
+                entries_only = False
+                self._undone(session, words)
+            elif entries_only:
+                last = self._entry(session, line, last)
+            else:
+                raise Refused(Refusal.BadLine)
         return session
 
     def _opened(self, line: str) -> tuple[str, Session]:
@@ -154,7 +149,7 @@ class Reading:
             if refused.refusal in (Refusal.BadLine, Refusal.BadHex):
                 raise
             raise Refused(Refusal.JournalMismatch) from None
-        if (note.old, note.before) != (entry.old, entry.before):
+        if (note.old, note.before) != (entry.note.old, entry.note.before):
             raise Refused(Refusal.JournalMismatch)
         return entry.serial
 

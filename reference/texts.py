@@ -4,7 +4,7 @@ import re
 from dataclasses import dataclass, field, replace
 from typing import Any
 
-from edits import Edit
+from edits import Edit, Note
 from packets import WIDTHS
 from plans import Plan
 from refusals import Refusal, Refused
@@ -171,25 +171,18 @@ def edit_of(plan: Plan, asked: Words) -> Edit:
     return replace(edit, after=anchor_at(rest, at))
 
 
-@dataclass(frozen=True)
-class JournalEntry:
-    """An entry as its line has it, with the value that it has to note."""
+def journal_entry(line: str) -> Entry:
+    """The entry that a line is, or 1 for its grammar, and then 2, 3 or 4.
 
-    serial: int
-    edit: Edit
-    old: int | None
-    before: str | None
-
-
-def journal_entry(line: str) -> JournalEntry:
-    """The entry that a line is, or 1 for its grammar, and then 2, 3 or 4."""
+    A line has no identities, so its note has none.
+    """
     words = words_of(line)
     if len(words) < 2 or words[1] not in ENTRIES:
         raise Refused(Refusal.BadLine)
     serial = number(words[0])
     read = _read_words(words[1], ENTRIES[words[1]], words[2:])
-    old, before = read.values.pop("old", None), read.values.pop("before", None)
-    return JournalEntry(serial, Edit(read.kind, bits=read.bits, **read.values), old, before)
+    note = Note(read.values.pop("old", None), read.values.pop("before", None))
+    return Entry(serial, Edit(read.kind, bits=read.bits, **read.values), note)
 
 
 def entry_line(entry: Entry) -> str:

@@ -1,36 +1,30 @@
 #!/usr/bin/env python3
-"""Runs the program on inputs that are damaged in one place, and compares each run with another program's.
+"""Runs the program on inputs that are damaged in one place, and compares each run with the reference.
 
-Usage: damage_inputs.py PROGRAM OTHER INPUT|FOLDER ..
+Usage: damage_inputs.py PROGRAM INPUT|FOLDER ..
 
 Each input is cut after each byte, loses each byte in turn, and has each byte changed to each of some twenty others.
-OTHER is a program that reads the same text, or a Python file with a function `run_all(text)` that answers status,
-output and standard error, as bytes, which is called in place. No run may end by a signal.
+Status, output and standard error have to be those of reference/, which is called in place. No run may end by a signal.
+Needs cc.
 """
-import importlib.util
-import subprocess
 import sys
 from collections import Counter
+from io import BytesIO
+from pathlib import Path
 
 from hostile_runs import in_turn, inputs_of
+
+sys.path.append(str(Path(__file__).resolve().parents[2] / "reference"))
+from baliseplan import answer  # noqa: E402 (the folder has to be on the path first)
 
 BYTES = b"\n\r\0\t 019afFgzbn./^$-,\x7f\x80\xff"
 STATUSES = (0, 1, 2, 3)
 
 
-def load(path):
-    """Runs the other program over a text: status, output and error."""
-    if not path.endswith(".py"):
-        def run(text):
-            done = subprocess.run([path], input=text, capture_output=True)
-            return done.returncode, done.stdout, done.stderr
-
-        return run
-    spec = importlib.util.spec_from_file_location("other", path)
-    module = importlib.util.module_from_spec(spec)
-    sys.modules["other"] = module
-    spec.loader.exec_module(module)
-    return module.run_all
+def by_reference(text):
+    """Status, output and standard error of the reference."""
+    done = answer([], BytesIO(text).read)
+    return done.status, done.output, done.error.encode()
 
 
 def damaged(text):
@@ -43,28 +37,23 @@ def damaged(text):
                 yield "a byte changed", text[:at] + bytes([byte]) + text[at + 1 :]
 
 
-others = {}
-
-
-def judge_part(runner, other, name, part, parts, text):
+def judge_part(runner, name, part, parts, text):
     """How many damaged texts of a part there were, by what was done and the status, and what is wrong."""
-    if other not in others:
-        others[other] = load(other)
     seen, wrong = Counter(), []
     for number, (what, bad) in enumerate(damaged(text)):
         if number % parts != part:
             continue
-        done, due = runner.run(bad, ()), others[other](bad)
+        done, due = runner.run(bad, ()), by_reference(bad)
         seen[what] += 1
         seen[f"status {done.status}"] += 1
-        if done[:3] != tuple(due) or done.status not in STATUSES:
+        if done[:3] != due or done.status not in STATUSES:
             wrong.append(f"{name}, {what}: {bad!r}: {done[:3]}, due {due}")
     return seen, wrong
 
 
-def main(program, other, *paths):
+def main(program, *paths):
     inputs = inputs_of(paths)
-    units = [(other, item.name, part, 8, item.text) for item in inputs for part in range(8)]
+    units = [(item.name, part, 8, item.text) for item in inputs for part in range(8)]
     seen, wrong = Counter(), 0
     for some, faults in in_turn(program, judge_part, units):
         seen += some

@@ -24,6 +24,7 @@ trap 'rm -rf "$folder"' EXIT
 mkdir "$folder/bin" "$folder/run"
 ln -s "$program" "$folder/bin/baliseplan"
 export PATH=$folder/bin:$PATH LC_ALL=C PYTHONDONTWRITEBYTECODE=1 examples=$root/examples
+unset BALISEPLAN
 failed=0
 
 # same DUE GOT: shows what differs

@@ -24,7 +24,7 @@ def inputs_of(paths):
     for path in map(Path, paths):
         files = sorted(path.iterdir()) if path.is_dir() else [path]
         for file in files:
-            if path.is_dir() and file.suffix not in ("", ".plan"):
+            if path.is_dir() and file.suffix not in ("", ".plan", ".in"):
                 continue
             flags = ()
             for beside in (file.with_name(file.name + ".args"), file.with_suffix(".flags")):
@@ -87,9 +87,9 @@ def begin(program):
     runner = Runner(program)
 
 
-def in_turn(program, judge, units, processes=2):
-    """What `judge(runner, *unit)` answers for each unit, by processes with a runner each."""
-    with Pool(processes, begin, (program,)) as pool:
+def in_turn(program, judge, units):
+    """What `judge(runner, *unit)` answers for each unit. Each processor that may be used has a runner of its own."""
+    with Pool(len(os.sched_getaffinity(0)), begin, (program,)) as pool:
         yield from pool.imap_unordered(judged, [(judge, unit) for unit in units], chunksize=4)
 
 

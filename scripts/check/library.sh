@@ -1,7 +1,8 @@
 #!/usr/bin/env bash
 # Builds the library and its callers in C, Python and Rust, runs their tests, and compares what they print with a program.
 # usage: scripts/check/library.sh PROGRAM [COUNT]
-# The examples are compared with each of the 16 sets of flags, and COUNT damaged ones (2,000) with one set each.
+# The examples and rows are compared with each of the 16 sets of flags, COUNT damaged ones (2,000) with one set each, and
+# COUNT random inputs with their own.
 # Ends with 0; with 1 if something differs or a test fails, which it shows; with 2 if PROGRAM or a tool is missing, or
 # something doesn't build.
 set -eu

@@ -4,8 +4,8 @@
 usage: library_runs.py COUNT PROGRAM CALLER ..
 
 The module of examples/python is a caller too. Inputs are the examples and the rows of checks/ and balise_tests with
-each set of flags, and COUNT of them damaged in up to three places, by random numbers from a fixed seed, with one set of
-flags each.
+each set of flags; COUNT of them damaged in up to three places, by random numbers from a fixed seed, with one set of
+flags each; and COUNT random inputs of reference/random_inputs.py with their own flags.
 Ends with 0, or with 1 if something differs.
 """
 
@@ -21,8 +21,11 @@ WORDS = ("--quiet", "--stop", "--journal", "--json")
 BYTES = b"\n\r\0\t 019afFgz^./-$\x7f\x80\xff"
 FAULT = 3
 
+# The second program has a module baliseplan too, so its folder comes last.
 sys.path.insert(0, str(ROOT / "examples" / "python"))
+sys.path.append(str(ROOT / "reference"))
 import baliseplan  # noqa: E402
+from random_inputs import make_input  # noqa: E402
 
 
 def words_of(flags):
@@ -71,6 +74,9 @@ def inputs(count):
     yield from ((text, flags) for text in texts for flags in range(16))
     for _ in range(count):
         yield damaged(random.choice(texts)), random.randrange(16)
+    for seed in range(1, count + 1):
+        made = make_input(seed, "small")
+        yield made.text, sum(1 << bit for bit, word in enumerate(WORDS) if word in made.arguments)
 
 
 def main(words):

@@ -24,7 +24,7 @@ def inputs_of(paths):
     for path in map(Path, paths):
         files = sorted(path.iterdir()) if path.is_dir() else [path]
         for file in files:
-            if path.is_dir() and file.suffix not in ("", ".plan", ".in"):
+            if path.is_dir() and (not file.is_file() or file.suffix not in ("", ".plan", ".in")):
                 continue
             flags = ()
             for beside in (file.with_name(file.name + ".args"), file.with_suffix(".flags")):

@@ -159,8 +159,8 @@ static BY_PLACE: [Var; 68] = [
     Var::QLinkorientation,
 ];
 
-// The variable that alone may have this name: by its length, first and last byte it has a place of its own in a table,
-// with factors that were found by trial.
+// The only variable that can have this name. By its length, first and last byte each name has its own place in a table.
+// Factors and table were found by scripts/tables/variables.py.
 fn candidate(name: &[u8]) -> Option<Var>
     ensures { (var : Var) → name_of var ≡ name.now → result ≡ Some var }
 {

@@ -1,4 +1,4 @@
--- Bits put over those of a store, whose bytes were lent for it.
+-- Bits put over those of a store, through a borrow of its bytes.
 use Rattle.std.proofs.Common.{◌≡◌, ℕ, ◌+◌, ◌*◌, ◌≤◌, Bool, List, length, take, drop, sym, ap, ◌∙◌, arith}
 use Rattle.std.proofs.lemmas.List.{take_at}
 use Rattle.balise_rules.specs.Bits.{put_at}
@@ -8,7 +8,7 @@ use Rattle.balise_bits.proofs.Flat.{length-flat}
 use Rattle.balise_bits.proofs.Putting.{length-put_at}
 use Rattle.balise_bits.proofs.Packing.{length-view, packed_put, view-put}
 
--- the bits of a value are as many as count
+-- the length of a value is the number of bits that count
 pub len_held : (store : Stored) (b : List Bool) → IsPacked store.len store.items → take store.len (flat store.items) ≡ b → store.len ≡ length b
 len_held store b p view = sym (length-view store.len store.items p) ∙ ap length view
 

@@ -1,5 +1,6 @@
 pub mod Pieces
 pub mod Putting
+pub mod Moved
 pub mod Flat
 pub mod Windows
 pub mod Packing

@@ -33,7 +33,7 @@ bits-all_ones w h =
     let small = all_ones_fit w h in
     same_bits w (255 / 2 ^ (8 - w)) (ones w) (length-replicate w true) (mod-eq_of_lt small ∙ all_ones w h)
 
--- more ones behind those that were put
+-- more ones after those that were put
 put_at-ones_more : (at done w : ℕ) (b : List Bool) → at + done + w ≤ length b → put_at (at + done) (ones w) (put_at at (ones done) b) ≡ put_at at (ones (done + w)) b
 put_at-ones_more at done w b h =
     let ld : length (ones done) ≡ done = length-replicate done true in
@@ -41,7 +41,7 @@ put_at-ones_more at done w b h =
     ∙ put_at-put_at at (ones done) (ones w) b (omega (arith, ld, length-replicate w true))
     ∙ ap (λ (l : List Bool). put_at at l b) (replicate-append-replicate done w true)
 
--- three pieces of ones, one behind the other
+-- three pieces of ones, one after another
 pub put_at-ones : (at n m k : ℕ) (b : List Bool) → at + (n + m + k) ≤ length b → put_at (at + (n + m)) (ones k) (put_at (at + n) (ones m) (put_at at (ones n) b)) ≡ put_at at (ones (n + m + k)) b
 put_at-ones at n m k b h =
     ap (put_at (at + (n + m)) (ones k)) (put_at-ones_more at n m b (omega (arith, h))) ∙ put_at-ones_more at (n + m) k b (omega (arith, h))

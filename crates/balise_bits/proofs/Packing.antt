@@ -20,7 +20,7 @@ length-view len bytes p = omega (arith, p.whole, length-take len (flat bytes), l
 pub flat-view : (len : ℕ) (bytes : List ℕ) → IsPacked len bytes → flat bytes ≡ take len (flat bytes) ++ zeros (fill len)
 flat-view len bytes p = sym (take-append-drop len (flat bytes)) ∙ ap (λ (x : List Bool). take len (flat bytes) ++ x) p.spare
 
--- bytes that hold a list and zeros behind it
+-- bytes that hold a list and zeros after it
 pub packed_by : (len : ℕ) (bytes : List ℕ) (b : List Bool) → length b ≡ len → flat bytes ≡ b ++ zeros (fill len) → IsPacked len bytes
 packed_by len bytes b l e = record {
   whole = omega (arith, l, sym (length-flat bytes) ∙ ap length e ∙ length-append b (zeros (fill len)), length-replicate (fill len) false);
@@ -108,7 +108,7 @@ flat-bytes_put bytes mid to first (suc count) x place aligned room size e =
     flat-middle bytes mid to first n x held (omega (arith, start)) (omega (arith, start, size))
     (e ∙ sym (ap (λ (k : ℕ). put_at k x window) near ∙ over))
 
--- the same, of a part that is lent
+-- the same, of a part that is borrowed
 pub flat-laid : (bytes mid : List ℕ) (to count : ℕ) (x : List Bool) → (0 < count → to % 8 ≡ 0) → to + 8 * count ≤ 8 * length bytes → length x ≡ 8 * count → flat mid ≡ x → flat (put_mid (to / 8) (to / 8 + count - to / 8) bytes mid) ≡ put_at to x (flat bytes)
 flat-laid bytes mid to count x aligned room long e =
     let first = to / 8 in

@@ -61,7 +61,7 @@ num-three_last : (a m c : List Bool) → num (a ++ (m ++ c)) % 2 ^ length c ≡ 
 num-three_last a m c =
     ap (λ (x : ℕ). x % 2 ^ length c) (num-three a m c) ∙ mod_low (num a * 2 ^ length m + num m) (length c) (num c) (num_below c)
 
--- the number of a part with s bits behind it
+-- the number of a part that s more bits follow
 pub num-part : (b : List Bool) (o w s : ℕ) → o + w + s ≡ length b → num b / 2 ^ s % 2 ^ w ≡ num (part o w b)
 num-part b o w s e =
     let m = take w (drop o b) in
@@ -72,7 +72,7 @@ num-part b o w s e =
     ∙ subst (λ (k : ℕ). num (take o b ++ (m ++ c)) / 2 ^ k % 2 ^ w ≡ num m) lc
     (subst (λ (k : ℕ). num (take o b ++ (m ++ c)) / 2 ^ length c % 2 ^ k ≡ num m) lm (num-three_middle (take o b) m c))
 
--- the number above a part, and the number behind it
+-- the number above a part, and the number after it
 num-above : (b : List Bool) (o w s : ℕ) → o + w + s ≡ length b → num b / 2 ^ s / 2 ^ w ≡ num (take o b)
 num-above b o w s e =
     let m = take w (drop o b) in
@@ -83,8 +83,8 @@ num-above b o w s e =
     ∙ subst (λ (k : ℕ). num (take o b ++ (m ++ c)) / 2 ^ k / 2 ^ w ≡ num (take o b)) lc
     (subst (λ (k : ℕ). num (take o b ++ (m ++ c)) / 2 ^ length c / 2 ^ k ≡ num (take o b)) lm (num-three_first (take o b) m c))
 
-num-behind : (b : List Bool) (o w s : ℕ) → o + w + s ≡ length b → num b % 2 ^ s ≡ num (drop (o + w) b)
-num-behind b o w s e =
+num-after : (b : List Bool) (o w s : ℕ) → o + w + s ≡ length b → num b % 2 ^ s ≡ num (drop (o + w) b)
+num-after b o w s e =
     let m = take w (drop o b) in
     let c = drop (o + w) b in
     let lc : length c ≡ s = omega (arith, length-drop (o + w) b) in
@@ -107,7 +107,7 @@ num-put_at b o w s v e fits =
     ∙ ap (λ (k : ℕ). (num (take o b) * 2 ^ w + num m) * 2 ^ k + num c) lc
     ∙ ap (λ (x : ℕ). (num (take o b) * 2 ^ w + x) * 2 ^ s + num c) (num-bits_fit w v fits) in
     ap (λ (x : ℕ). (x * 2 ^ w + v) * 2 ^ s + num b % 2 ^ s) (num-above b o w s e)
-    ∙ ap (λ (x : ℕ). (num (take o b) * 2 ^ w + v) * 2 ^ s + x) (num-behind b o w s e ∙ ap num far) ∙ sym value
+    ∙ ap (λ (x : ℕ). (num (take o b) * 2 ^ w + v) * 2 ^ s + x) (num-after b o w s e ∙ ap num far) ∙ sym value
 
 length-put : (b : List Bool) (o w s v : ℕ) → o + w + s ≡ length b → length (put_at o (bits w v) b) ≡ length b
 length-put b o w s v e = length-put_at o (bits w v) b (omega (arith, length-bits w v))

@@ -9,7 +9,7 @@ length-put_at at x b h =
     length-append (take at b) (x ++ drop (at + length x) b)
     ∙ omega (arith, length-append x (drop (at + length x) b), length-take at b, length-drop (at + length x) b)
 
--- bits behind those that were put stay
+-- bits after those that were put stay
 pub drop-put_at : (n at : ℕ) (x b : List Bool) → at + length x ≤ n → at ≤ length b → drop n (put_at at x b) ≡ drop n b
 drop-put_at n at x b h lt =
     let size : length (take at b ++ x) ≡ at + length x = length-append (take at b) x ∙ omega (arith, length-take at b) in
@@ -125,6 +125,6 @@ part-put_at_before o n at x b h lt =
     let size : length (take at b) ≡ at = omega (arith, length-take at b) in
     sym (part-take at o n (put_at at x b) h) ∙ ap (part o n) (take_at (take at b) (x ++ drop (at + length x) b) at size) ∙ part-take at o n b h
 
--- behind it
+-- after it
 pub part-put_at_behind : (o n at : ℕ) (x b : List Bool) → at + length x ≤ o → at ≤ length b → part o n (put_at at x b) ≡ part o n b
 part-put_at_behind o n at x b h lt = ap (take n) (drop-put_at o at x b h lt)

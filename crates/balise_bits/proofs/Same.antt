@@ -21,7 +21,7 @@ flat_injective (x ∷ a) (y ∷ b) ha hb e =
     let rest : flat a ≡ flat b = sym (drop_at (bits 8 x) (flat a) 8 (length-bits 8 x)) ∙ ap (drop 8) split ∙ drop_at (bits 8 y) (flat b) 8 (length-bits 8 y) in
     ap (λ (v : ℕ). v ∷ a) (same_byte x y (ha 0) (hb 0) first) ∙ ap (λ (l : List ℕ). y ∷ l) (flat_injective a b (λ i. ha (suc i)) (λ i. hb (suc i)) rest)
 
--- as many bits, and the same: all bits of the bytes are the same
+-- the same bits, and the same number of them: all bits of the bytes are the same
 pub flat_from_view : (a b : ℕ) (xs ys : List ℕ) → IsPacked a xs → IsPacked b ys → a ≡ b → take a (flat xs) ≡ take b (flat ys) → flat xs ≡ flat ys
 flat_from_view a b xs ys p q len view =
     flat-view a xs p ∙ ap (λ (l : List Bool). l ++ zeros (fill a)) view ∙ ap (λ (k : ℕ). take b (flat ys) ++ zeros (fill k)) len ∙ sym (flat-view b ys q)

@@ -1,4 +1,4 @@
--- The bits behind the last one: when they are zero, and what a text is read as by them.
+-- The bits after the last one: when they are zero, and what a text is read as then.
 use Rattle.std.proofs.Common.{◌≡◌, ◌≢◌, ℕ, ◌+◌, ◌*◌, ◌%◌, ◌==◌, Bool, true, false, List, [], ◌∷◌, length, take, drop, Ok, Err, refl, sym, ap, ◌∙◌, arith, eq-eqb}
 use Rattle.std.proofs.lemmas.Bool.Decides.{nat_tests}
 use Rattle.std.proofs.lemmas.Nat.{pow_pos}
@@ -27,7 +27,7 @@ zeros_from_num [] e = refl
 zeros_from_num (true ∷ bs) e = absurd (omega (arith, e, pow_pos (length bs)))
 zeros_from_num (false ∷ bs) e = ap (λ (x : List Bool). false ∷ x) (zeros_from_num bs (omega (arith, e)))
 
--- what is behind the last bit
+-- what is after the last bit
 pub part_behind : (n : ℕ) (b : List Bool) → length b ≡ n + fill n → part n (fill n) b ≡ drop n b
 part_behind n b e = take_all (fill n) (drop n b) (omega (arith, e, length-drop n b))
 

@@ -11,7 +11,7 @@ byte_bits b = bits 8 b
 unfoldable pub flat : List ℕ → List Bool
 flat bytes = flat_map byte_bits bytes
 
--- the bytes that so many bits take, and nothing but zeros behind the last bit
+-- the bytes that `len` bits take, with zeros after the last bit
 pub record IsPacked (len : ℕ) (bytes : List ℕ) : Type 0 where
   pub whole : 8 * length bytes ≡ len + fill len
   pub spare : drop len (flat bytes) ≡ zeros (fill len)

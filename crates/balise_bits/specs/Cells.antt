@@ -1,4 +1,4 @@
--- What an array ends as, where its first elements are lent.
+-- What an array holds after a borrow of its first elements.
 use Rattle.std.specs.Prelude.{List, length}
 use Rattle.std.specs.List.{refill}
 use Rattle.std.specs.Borrow.{Lends, Fml, RattleType, MutBor, Array}

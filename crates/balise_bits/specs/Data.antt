@@ -1,4 +1,4 @@
--- Where bytes are held.
+-- Where bytes are stored.
 use Rattle.std.specs.Prelude.{ℕ, ◌-◌, ◌*◌, ◌^◌, ◌≤◌, ◌<◌, List, length}
 use Rattle.std.specs.Vec as vec
 use Rattle.balise_bits.specs.Stored.{Stored, placed_items}

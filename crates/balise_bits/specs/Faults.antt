@@ -12,7 +12,7 @@ refusal_of BadLength = refusal.BadLength
 refusal_of SpareBits = refusal.SpareBits
 refusal_of OutOfMemory = refusal.OutOfMemory
 
--- the decoder of whole words finds a bad digit or an odd number of them, or wants memory
+-- the decoder finds a bad digit or an odd number of digits, or runs out of memory
 abbrev pub fault_of : FromHexError → BitsFault
 fault_of error.OutOfMemory = OutOfMemory
 fault_of _ = BadHex

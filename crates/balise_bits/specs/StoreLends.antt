@@ -1,4 +1,4 @@
--- What held bytes end as, where they are lent.
+-- What a store holds after a borrow of its bytes.
 use Rattle.std.specs.Prelude.{ℕ, List}
 use Rattle.std.specs.Borrow.{Lends, Fml, MutBor, Array, u8 as byte}
 use Rattle.balise_bits.specs.Stored.{Placed, Stored, placed_items, with_items}

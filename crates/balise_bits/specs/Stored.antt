@@ -1,4 +1,4 @@
--- What a contract sees of held bytes.
+-- What a contract sees of stored bytes.
 use Rattle.std.specs.Prelude.{ℕ, List, length}
 use Rattle.std.specs.List.{refill}
 

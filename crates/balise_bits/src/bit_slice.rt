@@ -1,4 +1,4 @@
-//! Bits that are lent.
+//! Borrowed bits.
 
 ghost use Rattle.std.specs.Prelude.{◌≡◌, ◌+◌, ◌≤◌, length, take};
 ghost use Rattle.balise_rules.specs.Bits.{num, part};
@@ -7,7 +7,7 @@ ghost use Rattle.balise_bits.specs.Bytes.{flat, IsPacked};
 use crate::places::number_at;
 use std::marker::Model;
 
-/// Bits that are lent. Where they are held is looked at once, when they are lent, and not at each number that is read.
+/// Borrowed bits. Where they are stored is looked up once, when they are borrowed, and not at each number that is read.
 #[derive(Drop)]
 pub struct BitSlice<'a> {
     bytes: &'a [u8],

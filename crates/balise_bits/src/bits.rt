@@ -14,7 +14,7 @@ use crate::store::{MOST, Store};
 use std::alloc::Global;
 use std::marker::Model;
 
-/// A list of bits, eight in a byte, the most significant first. The bits behind the last one are zero.
+/// A list of bits, eight in a byte, the most significant first. The bits after the last one are zero.
 #[derive(Drop)]
 pub struct Bits {
     bytes: Store,
@@ -50,7 +50,7 @@ impl Bits {
         Ok(Bits { bytes })
     }
 
-    // So many zeros.
+    // `len` zeros.
     fn zeros(alloc: Global, len: usize) -> Result<Bits, BitsFault>
         ensures ok { IfOk result (λ b. b ≡ zeros len) }
         ensures fault { IsOkUnless result BitsFault.OutOfMemory }
@@ -77,7 +77,7 @@ impl Bits {
         self.len() == 0
     }
 
-    /// All of them, lent. Takes no memory.
+    /// All bits, borrowed. Takes no memory.
     #[inline]
     pub fn as_slice(&self) -> BitSlice<'_>
         ensures { result ≡ self.now }
@@ -85,12 +85,12 @@ impl Bits {
         BitSlice::new(self.bytes.as_slice(), self.len())
     }
 
-    /// Where its memory comes from.
+    /// The allocator that its memory comes from.
     pub fn allocator(&self) -> Global {
         self.bytes.allocator()
     }
 
-    /// The same bits once more.
+    /// A copy of the bits.
     pub fn copy(&self) -> Result<Bits, BitsFault>
         ensures ok { IfOk result (λ b. b ≡ self.now) }
         ensures fault { IsOkUnless result BitsFault.OutOfMemory }

@@ -1,9 +1,9 @@
-//! An array whose first elements are lent.
+//! An array whose first elements can be borrowed.
 
 ghost use Rattle.std.specs.Prelude.{◌≡◌, ◌≤◌, take};
 ghost use Rattle.std.specs.Borrow.{sem};
 
-/// An array in a struct of its own, so that a contract can say what a loan of its first elements leaves.
+/// An array in a struct of its own, so that a contract can say what a borrow of its first elements writes back.
 #[derive(Clone, Copy, Drop)]
 pub(crate) struct Cells<T, const N: usize> {
     pub(crate) xs: [T; N],

@@ -1,4 +1,4 @@
-//! Why bits aren't read or made.
+//! Why bits can't be read or made.
 
 ghost use Rattle.std.specs.Prelude.{◌≡◌};
 ghost use Rattle.balise_bits.specs.Faults.{refusal_of};
@@ -8,14 +8,14 @@ use hex::FromHexError;
 use std::alloc::AllocError;
 use thiserror::Error;
 
-/// Why bits aren't read or made.
+/// Why bits can't be read or made.
 #[derive(Clone, Copy, Debug, Error, PartialEq, Eq)]
 pub enum BitsFault {
     #[error("a digit isn't hexadecimal, or their number is odd")]
     BadHex,
     #[error("the number of digits isn't the one due")]
     BadLength,
-    #[error("a bit behind the last one isn't zero")]
+    #[error("a bit after the last one isn't zero")]
     SpareBits,
     #[error("out of memory")]
     OutOfMemory,

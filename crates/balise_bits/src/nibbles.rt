@@ -23,7 +23,7 @@ fn value(c: u8) -> u8
     }
 }
 
-/// Reads the bytes of digits, and answers whether all are digits.
+/// Reads digits into bytes, and returns whether all of them are digits.
 pub(crate) fn decoded(text: &[u8], out: &mut [u8]) -> bool
     requires { length text.now ≡ 2 * length out.old }
     ensures ok { result ≡ true → digit_bits text.now ≡ Some (flat out.new) }

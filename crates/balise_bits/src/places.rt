@@ -16,13 +16,13 @@ pub(crate) fn number_at(bytes: &[u8], at: usize, width: u32) -> u32
     let count = bytes.len();
     let first = at / 8;
     if first + WINDOW <= count {
-        let behind = 8 * WINDOW - at % 8 - width as usize;
-        return number_before(&bytes[first..first + WINDOW], behind, width);
+        let after = 8 * WINDOW - at % 8 - width as usize;
+        return number_before(&bytes[first..first + WINDOW], after, width);
     }
     let size = count.min(WINDOW);
     let first = count - size;
-    let behind = 8 * size - (at - 8 * first) - width as usize;
-    number_before(&bytes[first..], behind, width)
+    let after = 8 * size - (at - 8 * first) - width as usize;
+    number_before(&bytes[first..], after, width)
 }
 
 /// Puts a number over the `width` bits from the place `at` on. All other bits stay.
@@ -39,14 +39,14 @@ pub(crate) fn put_number_at(bytes: &mut [u8], at: usize, width: u32, value: u32)
     let count = bytes.len();
     let first = at / 8;
     if first + WINDOW <= count {
-        let behind = 8 * WINDOW - at % 8 - width as usize;
-        put_over(&mut bytes[first..first + WINDOW], behind, width, value);
+        let after = 8 * WINDOW - at % 8 - width as usize;
+        put_over(&mut bytes[first..first + WINDOW], after, width, value);
         return;
     }
     let size = count.min(WINDOW);
     let first = count - size;
-    let behind = 8 * size - (at - 8 * first) - width as usize;
-    put_over(&mut bytes[first..], behind, width, value);
+    let after = 8 * size - (at - 8 * first) - width as usize;
+    put_over(&mut bytes[first..], after, width, value);
 }
 
 /// Puts the `len` bits of other bytes from the place `at` on over those from the place `to` on. All other bits stay.
@@ -82,8 +82,8 @@ fn put_in_byte(bytes: &mut [u8], at: usize, width: u32, value: u32)
         return;
     }
     let first = at / 8;
-    let behind = 8 - at % 8 - width as usize;
-    put_over(&mut bytes[first..first + 1], behind, width, value);
+    let after = 8 - at % 8 - width as usize;
+    put_over(&mut bytes[first..first + 1], after, width, value);
 }
 
 // Puts `count` times eight bits of other bytes over whole bytes of these.

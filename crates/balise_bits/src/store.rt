@@ -1,4 +1,4 @@
-//! Bytes, few of them held in place.
+//! Bytes, stored inline while they are few.
 
 ghost use Rattle.std.specs.Prelude.{◌≡◌, ◌≤◌, ◌<◌, ◌+◌, ◌-◌, ◌*◌, ◌^◌, ◌++◌, [], length, replicate, IfOk, OnErr, OnOk};
 ghost use Rattle.std.specs.Borrow.{sem};
@@ -9,13 +9,13 @@ use crate::cells::Cells;
 use std::alloc::{AllocError, Global};
 use std::marker::Model;
 
-/// How many bytes are held in place.
+/// The most bytes that are stored inline.
 pub(crate) const IN_PLACE: usize = 29;
 
-/// How many bytes are held at most, so that their bits are counted by a usize.
+/// The most bytes that are stored, so that a usize counts their bits.
 pub(crate) const MOST: usize = 2305843009213693951;
 
-/// Bytes held in place.
+/// Bytes stored inline.
 #[derive(Drop)]
 struct Small {
     cells: Cells<u8, 29>,
@@ -34,7 +34,7 @@ impl Model for Small {
 }
 
 impl Small {
-    // So many zeros.
+    // `count` zeros.
     fn zeros(count: usize) -> Small
         requires { count ≤ 29 }
         ensures { result.items ≡ replicate count 0 }
@@ -101,7 +101,7 @@ impl Data {
     }
 }
 
-/// Bytes, of which up to 29 are held in place, and how many of their bits count: all but the spare ones at the end.
+/// Bytes, up to 29 of them stored inline, and how many of their bits count: all but the spare ones at the end.
 #[derive(Drop)]
 pub(crate) struct Store {
     data: Data,
@@ -131,7 +131,7 @@ impl Store {
         }
     }
 
-    /// No bytes, with room for so many.
+    /// No bytes, with room for `count`.
     pub(crate) fn with_capacity(alloc: Global, count: usize) -> Result<Store, AllocError>
         ensures items { IfOk result (λ s. s.items ≡ []) }
         ensures len { IfOk result (λ s. s.len ≡ 0) }
@@ -146,7 +146,7 @@ impl Store {
         })
     }
 
-    /// So many zeros, all but so many of whose bits count.
+    /// `count` zeros. All of their bits count but the last `spare`.
     pub(crate) fn zeros(alloc: Global, count: usize, spare: u8) -> Result<Store, AllocError>
         requires spare { spare ≤ 8 * count }
         requires fits { 8 * count < 2 ^ 64 }
@@ -209,7 +209,7 @@ impl Store {
         }
     }
 
-    /// Lets all bits count but so many.
+    /// Sets how many bits at the end don't count.
     #[inline]
     pub(crate) fn set_spare(&mut self, spare: u8)
         requires { spare ≤ 8 * length self.old.items }
@@ -222,7 +222,7 @@ impl Store {
         }
     }
 
-    /// Adds so many zeros at the end. On want of memory all stays.
+    /// Adds `more` zeros at the end. If memory runs out, nothing changes.
     pub(crate) fn add_zeros(&mut self, more: usize) -> Result<(), AllocError>
         requires { 8 * (length self.old.items + more) < 2 ^ 64 }
         ensures items { OnOk result (self.new.items ≡ self.old.items ++ replicate more 0) }
@@ -243,7 +243,7 @@ impl Store {
         }
     }
 
-    /// Adds those of another at the end, where all bits of these count. On want of memory all stays.
+    /// Adds the bytes of another store after these, whose bits all count. If memory runs out, nothing changes.
     #[inline(always)]
     pub(crate) fn append(&mut self, other: &Store) -> Result<(), AllocError>
         requires whole { self.old.len ≡ 8 * length self.old.items }
@@ -264,7 +264,7 @@ impl Store {
         Ok(())
     }
 
-    /// The same bytes once more.
+    /// A copy of the bytes.
     pub(crate) fn copy(&self) -> Result<Store, AllocError>
         ensures { IfOk result (λ s. s ≡ self.now) }
     {
@@ -281,13 +281,13 @@ impl Store {
         })
     }
 
-    /// Where its memory comes from.
+    /// The allocator that its memory comes from.
     pub(crate) fn allocator(&self) -> Global {
         self.alloc
     }
 }
 
-// Bytes in an allocation of their own, with zeros behind them, so many in all.
+// The bytes in an allocation of their own, with zeros after them up to `count` bytes.
 fn spilled(alloc: Global, bytes: &[u8], count: usize) -> Result<Vec<u8>, AllocError>
     requires { length bytes.now ≤ count }
     ensures { IfOk result (λ v. v.items ≡ bytes.now ++ replicate (count - length bytes.now) 0) }

@@ -49,7 +49,7 @@ pub(crate) fn put_in(window: &mut [u8], number: u64)
         window[4] = (number % 256) as u8;
         return;
     }
-    // Packets of 32 bits are among the shortest, and the loop below is dear for them.
+    // Packets of 32 bits are among the shortest, and the loop below is slow for them.
     if count == 4 {
         window[0] = ((number >> 24) % 256) as u8;
         window[1] = ((number >> 16) % 256) as u8;
@@ -62,32 +62,32 @@ pub(crate) fn put_in(window: &mut [u8], number: u64)
     }
 }
 
-/// The number in the `width` bits with `behind` bits behind them.
+/// The number in the `width` bits that `after` more bits follow.
 #[inline(always)]
-pub(crate) fn number_before(window: &[u8], behind: usize, width: u32) -> u32
+pub(crate) fn number_before(window: &[u8], after: usize, width: u32) -> u32
     requires few { length window.now ≤ 5 }
-    requires within { behind + width ≤ 8 * length window.now }
+    requires within { after + width ≤ 8 * length window.now }
     requires width { width ≤ 32 }
-    ensures { result ≡ num (part (8 * length window.now - (behind + width)) width (flat window.now)) }
+    ensures { result ≡ num (part (8 * length window.now - (after + width)) width (flat window.now)) }
 {
-    ((number_in(window) >> behind) % (1 << width)) as u32
+    ((number_in(window) >> after) % (1 << width)) as u32
 }
 
-/// Puts a number over the `width` bits with `behind` bits behind them. All other bits stay.
+/// Puts a number over the `width` bits that `after` more bits follow. All other bits stay.
 #[inline(always)]
-pub(crate) fn put_over(window: &mut [u8], behind: usize, width: u32, value: u32)
+pub(crate) fn put_over(window: &mut [u8], after: usize, width: u32, value: u32)
     requires few { length window.old ≤ 5 }
-    requires within { behind + width ≤ 8 * length window.old }
+    requires within { after + width ≤ 8 * length window.old }
     requires width { width ≤ 32 }
     requires fits { value < 2 ^ width }
-    ensures { flat window.new ≡ put_at (8 * length window.old - (behind + width)) (bits width value) (flat window.old) }
+    ensures { flat window.new ≡ put_at (8 * length window.old - (after + width)) (bits width value) (flat window.old) }
 {
     let old = number_in(window);
-    let front = old >> behind >> width;
-    let back = old % (1 << behind);
+    let front = old >> after >> width;
+    let back = old % (1 << after);
     put_in(
         window,
-        (((front << width) + u64::from(value)) << behind) + back,
+        (((front << width) + u64::from(value)) << after) + back,
     );
 }
 

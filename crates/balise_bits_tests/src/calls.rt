@@ -4,7 +4,7 @@ use balise_bits::{Bits, BitsFault, Refusal};
 use std::alloc::Global;
 use std::process::Abort;
 
-// A header, packet 255 and ones behind it: 210 bits and six zeros.
+// A header, packet 255 and ones after it: 210 bits and six zeros.
 const SHORT: &str = "a1007f80a0327fffffffffffffffffffffffffffffffffffffffc0";
 
 // The same with 830 bits and two zeros.
@@ -171,7 +171,7 @@ fn slices_are_cut(rt: HostRuntime) {
     }
 }
 
-// That so many bits of some and all of them behind are these digits.
+// That the first `len` bits of some, and then all of them, are these digits.
 fn check_joined(rt: &impl Abort, len: usize, other: &Bits, hex: &str) {
     let mut joined = slice(rt, other, 0, len);
     joined.append(other).expect(rt, "memory");
@@ -252,12 +252,12 @@ fn ones_are_put(rt: HostRuntime) {
     put_ones(&rt, &mut bits, 76, 0, "1fffffffffffffffffb0");
 }
 
-// That so many of the bits are the same as all of them.
+// That the first `len` bits are the same as all of them.
 fn check_same(rt: &impl Abort, bits: &Bits, len: usize) {
     assert!(rt; *bits == slice(rt, bits, 0, len));
 }
 
-// That so many of the bits are others than all of them.
+// That the first `len` bits aren't the same as all of them.
 fn check_other(rt: &impl Abort, bits: &Bits, len: usize) {
     assert!(rt; *bits != slice(rt, bits, 0, len));
 }

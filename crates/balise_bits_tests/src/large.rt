@@ -53,7 +53,7 @@ fn many_digits_are_read(rt: HostRuntime) {
     }
 }
 
-/// That the bits are a part repeated so often.
+/// That the bits are a part, `count` times.
 fn check_repeated(rt: &impl Abort, bits: &Bits, part: &str, count: usize) {
     let text = repeated(rt, bits.allocator(), part, count);
     check_hex(rt, bits, text.as_str());
@@ -67,8 +67,8 @@ fn check_copy(rt: &impl Abort, bits: &Bits, count: usize) {
 /// That the bits without the first three and the last 61 are a part repeated.
 fn check_cut(rt: &impl Abort, bits: &Bits, count: usize) {
     assert!(rt; count > 0 && count < 65536);
-    let behind = slice(rt, bits, 3, 64 * (count - 1));
-    check_repeated(rt, &behind, FROM_FOURTH, count - 1);
+    let rest = slice(rt, bits, 3, 64 * (count - 1));
+    check_repeated(rt, &rest, FROM_FOURTH, count - 1);
 }
 
 #[test]
@@ -81,9 +81,9 @@ fn many_bits_are_copied_and_cut(rt: HostRuntime) {
 }
 
 /// That bits are joined whole.
-fn check_joined(rt: &impl Abort, bits: &Bits, behind: &Bits, twice: usize) {
+fn check_joined(rt: &impl Abort, bits: &Bits, rest: &Bits, twice: usize) {
     let mut joined = slice(rt, bits, 0, 3);
-    joined.append(behind).expect(rt, "memory");
+    joined.append(rest).expect(rt, "memory");
     joined.append(bits).expect(rt, "memory");
     check_repeated(rt, &joined, PART, twice);
 }
@@ -92,12 +92,12 @@ fn check_joined(rt: &impl Abort, bits: &Bits, behind: &Bits, twice: usize) {
 fn many_bits_are_joined(rt: HostRuntime) {
     for count in COUNTS {
         let bits = parts(&rt, rt.alloc(), count);
-        let behind = slice(&rt, &bits, 3, 64 * count - 3);
-        check_joined(&rt, &bits, &behind, 2 * count);
+        let rest = slice(&rt, &bits, 3, 64 * count - 3);
+        check_joined(&rt, &bits, &rest, 2 * count);
     }
 }
 
-/// Puts a part in behind the bits so often.
+/// Adds a part at the end, `count` times.
 fn push_parts(rt: &impl Abort, bits: &mut Bits, count: usize) {
     for _ in 0..count {
         bits.push(32, 0x01234567).expect(rt, "memory");

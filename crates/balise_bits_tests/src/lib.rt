@@ -1,7 +1,9 @@
-//! Tests of balise_bits: each public call once, on telegrams of 210 and 830 bits, and long texts.
+//! Tests of balise_bits: each public call once, on telegrams of 210 and 830 bits, long texts, and parts that are moved.
 #![tactic(auto)]
 
 #[cfg(test)]
 mod calls;
 #[cfg(test)]
 mod large;
+#[cfg(test)]
+mod moves;

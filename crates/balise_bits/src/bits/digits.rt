@@ -14,7 +14,7 @@ use hex::encode;
 use std::alloc::{AllocError, Global};
 
 impl Bits {
-    /// The first `len` bits of a text of hexadecimal digits of either case, which fills whole bytes with zeros.
+    /// The `len` bits of a text of hexadecimal digits of either case. Zeros fill the last byte.
     pub fn from_hex(alloc: Global, text: &str, len: usize) -> Result<Bits, BitsFault>
         ensures ok { IfOk result (λ b. read_hex len text.now ≡ Ok b) }
         ensures len { IfOk result (λ b. length b ≡ len) }
@@ -68,7 +68,7 @@ impl Bits {
         Ok(Bits { bytes })
     }
 
-    /// Writes the digits in lower case into a buffer, in the place of all that it holds. On want of memory that stays.
+    /// Writes the digits in lower case into a buffer, over all that it holds. If memory runs out, the buffer stays.
     pub fn hex_into(&self, out: &mut Vec<u8>) -> Result<(), BitsFault>
         ensures ok { OnOk result (out.new.items ≡ hex_of self.now) }
         ensures err { OnErr result (out.new.items ≡ out.old.items) }

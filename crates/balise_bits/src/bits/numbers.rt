@@ -30,7 +30,7 @@ impl Bits {
         put_number_at(self.bytes.as_mut_slice(), at, width, value);
     }
 
-    /// Adds the `width` bits of a number at the end. On want of memory the bits stay.
+    /// Adds the `width` bits of a number at the end. If memory runs out, the bits stay.
     pub fn push(&mut self, width: u32, value: u32) -> Result<(), BitsFault>
         requires width { width ≤ 32 }
         requires fits { value < 2 ^ width }
@@ -44,7 +44,7 @@ impl Bits {
         Ok(())
     }
 
-    /// Adds zeros at the end. On want of memory the bits stay.
+    /// Adds zeros at the end. If memory runs out, the bits stay.
     pub fn push_zeros(&mut self, count: usize) -> Result<(), BitsFault>
         ensures ok { OnOk result (self.new ≡ self.old ++ zeros count) }
         ensures err { OnErr result (self.new ≡ self.old) }

@@ -1,10 +1,11 @@
-//! Parts of bits: cut out, joined, laid over others.
+//! Parts of bits: cut out, joined, put over others, moved.
 
 ghost use Rattle.std.specs.Prelude.{◌≡◌, ◌+◌, ◌≤◌, ◌++◌, length, IfOk, IsOkUnless, OnErr, OnOk};
 ghost use Rattle.balise_rules.specs.Bits.{part, put_at};
 
 use crate::bits::Bits;
 use crate::fault::BitsFault;
+use crate::moving::move_part_at;
 use crate::places::put_part_at;
 use crate::store::MOST;
 
@@ -20,7 +21,7 @@ impl Bits {
         Ok(slice)
     }
 
-    /// Adds all bits of another at the end. On want of memory the bits stay.
+    /// Adds all bits of another at the end. If memory runs out, the bits stay.
     pub fn append(&mut self, other: &Bits) -> Result<(), BitsFault>
         ensures ok { OnOk result (self.new ≡ self.old ++ other.now) }
         ensures err { OnErr result (self.new ≡ self.old) }
@@ -36,7 +37,7 @@ impl Bits {
         Ok(())
     }
 
-    // Adds the `len` bits of another from the place `at` on at the end. On want of memory the bits stay.
+    // Adds the `len` bits of another from the place `at` on at the end. If memory runs out, the bits stay.
     fn append_part(&mut self, other: &Bits, at: usize, len: usize) -> Result<(), BitsFault>
         requires { at + len ≤ length other.now }
         ensures ok { OnOk result (self.new ≡ self.old ++ part at len other.now) }
@@ -64,5 +65,16 @@ impl Bits {
             at,
             len,
         );
+    }
+
+    /// Moves the `len` bits from the place `at` on to the place `to`. The two may overlap. All other bits stay.
+    pub fn move_part(&mut self, to: usize, at: usize, len: usize)
+        requires within { at + len ≤ length self.old }
+        requires room { to + len ≤ length self.old }
+        ensures { self.new ≡ put_at to (part at len self.old) self.old }
+    {
+        // The length is a number of 64 bits, so the places below are too.
+        let _len = self.len();
+        move_part_at(self.bytes.as_mut_slice(), to, at, len);
     }
 }

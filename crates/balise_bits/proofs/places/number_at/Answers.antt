@@ -6,10 +6,10 @@ use Rattle.balise_bits.proofs.Packing.{part-in_window}
 use Rattle.balise_bits.proofs.places.number_at.Goals as goal
 
 -- the number in a window is that among all bits
-in_window : (bytes : List ℕ) (at w first n behind : ℕ) → 8 * first ≤ at → first + n ≤ length bytes → at + w + behind ≡ 8 * (first + n) → num (part (8 * length (take n (drop first bytes)) - (behind + w)) w (flat (take n (drop first bytes)))) ≡ num (part at w (flat bytes))
-in_window bytes at w first n behind low some end =
+in_window : (bytes : List ℕ) (at w first n after : ℕ) → 8 * first ≤ at → first + n ≤ length bytes → at + w + after ≡ 8 * (first + n) → num (part (8 * length (take n (drop first bytes)) - (after + w)) w (flat (take n (drop first bytes)))) ≡ num (part at w (flat bytes))
+in_window bytes at w first n after low some end =
     let few : length (take n (drop first bytes)) ≡ n = omega (arith, length-take n (drop first bytes), length-drop first bytes) in
-    let place : 8 * length (take n (drop first bytes)) - (behind + w) ≡ at - 8 * first = omega (arith, few) in
+    let place : 8 * length (take n (drop first bytes)) - (after + w) ≡ at - 8 * first = omega (arith, few) in
     ap (λ (k : ℕ). num (part k w (flat (take n (drop first bytes))))) place
     ∙ ap num (part-in_window bytes at w first n low some (omega arith))
 

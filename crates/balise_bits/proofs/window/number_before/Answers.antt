@@ -9,7 +9,7 @@ use Rattle.balise_bits.proofs.window.number_before.Goals as goal
 pub returns : goal.returns
 returns c =
     let b = flat c.args.window.now in
-    let s = c.args.behind in
+    let s = c.args.after in
     let w = c.args.width in
     let size : length b ≡ 8 * length c.args.window.now = length-flat c.args.window.now in
     let mask : 1 * 2 ^ w % 2 ^ 64 ≡ 2 ^ w = one_shl w 64 (omega arith) in

@@ -1,4 +1,4 @@
-use Rattle.std.proofs.Common.{◌≡◌, ◌+◌, ◌%◌, ◌++◌, take, sym, ap, ◌∙◌, subst, arith, ℕ, List, Bool, rules}
+use Rattle.std.proofs.Common.{◌≡◌, ◌+◌, ◌%◌, ◌++◌, take, sym, ap, ◌∙◌, subst, arith, ℕ, List, Bool}
 use Rattle.balise_bits.specs.Bytes.{flat, IsPacked}
 use Rattle.balise_bits.proofs.Packing.{packed_joined, view-joined}
 use Rattle.balise_bits.proofs.bits.Bits.append.Goals as goal

@@ -1,4 +1,4 @@
-use Rattle.std.proofs.Common.{sym, ap, ◌∙◌, ◌≡◌, ◌*◌, ◌/◌, ◌%◌, length, drop, arith, Ok, rules}
+use Rattle.std.proofs.Common.{sym, ap, ◌∙◌, ◌≡◌, ◌*◌, ◌/◌, ◌%◌, length, drop, arith, Ok}
 use Rattle.std.proofs.lemmas.List.{take_at, length-replicate}
 use Rattle.std.specs.List.{refill}
 use Rattle.balise_rules.specs.Digits.{digits_or_bad}

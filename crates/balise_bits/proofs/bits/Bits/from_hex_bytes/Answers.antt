@@ -33,11 +33,11 @@ returns-then-number-ne0-clause-fault c =
     let b = c.in_ok-bits.bits in
     let whole = whole_len c.bits.inside.bytes.len c.bits.inside.bytes.items b c.bits.invariant c.bits.view_is (whole_bytes c.args.text.now b c.in_ok-bits.ensures.ok) in
     let due : c.bits.inside.bytes.len ≡ n + fill n = omega (arith, whole.1, c.if-as_slice-div_ceil.false, ap length c.as_slice.ensures.value, c.len.ensures, c.div_ceil.ensures) in
-    let behind : c.len.result - n ≡ fill n = omega (arith, due, c.len.ensures) in
-    let some : num (part n (fill n) b) ≢ 0 = λ z. c.if-number-ne0.true (c.number.ensures ∙ ap (λ (k : ℕ). num (part n k b)) behind ∙ z) in
+    let after : c.len.result - n ≡ fill n = omega (arith, due, c.len.ensures) in
+    let some : num (part n (fill n) b) ≢ 0 = λ z. c.if-number-ne0.true (c.number.ensures ∙ ap (λ (k : ℕ). num (part n k b)) after ∙ z) in
     λ _. read_hex-spare n c.args.text.now b c.in_ok-bits.ensures.ok (whole.0 ∙ due) some
 
--- as many bits count as were wanted
+-- the bits that count are as many as `len`
 cut : (c : goal.After-set_spare) → c.set_spare.new.self.len ≡ c.args.len
 cut c =
     let b = c.in_ok-bits.bits in
@@ -54,8 +54,8 @@ invariant_of-bits c =
     let b = c.in_ok-bits.bits in
     let whole = whole_len c.bits.inside.bytes.len c.bits.inside.bytes.items b c.bits.invariant c.bits.view_is (whole_bytes c.args.text.now b c.in_ok-bits.ensures.ok) in
     let due : c.bits.inside.bytes.len ≡ n + fill n = omega (arith, whole.1, c.if-as_slice-div_ceil.false, ap length c.as_slice.ensures.value, c.len.ensures, c.div_ceil.ensures) in
-    let behind : c.len.result - n ≡ fill n = omega (arith, due, c.len.ensures) in
-    let none : num (part n (fill n) b) ≡ 0 = ap (λ (k : ℕ). num (part n k b)) (sym behind) ∙ sym c.number.ensures ∙ c.if-number-ne0.false in
+    let after : c.len.result - n ≡ fill n = omega (arith, due, c.len.ensures) in
+    let none : num (part n (fill n) b) ≡ 0 = ap (λ (k : ℕ). num (part n k b)) (sym after) ∙ sym c.number.ensures ∙ c.if-number-ne0.false in
     subst (λ (k : ℕ). IsPacked k c.set_spare.new.self.items) (sym (cut c)) (subst (λ (l : List ℕ). IsPacked n l) (sym c.set_spare.ensures.items)
     (packed_cut n c.bits.inside.bytes.len c.bits.inside.bytes.items b c.bits.invariant c.bits.view_is due none))
 
@@ -65,8 +65,8 @@ returns-clause-ok c =
     let b = c.in_ok-bits.bits in
     let whole = whole_len c.bits.inside.bytes.len c.bits.inside.bytes.items b c.bits.invariant c.bits.view_is (whole_bytes c.args.text.now b c.in_ok-bits.ensures.ok) in
     let due : c.bits.inside.bytes.len ≡ n + fill n = omega (arith, whole.1, c.if-as_slice-div_ceil.false, ap length c.as_slice.ensures.value, c.len.ensures, c.div_ceil.ensures) in
-    let behind : c.len.result - n ≡ fill n = omega (arith, due, c.len.ensures) in
-    let none : num (part n (fill n) b) ≡ 0 = ap (λ (k : ℕ). num (part n k b)) (sym behind) ∙ sym c.number.ensures ∙ c.if-number-ne0.false in
+    let after : c.len.result - n ≡ fill n = omega (arith, due, c.len.ensures) in
+    let none : num (part n (fill n) b) ≡ 0 = ap (λ (k : ℕ). num (part n k b)) (sym after) ∙ sym c.number.ensures ∙ c.if-number-ne0.false in
     read_hex-read n c.args.text.now b c.in_ok-bits.ensures.ok (whole.0 ∙ due) none
     ∙ ap Ok (sym (same c ∙ view-cut n c.bits.inside.bytes.len c.bits.inside.bytes.items b c.bits.invariant c.bits.view_is due))
 

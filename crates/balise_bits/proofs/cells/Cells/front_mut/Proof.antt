@@ -55,7 +55,7 @@ use Rattle.balise_bits.specs.contracts.cells.Cells.front_mut.Key.{name as #self}
 use Rattle.balise_bits.proofs.cells.Cells.front_mut.Statement as stated
 use Rattle.balise_bits.proofs.cells.Cells.front_mut.Code as code
 
--- as many elements as were lent, before the rest, are the refilled array
+-- the borrowed elements, before the rest, are the refilled array
 refill_front : {X : Type 0} (m : ℕ) (xs ws : List X) → m ≤ length xs → length ws ≡ m
     → ws ++ drop_list m xs ≡ refill (length xs) xs ws
 refill_front m xs ws le e =

@@ -20,7 +20,7 @@ returns-then-len-clause-same c = (λ e. cc e, λ e. absurd (other_len c e))
 same_len : (c : goal.After-same_bytes) → c.self.inside.bytes.len ≡ c.other.inside.bytes.len
 same_len c = sym c.len.ensures ∙ c.if-len.false ∙ c.len-2.ensures
 
--- as many bits are the same where their bytes are
+-- lists of one length are the same where their bytes are
 same_from : (c : goal.After-same_bytes) → c.same_bytes.result ≡ true → c.args.self.now ≡ c.args.other.now
 same_from c t =
     let bytes : flat c.self.inside.bytes.items ≡ flat c.other.inside.bytes.items =

@@ -46,10 +46,10 @@ fn print<W: Write>(plan: &Plan, writer: &mut Counted<W>) -> Result<()> {
         };
         put(writer, b"group\n")?;
         for j in 0..group.count() {
-            let Some((_, balise)) = group.at(j) else {
+            let Some((_, telegram)) = group.at(j) else {
                 break;
             };
-            balise.hex_into(&mut text)?;
+            telegram.hex_into(&mut text)?;
             text.push(b'\n')?;
             put(writer, &text)?;
         }

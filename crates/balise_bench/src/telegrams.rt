@@ -3,7 +3,7 @@
 use crate::digits::bits_in;
 use anyhow::Result;
 use balise_lines::{Counted, Lines, Next, put};
-use balise_telegram::{Balise, Bits};
+use balise_telegram::{Bits, Telegram};
 use std::alloc::Global;
 use std::io;
 use std::io::{BufWriter, Read, Write};
@@ -13,7 +13,7 @@ fn hold<R: Read, W: Write>(
     alloc: Global,
     reader: &mut Counted<R>,
     writer: &mut Counted<W>,
-) -> Result<Vec<Balise>> {
+) -> Result<Vec<Telegram>> {
     let mut lines = Lines::new();
     let mut held = Vec::new(alloc);
     'lines: for _ in 0..u64::MAX {
@@ -22,7 +22,7 @@ fn hold<R: Read, W: Write>(
         }
         let line = lines.line();
         match bits_in(line.len()) {
-            Some(len) => held.push(Balise::read(Bits::from_hex_bytes(alloc, line, len)?)?)?,
+            Some(len) => held.push(Telegram::of_bits(Bits::from_hex_bytes(alloc, line, len)?)?)?,
             None => {
                 put(writer, line)?;
                 put(writer, b"\n")?;

@@ -1,5 +1,5 @@
 -- The lines of a review one level after another, as they are found in the plan before the turn.
-use Rattle.std.specs.Prelude.{◌≡◌, ℕ, suc, true, cond, List, [], ◌∷◌, ◌++◌, map, filter, position, reverse, Some, option_map, option_to_list, Option, None, slice_get}
+use Rattle.std.specs.Prelude.{◌≡◌, ℕ, suc, true, cond, List, [], ◌∷◌, ◌++◌, map, filter, position, reverse, Some, Option, None, slice_get}
 use Rattle.std.specs.BTreeSet as set
 use Rattle.std.specs.Map.{keys_of}
 use Rattle.std.specs.Ordering.{nat_cmp}
@@ -8,19 +8,17 @@ use Rattle.balise_rules.specs.declared.tag.Tag.{Tag}
 use Rattle.balise_rules.specs.declared.review.Reviewed.{Reviewed}
 use Rattle.balise_rules.specs.declared.review.Reviewed.TheVariants.{Field}
 use Rattle.balise_rules.specs.declared.review.ReviewLine.{ReviewLine}
-use Rattle.balise_rules.specs.declared.variable.Var.TheVariants.{DLink}
 use Rattle.balise_rules.specs.Variables.{is_distance}
 use Rattle.balise_rules.specs.Tags.{Key, same_tag, same_id}
 use Rattle.balise_rules.specs.Forms.{Fields}
+use Rattle.balise_rules.specs.Names.{links_among}
 use Rattle.balise_rules.specs.Packet.{Packet}
 use Rattle.balise_rules.specs.Telegram.{Telegram, version_of}
 use Rattle.balise_rules.specs.Plan.{Group, Plan, country_of, identity_of}
-use Rattle.balise_rules.specs.Review.{over, looked_in, lines_at, links_looked}
+use Rattle.balise_rules.specs.Review.{over, looked_in, lines_at, distance_of, links_looked}
 use Rattle.balise_plan.specs.Links.{named_at}
 use Rattle.balise_plan.specs.Walks.{among}
 use Rattle.balise_plan.specs.declared.links.LinkPlace.{LinkPlace}
-use Rattle.balise_telegram.specs.Packed.{links_at}
-use Rattle.balise_telegram.specs.Setting.{field_at}
 
 -- the distances among fields
 abbrev pub distances : Fields → List Reviewed
@@ -34,17 +32,14 @@ packet_lines i version pig n ps = over (λ pkt (p : Tag × Packet). lines_at i p
 abbrev pub telegram_lines : Id → ℕ → Group → List ReviewLine
 telegram_lines i n ys = over (λ pig (t : ℕ × Telegram). packet_lines i (version_of t.1) pig 0 t.1.packets) n ys
 
--- D_LINK of an element of the packet with a tag, where there is one
-abbrev pub distance_under : Tag → Telegram → ℕ → List Reviewed
-distance_under p y k = option_to_list (option_map (Field DLink k) (field_at p DLink k y))
+-- of elements with these identities of a packet with these fields, counted on from k, those that name the identity: what is looked at
+abbrev pub named_from : Id → Fields → ℕ → List Id → List Reviewed
+named_from i fs k [] = []
+named_from i fs k (j ∷ js) = cond (same_id j i) (distance_of fs k ++ distance_of fs (suc k)) [] ++ named_from i fs (suc k) js
 
--- of elements with these identities, counted on from k, those that name the identity: what is looked at
-abbrev pub named_from : Id → Tag → Telegram → ℕ → List Id → List Reviewed
-named_from i p y k [] = []
-named_from i p y k (j ∷ js) = cond (same_id j i) (distance_under p y k ++ distance_under p y (suc k)) [] ++ named_from i p y (suc k) js
-
-abbrev pub named_under : Id → Tag → Telegram → List Reviewed
-named_under i p y = named_from i p y 0 (links_at p y)
+-- the same of all elements of a packet, in a telegram of country c
+abbrev pub named_in : Id → ℕ → Packet → List Reviewed
+named_in i c x = named_from i x.fields 0 (links_among c x.fields x.fields)
 
 -- the links to an identity in the packets of a telegram of a group with the identity j, counted on from n
 abbrev pub packet_links : Id → Id → ℕ → ℕ → ℕ → List (Tag × Packet) → List ReviewLine

@@ -17,8 +17,8 @@ mod reviewing;
 
 pub use balise_commands::{Line, LineEdit, Noted};
 pub use balise_plan::{
-    Balise, Bits, Group, GroupTag, Id, LinkPlace, Packet, PacketTag, Plan, Refusal,
-    Refusal as EditFault, Spot, Tag, Var,
+    Bits, Group, GroupTag, Id, LinkPlace, Packet, PacketTag, Plan, Refusal, Refusal as EditFault,
+    Spot, Tag, Telegram, Var,
 };
 pub use balise_rules::{ReviewLine, Reviewed};
 pub use doing::{again, apply, take_back};

@@ -13,7 +13,7 @@ ghost use Rattle.balise_telegram.specs.Packed.{links_at};
 ghost use Rattle.balise_edits.specs.Notes.{names_in as names_held};
 
 use crate::note::Names;
-use balise_plan::{Balise, Group, Plan};
+use balise_plan::{Group, Plan, Telegram};
 use balise_rules::{Id, Refusal, Tag, Var};
 use std::alloc::{AllocError, Global};
 
@@ -24,20 +24,20 @@ pub(crate) fn names_of_group(alloc: Global, group: &Group) -> Result<Vec<Id>, Re
 {
     let mut names = Vec::new(alloc);
     for i in 0..group.count() {
-        let Some((_, balise)) = group.at(i) else {
+        let Some((_, telegram)) = group.at(i) else {
             return Ok(names);
         };
-        add_telegram(&mut names, balise)?;
+        add_telegram(&mut names, telegram)?;
     }
     Ok(names)
 }
 
 // Adds those that a telegram names.
-fn add_telegram(names: &mut Vec<Id>, balise: &Balise) -> Result<(), Refusal>
-    ensures ok { OnOk result (names.new.items ≡ names.old.items ++ names_in_packets (country_of balise.now) balise.now.packets) }
+fn add_telegram(names: &mut Vec<Id>, telegram: &Telegram) -> Result<(), Refusal>
+    ensures ok { OnOk result (names.new.items ≡ names.old.items ++ names_in_packets (country_of telegram.now) telegram.now.packets) }
     ensures fault { IsOkUnless result Refusal.OutOfMemory }
 {
-    let linking = balise.linking()?;
+    let linking = telegram.linking()?;
     for (_, links) in &linking {
         add_real(names, links)?;
     }
@@ -129,10 +129,10 @@ fn link_at(plan: &Plan, g: Tag, t: u32, p: Tag, k: u32) -> Result<Option<Id>, Re
     ensures sound { IsSound plan.now.groups }
     ensures fault { IsOkUnless result Refusal.OutOfMemory }
 {
-    let Some(balise) = plan.telegram(g, t) else {
+    let Some(telegram) = plan.telegram(g, t) else {
         return Ok(None);
     };
-    let links = balise.links(p)?;
+    let links = telegram.links(p)?;
     match links.get(k as usize) {
         Some(link) => Ok(Some(*link)),
         None => Ok(None),

@@ -126,7 +126,7 @@ fn is_spelt(plan: &Plan, edit: &Edit) -> bool
         return true;
     };
     match plan.telegram(*g, *t) {
-        Some(balise) => packet.is_spelt(balise.version()),
+        Some(telegram) => packet.is_spelt(telegram.version()),
         None => true,
     }
 }

@@ -16,7 +16,7 @@ use balise_commands::Command;
 use balise_edits::Edit;
 use balise_plan::Plan;
 use balise_rules::{Id, Refusal, Tag};
-use balise_telegram::Balise;
+use balise_telegram::Telegram;
 
 // The group of an identity.
 fn find_group(plan: &Plan, id: Id) -> Result<Tag, Refusal>
@@ -31,7 +31,7 @@ fn find_group(plan: &Plan, id: Id) -> Result<Tag, Refusal>
 }
 
 // The telegram at a place of the group of an identity, with the tags that lead to it.
-fn find_telegram(plan: &Plan, id: Id, pig: u32) -> Result<(Tag, u32, &Balise), Refusal>
+fn find_telegram(plan: &Plan, id: Id, pig: u32) -> Result<(Tag, u32, &Telegram), Refusal>
     requires { IsSound plan.now.groups }
     ensures ok { IfOk result (λ r. find_telegram id pig plan.now.groups ≡ Ok (record { group = r.0; place = r.1; telegram = r.2.now })) }
     ensures tags { IfOk result (λ r. Distinct same_tag r.2.now.packets) }
@@ -44,36 +44,41 @@ fn find_telegram(plan: &Plan, id: Id, pig: u32) -> Result<(Tag, u32, &Balise), R
         return Err(Refusal::NoSuchGroup);
     };
     match group.at(pig as usize) {
-        Some((t, balise)) => Ok((g, t, balise)),
+        Some((t, telegram)) => Ok((g, t, telegram)),
         None => Err(Refusal::NoSuchTelegram),
     }
 }
 
 // The telegram of the packet at a place, with the tags that lead to the packet.
-fn find_packet(plan: &Plan, id: Id, pig: u32, pkt: u32) -> Result<(Tag, u32, &Balise, Tag), Refusal>
+fn find_packet(
+    plan: &Plan,
+    id: Id,
+    pig: u32,
+    pkt: u32,
+) -> Result<(Tag, u32, &Telegram, Tag), Refusal>
     requires { IsSound plan.now.groups }
     ensures ok { IfOk result (λ r. (x : Packet) × (find_packet id pig pkt plan.now.groups ≡ Ok (record { group = r.0; place = r.1; telegram = r.2.now; tag = r.3; packet = x })) × (slice_get r.2.now.packets pkt ≡ Some (r.3, x))) }
     ensures tags { IfOk result (λ r. Distinct same_tag r.2.now.packets) }
     ensures fault { IfErr result (λ e. find_packet id pig pkt plan.now.groups ≡ Err e) }
 {
-    let (g, t, balise) = match find_telegram(plan, id, pig) {
+    let (g, t, telegram) = match find_telegram(plan, id, pig) {
         Ok(found) => found,
         Err(fault) => return Err(fault),
     };
-    match balise.packet_at(pkt as usize) {
-        Some((p, _)) => Ok((g, t, balise, p)),
+    match telegram.at(pkt as usize) {
+        Some((p, _)) => Ok((g, t, telegram, p)),
         None => Err(Refusal::NoSuchPacket),
     }
 }
 
 // What stands directly before the place that a packet shall have: none before the first.
-fn packet_before(balise: &Balise, at: usize) -> Result<Option<Tag>, Refusal>
-    ensures { result ≡ ok_or (anchor_at at balise.now.packets) Refusal.NoSuchPacket }
+fn packet_before(telegram: &Telegram, at: usize) -> Result<Option<Tag>, Refusal>
+    ensures { result ≡ ok_or (anchor_at at telegram.now.packets) Refusal.NoSuchPacket }
 {
     if at == 0 {
         return Ok(None);
     }
-    match balise.packet_at(at - 1) {
+    match telegram.at(at - 1) {
         Some((p, _)) => Ok(Some(p)),
         None => Err(Refusal::NoSuchPacket),
     }
@@ -163,9 +168,9 @@ fn insert(plan: &Plan, id: Id, pig: u32, at: u32, digits: &Bits) -> Result<Edit,
     ensures ok { IfOk result (λ edit. rules.edit_of (AskInsert id pig at digits.now) plan.now.groups ≡ Ok (edit_of edit)) }
     ensures fault { IfErr result (λ r. r ≢ Refusal.OutOfMemory → rules.edit_of (AskInsert id pig at digits.now) plan.now.groups ≡ Err r) }
 {
-    let (g, t, balise) = find_telegram(plan, id, pig)?;
-    let after = packet_before(balise, at as usize)?;
-    let packet = packet_in(digits, balise.version())?;
+    let (g, t, telegram) = find_telegram(plan, id, pig)?;
+    let after = packet_before(telegram, at as usize)?;
+    let packet = packet_in(digits, telegram.version())?;
     let packet = Box::new(plan.allocator(), packet)?;
     Ok(Edit::InsertPacket {
         g,
@@ -181,9 +186,9 @@ fn shift(plan: &Plan, id: Id, pig: u32, pkt: u32, at: u32) -> Result<Edit, Refus
     ensures ok { IfOk result (λ edit. rules.edit_of (AskMove id pig pkt at) plan.now.groups ≡ Ok (edit_of edit)) }
     ensures fault { IfErr result (λ r. rules.edit_of (AskMove id pig pkt at) plan.now.groups ≡ Err r) }
 {
-    let (g, t, balise, p) = find_packet(plan, id, pig, pkt)?;
+    let (g, t, telegram, p) = find_packet(plan, id, pig, pkt)?;
     let place = at as usize;
     let with_it = if at <= pkt { place } else { place + 1 };
-    let after = packet_before(balise, with_it)?;
+    let after = packet_before(telegram, with_it)?;
     Ok(Edit::MovePacket { g, t, p, after })
 }

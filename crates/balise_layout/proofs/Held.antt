@@ -1,6 +1,5 @@
 -- What a type of packets does with its bits: it reads them, goes over them, and puts values into them.
-use Rattle.std.proofs.Common.{◌≡◌, ◌↔◌, ℕ, ◌-◌, ◌^◌, ◌<◌, Bool, false, List, [], length, take, drop, Option, is_some, Some, None, Ok, Err, refl, sym, ap, subst, ◌∙◌, arith}
-use Rattle.std.proofs.lemmas.List.{take_all}
+use Rattle.std.proofs.Common.{◌≡◌, ◌↔◌, ℕ, ◌^◌, ◌<◌, Bool, false, List, [], length, Option, is_some, Some, None, Ok, Err, sym, ap, subst, ◌∙◌}
 use Rattle.balise_rules.specs.declared.variable.Var.{Var}
 use Rattle.balise_rules.specs.declared.variable.Var.TheVariants.{NidPacket}
 use Rattle.balise_rules.specs.Variables.{width_of, steers}
@@ -18,6 +17,7 @@ use Rattle.balise_layout.specs.Layouts.{next_of}
 use Rattle.balise_layout.proofs.Walks.{good, walk_again, walk_found, walk_fails, walk_fault, found_or_none, read_form_is}
 use Rattle.balise_layout.proofs.Spelt.{read_spelling, head_of, number_is, holds_read, read_holds, held_is, is_held}
 use Rattle.balise_layout.proofs.Layouts.{next_spelt}
+use Rattle.balise_layout.specs.LayoutLaws.{spelt_in}
 use Rattle.balise_layout.proofs.Setting.{Holds-put}
 
 -- ---- reading
@@ -39,30 +39,20 @@ walked_none step form a b e h =
 
 -- ---- going over a packet
 
-whole_part : (b : List Bool) (n : ℕ) → n ≡ length b → take (n - 0) (drop 0 b) ≡ b
-whole_part b n e = take_all (n - 0) b (omega (arith, e))
-
-walk_is : {A : Type 0} (step : A → ℕ → Var → ℕ → A) (next : ℕ → Form) (a : A) (b : List Bool) (p : Packet) (n : ℕ) (old : A × List Bool) → Holds next b p → n ≡ length b → old ≡ (a, take (n - 0) (drop 0 b)) → walk step (headed next) old ≡ Ok (kept step a (width p) p.fields, p.rest)
-walk_is {A = A} step next a b p n old h all start =
-    let same : old ≡ (a, bits_of p) = start ∙ ap (λ (x : List Bool). (a, x)) (whole_part b n all ∙ h.spelt) in
+walk_is : {A : Type 0} (step : A → ℕ → Var → ℕ → A) (next : ℕ → Form) (a : A) (b : List Bool) (p : Packet) (old : A × List Bool) → Holds next b p → old ≡ (a, b) → walk step (headed next) old ≡ Ok (kept step a (width p) p.fields, p.rest)
+walk_is {A = A} step next a b p old h start =
+    let same : old ≡ (a, bits_of p) = start ∙ ap (λ (x : List Bool). (a, x)) h.spelt in
     ap (walk step (headed next)) same ∙ walk_again step (headed next) p.fields a p.rest h.form
 
-pub visited : {A : Type 0} (step : A → ℕ → Var → ℕ → A) (next : ℕ → Form) (a : A) (b : List Bool) (p : Packet) (n : ℕ) (old after : A × List Bool) → Holds next b p → n ≡ length b → old ≡ (a, take (n - 0) (drop 0 b)) → walk step (headed next) old ≡ Ok after → after.0 ≡ kept step a (width p) p.fields
-visited {A = A} step next a b p n old after h all start e =
-    ap (λ (x : A × List Bool). x.0) (unok (sym e ∙ walk_is step next a b p n old h all start))
+pub visited : {A : Type 0} (step : A → ℕ → Var → ℕ → A) (next : ℕ → Form) (a : A) (b : List Bool) (p : Packet) (old after : A × List Bool) → Holds next b p → old ≡ (a, b) → walk step (headed next) old ≡ Ok after → after.0 ≡ kept step a (width p) p.fields
+visited {A = A} step next a b p old after h start e =
+    ap (λ (x : A × List Bool). x.0) (unok (sym e ∙ walk_is step next a b p old h start))
 
-pub not_stuck : {A : Type 0} (step : A → ℕ → Var → ℕ → A) (next : ℕ → Form) (a : A) (b : List Bool) (p : Packet) (n : ℕ) (old : A × List Bool) (e : LayoutFault) → Holds next b p → n ≡ length b → old ≡ (a, take (n - 0) (drop 0 b)) → walk step (headed next) old ≡ Err e → ⊥
-not_stuck {A = A} step next a b p n old e h all start is = differ (kept step a (width p) p.fields, p.rest) e (sym (walk_is step next a b p n old h all start) ∙ is)
+pub not_stuck : {A : Type 0} (step : A → ℕ → Var → ℕ → A) (next : ℕ → Form) (a : A) (b : List Bool) (p : Packet) (old : A × List Bool) (e : LayoutFault) → Holds next b p → old ≡ (a, b) → walk step (headed next) old ≡ Err e → ⊥
+not_stuck {A = A} step next a b p old e h start is = differ (kept step a (width p) p.fields, p.rest) e (sym (walk_is step next a b p old h start) ∙ is)
   where
     differ : (x : A × List Bool) (e : LayoutFault) → good x ≡ Err e → ⊥
     differ x e k = cc
-
--- a walk over a part of more bits
-pub seen_within : {A : Type 0} (step : A → ℕ → Var → ℕ → A) (next : ℕ → Form) (a : A) (b : List Bool) (old after : A × List Bool) → IsHeld next b → old ≡ (a, b) → walk step (headed next) old ≡ Ok after → after.0 ≡ kept step a (width (held next b)) (held next b).fields
-seen_within step next a b old after h start e = visited step next a b (held next b) (length b) old after h refl (start ∙ ap (λ (x : List Bool). (a, x)) (sym (whole_part b (length b) refl))) e
-
-pub not_stuck_within : {A : Type 0} (step : A → ℕ → Var → ℕ → A) (next : ℕ → Form) (a : A) (b : List Bool) (old : A × List Bool) (e : LayoutFault) → IsHeld next b → old ≡ (a, b) → walk step (headed next) old ≡ Err e → ⊥
-not_stuck_within step next a b old e h start is = not_stuck step next a b (held next b) (length b) old e h refl (start ∙ ap (λ (x : List Bool). (a, x)) (sym (whole_part b (length b) refl))) is
 
 -- ---- putting a value
 
@@ -81,15 +71,6 @@ unfolding packet
 spelt_where own version b p h =
     let next = next_of own in
     let a = head_of next p.fields p.rest h.form h.numbered in
-    let alone = holds_own next b p h in
     let test : is_known version (value NidPacket 0 p.fields) ≡ is_known version a.number = ap (is_known version) (number_is next p.fields p.rest a) in
-    let m = subst (λ (x : Fields). Matches (headed next) x p.rest) a.is h.form in
-    let iff = next_spelt own version a.number a.more p.rest a.matches in (
-      λ e. record {
-        spelt = refl;
-        form = subst (λ (x : Fields). Matches (headed (body version)) x p.rest) (sym a.is) (refl, m.1, (refl, m.2.1, (refl, m.2.2.1, iff.1 (sym test ∙ e))));
-        numbered = h.numbered;
-        said = alone.said;
-      },
-      λ s. test ∙ iff.0 ((subst (λ (x : Fields). Matches (headed (body version)) x p.rest) a.is s.form).2.2.2),
-    )
+    let iff = next_spelt own version a.number a.more p.rest a.matches in
+    (λ e. spelt_in version own p (holds_own next b p h) e, λ s. test ∙ iff.0 ((subst (λ (x : Fields). Matches (headed (body version)) x p.rest) a.is s.form).2.2.2))

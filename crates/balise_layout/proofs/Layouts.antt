@@ -1,55 +1,35 @@
--- What holds of each layout: it is steady, it is spelt where the version knows its number, and a version reads a number by its layout.
-use Rattle.std.proofs.Common.{◌≡◌, ◌↔◌, ℕ, Bool, true, false, not, ◌||◌, ◌&&◌, cond, eqb, ltb, List, [], ◌∷◌, length, take, drop, Option, Some, None, refl, sym, ap, subst, ◌∙◌}
-use Rattle.std.proofs.lemmas.Bool.{eqb-true, eq-eqb}
+-- What holds of each layout: it is steady, and it is spelt where the version knows its number.
+use Rattle.std.proofs.Common.{◌≡◌, ◌↔◌, ℕ, Bool, true, false, not, ◌||◌, cond, eqb, ltb, List, [], ◌∷◌, length, take, drop, Option, Some, None, refl, sym, ap, subst, ◌∙◌}
+use Rattle.std.proofs.lemmas.Bool.{eqb-true}
 use Rattle.balise_rules.specs.declared.variable.Var.TheVariants.{NidPacket, QDir, LPacket}
 use Rattle.balise_rules.specs.Variables.{width_of, steers}
 use Rattle.balise_rules.specs.Bits.{num}
 use Rattle.balise_rules.specs.Forms.{Form, done, never, plain, Fields, Matches, read_form}
-use Rattle.balise_rules.specs.Packets.{is_known, known_body, body, packet, major}
+use Rattle.balise_rules.specs.Packets.{is_known, known_body, body, packet}
 use Rattle.balise_rules.specs.Steady.{IsSteady}
 use Rattle.balise_rules.proofs.Tables.{steady_if, known_steady, known_fields}
 use Rattle.balise_layout.specs.Held.{headed}
-use Rattle.balise_layout.specs.Layouts.{form_of, takes, next_of, layout_in, SpeltWhere}
+use Rattle.balise_layout.specs.Layouts.{form_of, takes, next_by, next_of, SpeltWhere}
+use Rattle.balise_layout.specs.LayoutLaws.{none_known}
 
 -- ---- what follows the first three fields, as the number says
 
 pub next_own : (own : Option ℕ) (n : ℕ) → takes own n ≡ true → next_of own n ≡ form_of own
-unfolding next_of
+unfolding next_by
 next_own own n e = rw e refl
 
 pub next_other : (own : Option ℕ) (n : ℕ) → takes own n ≡ false → next_of own n ≡ never
-unfolding next_of
+unfolding next_by
 next_other own n e = rw e refl
 
 -- ---- only a variable that isn't set in place says what comes next
 
 pub next_steady : (own : Option ℕ) (n : ℕ) → IsSteady steers (next_of own n)
-unfolding next_of form_of
+unfolding next_by form_of
 next_steady None n = steady_if (takes None n) done never tt tt
 next_steady (Some own) n = steady_if (takes (Some own) n) (known_body own) never (known_steady own) tt
 
 -- ---- which versions spell it
-
-and_false : (b : Bool) → (b && false) ≡ false
-and_false true = refl
-and_false false = refl
-
--- packets 0 and 255 are known in no version
-none_known : (version n : ℕ) → (eqb n 0 || eqb n 255) ≡ true → is_known version n ≡ false
-unfolding is_known
-none_known version n e = at (eqb n 0) (eqb n 255) refl refl e
-  where
-    at : (a b : Bool) → eqb n 0 ≡ a → eqb n 255 ≡ b → (a || b) ≡ true → is_known version n ≡ false
-    at true b p q h = let zero : n ≡ 0 = eqb-true n 0 p in subst (λ (x : ℕ). is_known version x ≡ false) (sym zero) (and_false (eqb (major version) 2))
-    at false true p q h = let last : n ≡ 255 = eqb-true n 255 q in subst (λ (x : ℕ). is_known version x ≡ false) (sym last) (and_false (eqb (major version) 2))
-    at false false p q h = absurd cc
-
-known_real : (version n : ℕ) → is_known version n ≡ true → (eqb n 0 || eqb n 255) ≡ false
-known_real version n known = at (eqb n 0 || eqb n 255) refl
-  where
-    at : (b : Bool) → (eqb n 0 || eqb n 255) ≡ b → b ≡ false
-    at true e = let both : true ≡ false = sym known ∙ none_known version n e in absurd cc
-    at false e = refl
 
 -- what is of a known packet's form, or kept bit for bit, as a version knows the number
 known_there : (version n : ℕ) (fs : Fields) (rest : List Bool) → Matches (known_body n) fs rest → (Matches (body version n) fs rest ↔ (is_known version n ≡ true))
@@ -75,7 +55,7 @@ kept_there version n fs rest real m = rw real (at (is_known version n) fs m)
     at false gs h = (λ _. refl, λ _. h)
 
 pub next_spelt : (own : Option ℕ) → SpeltWhere own
-unfolding next_of form_of takes
+unfolding next_by form_of takes
 next_spelt None version n fs rest m = at (eqb n 0 || eqb n 255) refl m
   where
     at : (b : Bool) → (eqb n 0 || eqb n 255) ≡ b → Matches (cond (not b) done never) fs rest → (Matches (body version n) fs rest ↔ (is_known version n ≡ false))
@@ -86,20 +66,6 @@ next_spelt (Some own) version n fs rest m = at (eqb n own) refl m
     at : (b : Bool) → eqb n own ≡ b → Matches (cond b (known_body own) never) fs rest → (Matches (body version n) fs rest ↔ (is_known version n ≡ true))
     at true e h = known_there version n fs rest (subst (λ (x : ℕ). Matches (known_body x) fs rest) (sym (eqb-true n own e)) h)
     at false e h = absurd h
-
--- ---- by which layout a version reads a number
-
-pub layout_reads : (version n : ℕ) → next_of (layout_in version n) n ≡ body version n
-unfolding next_of form_of takes layout_in body
-layout_reads version n = at (is_known version n) refl
-  where
-    kept : (b : Bool) → cond (not b) done never ≡ cond b never done
-    kept true = refl
-    kept false = refl
-
-    at : (b : Bool) → is_known version n ≡ b → next_of (cond b (Some n) None) n ≡ cond (eqb n 0 || eqb n 255) never (cond b (known_body n) done)
-    at true k = rw (eq-eqb n n refl, known_real version n k) refl
-    at false k = kept (eqb n 0 || eqb n 255)
 
 -- what follows the first three fields is read by the form for the number alone
 pub same_reading : (version n : ℕ) (next : ℕ → Form) (b : List Bool) → num (take 8 b) ≡ n → next n ≡ body version n → read_form (packet version) [] b ≡ read_form (headed next) [] b

@@ -11,4 +11,5 @@ pub mod Elements
 pub mod Refused
 pub mod Nameless
 pub mod GoingOver
+pub mod Lent
 pub mod Values

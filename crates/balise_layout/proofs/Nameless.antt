@@ -1,17 +1,13 @@
 -- Only packets 5 and 136 have elements: what is of another form names nothing.
-use Rattle.std.proofs.Common.{◌≡◌, ℕ, zero, suc, Bool, true, false, cond, eqb, List, [], ◌∷◌, take, drop, Option, Some, None, refl, ap, ◌∙◌}
+use Rattle.std.proofs.Common.{◌≡◌, ℕ, zero, suc, Bool, true, false, cond, eqb, List, [], ◌∷◌, Option, Some, None, refl, ap, ◌∙◌}
 use Rattle.balise_rules.specs.declared.variable.Var.TheVariants.{NidBg}
 use Rattle.balise_rules.specs.Tags.{same_var, is_of}
-use Rattle.balise_rules.specs.Forms.{Form, done, shut, never, valued, repeat, Fields, Matches, read_form}
+use Rattle.balise_rules.specs.Forms.{Form, done, shut, never, valued, repeat, Fields, Matches}
 use Rattle.balise_rules.specs.Packets.{counted, gradient, gradients, difference, section, speeds, level, levels, restriction, revocation, known_body}
-use Rattle.balise_rules.specs.Packet.{Packet, read_packet, read_first}
+use Rattle.balise_rules.specs.Packet.{Packet}
 use Rattle.balise_rules.specs.Names.{links_among, links_of}
-use Rattle.balise_layout.specs.First.{links_read, Bounded}
 use Rattle.balise_layout.specs.Held.{headed, Holds}
-use Rattle.balise_layout.specs.Layouts.{form_of, takes, next_of, layout_in, Nameless}
-use Rattle.balise_layout.proofs.Layouts.{layout_reads, same_reading}
-use Rattle.balise_layout.proofs.Refused.{bounded_reads, bounded_number}
-use Rattle.balise_layout.proofs.Spelt.{read_is}
+use Rattle.balise_layout.specs.Layouts.{form_of, takes, next_by, next_of, Nameless}
 
 -- ---- what forms are made of
 
@@ -95,7 +91,7 @@ unfolding form_of
 nameless_kept = tt
 
 nameless_next : (own : Option ℕ) → Nameless (form_of own) → (n : ℕ) → Nameless (next_of own n)
-unfolding next_of
+unfolding next_by
 nameless_next own s n = nameless_if (takes own n) _ never s tt
 
 nameless_headed : (own : Option ℕ) → Nameless (form_of own) → Nameless (headed (next_of own))
@@ -115,13 +111,3 @@ among_none c (valued v next) all (f ∷ fs) rest s m =
 -- a packet that is held
 pub held_nameless : (c : ℕ) (own : Option ℕ) (b : List Bool) (p : Packet) → Nameless (form_of own) → Holds (next_of own) b p → links_of c p ≡ []
 held_nameless c own b p s h = among_none c (headed (next_of own)) p.fields p.fields p.rest (nameless_headed own s) h.form
-
--- a packet that may stand at the front of bits
-pub read_nameless : (c version n size : ℕ) (own : Option ℕ) (b : List Bool) → Nameless (form_of own) → Bounded b n size → own ≡ layout_in version n → links_read c (read_first version b) ≡ []
-read_nameless c version n size own b s h is =
-    let same = same_reading version n (next_of own) (take size b) (bounded_number n size b h) (ap (λ (o : Option ℕ). next_of o n) is ∙ layout_reads version n) in
-    ap (links_read c) (bounded_reads version n size b h ∙ ap (read_packet (drop size b)) same) ∙ at (read_form (headed (next_of own)) [] (take size b)) refl
-  where
-    at : (o : Option (Fields × List Bool)) → read_form (headed (next_of own)) [] (take size b) ≡ o → links_read c (read_packet (drop size b) o) ≡ []
-    at None e = refl
-    at (Some r) e = among_none c (headed (next_of own)) r.0 r.0 r.1 (nameless_headed own s) (read_is (headed (next_of own)) (take size b) r.0 r.1 e).matches

@@ -34,7 +34,7 @@ IsHeld next b = Holds next b (held next b)
 abbrev pub with_field : Var → ℕ → ℕ → Packet → Packet
 with_field v k n p = record { fields = with_value v k n p.fields; rest = p.rest }
 
--- with so many bits more before it
+-- with w bits more before it
 abbrev pub further : ℕ → Option ℕ → Option ℕ
 further w None = None
 further w (Some n) = Some (w + n)

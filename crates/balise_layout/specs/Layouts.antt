@@ -15,15 +15,19 @@ unfoldable pub takes : Option ℕ → ℕ → Bool
 takes None n = not (n == 0 || n == 255)
 takes (Some own) n = n == own
 
--- what follows the first three fields, as the number says
-unfoldable pub next_of : Option ℕ → ℕ → Form
-next_of own n = if takes own n then form_of own else never
+-- what follows the first three fields, as the number says, where packets of the layout have this form
+unfoldable pub next_by : Option ℕ → Form → ℕ → Form
+next_by own form n = if takes own n then form else never
+
+-- the same by the form that the rules have for the layout
+abbrev pub next_of : Option ℕ → ℕ → Form
+next_of own = next_by own (form_of own)
 
 -- the layout by which a version reads a number
 unfoldable pub layout_in : ℕ → ℕ → Option ℕ
 layout_in version n = if is_known version n then Some n else None
 
--- The version spells what has this layout exactly where it knows the number or, of a packet kept bit for bit, where it doesn't.
+-- What has this layout is well-formed in a version exactly where it knows the number or, of a packet kept bit for bit, where it doesn't.
 abbrev pub SpeltWhere : Option ℕ → Type 0
 SpeltWhere own = (version n : ℕ) (fs : Fields) (rest : List Bool) → Matches (next_of own n) fs rest → (Matches (body version n) fs rest ↔ (is_known version n ≡ is_some own))
 

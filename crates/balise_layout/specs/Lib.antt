@@ -10,6 +10,7 @@ pub mod Kinds
 pub mod First
 pub mod Setting
 pub mod Laws
+pub mod LayoutLaws
 pub use Rattle.balise_rules.specs.Variables
 pub use Rattle.balise_rules.specs.Refusals
 pub use Rattle.balise_rules.specs.Bits

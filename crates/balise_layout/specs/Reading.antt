@@ -7,11 +7,11 @@ use Rattle.balise_layout.specs.declared.fault.LayoutFault.{LayoutFault}
 use Rattle.balise_layout.specs.declared.fault.LayoutFault.TheVariants.{LayoutMismatch, OutOfMemory}
 use Rattle.balise_layout.specs.Walks.{walk}
 
--- the fault is no want of memory of a visitor that may lack it
+-- the fault isn't that a visitor ran out of memory
 abbrev pub Sure : Bool → LayoutFault → Type 0
 Sure allocates e = e ≡ OutOfMemory → allocates ≡ false
 
--- The part is gone over: whatever stands behind it is gone over from the new state. Or, want of memory aside, no walk goes on this way.
+-- The part is gone over: whatever stands after it is gone over from the new state. Or no walk goes on this way, unless memory runs out.
 abbrev pub Reads : {A : Type 0} → Bool → (A → ℕ → Var → ℕ → A) → (Form → Form) → A × List Bool → Result (Unit {0}) LayoutFault → A × List Bool → Type 0
 Reads allocates step part old (Ok x) new = (rest : Form) → walk step (part rest) old ≡ walk step rest new
 Reads allocates step part old (Err e) new = (rest : Form) → Sure allocates e → walk step (part rest) old ≡ Err e
@@ -26,7 +26,7 @@ abbrev pub Ends : {A : Type 0} → Bool → (A → ℕ → Var → ℕ → A) �
 Ends allocates step form old (Ok x) new = walk step form old ≡ Ok new
 Ends allocates step form old (Err e) new = Sure allocates e → walk step form old ≡ Err e
 
--- What reading all of some bits by a form answers, want of memory aside.
+-- What reading all of some bits by a form answers, unless memory runs out.
 abbrev pub Gives : {X : Type 0} → (X → Packet) → Form → List Bool → Result X LayoutFault → Type 0
 Gives shown form b (Ok x) = read_form form [] b ≡ Some ((shown x).fields, (shown x).rest)
 Gives shown form b (Err e) = e ≢ OutOfMemory → (e ≡ LayoutMismatch) × (read_form form [] b ≡ None)

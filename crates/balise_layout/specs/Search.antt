@@ -12,7 +12,7 @@ look_from s left v None =
     else record { var = s.var; skip = s.skip - 1; found = None }
     else s
 
--- one field more looked at, with so many bits from it on
+-- one field more looked at, with `left` bits from it on
 abbrev pub look : Search → ℕ → Var → ℕ → Search
 look s left v n = look_from s left v s.found
 

@@ -17,7 +17,7 @@ walk step (valued v next) s =
     if nat_lt (length s.1) (width_of v) then Err LayoutMismatch
     else walk step (next (num (take (width_of v) s.1))) (step s.0 (length s.1) v (num (take (width_of v) s.1)), drop (width_of v) s.1)
 
--- what is kept of fields, where so many bits stand from the first of them on
+-- what is kept of fields, where `left` bits stand from the first of them on
 abbrev pub kept : {A : Type 0} → (A → ℕ → Var → ℕ → A) → A → ℕ → Fields → A
 kept step a left [] = a
 kept step a left (f ∷ fs) = kept step (step a left f.0.0 f.1) (left - width_of f.0.0) fs

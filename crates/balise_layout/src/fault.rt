@@ -64,7 +64,7 @@ impl<T: Drop> From<AllocFailed<T>> for LayoutFault {
     }
 }
 
-/// The calls of bits that packets make lack nothing but memory.
+/// The calls of bits that packets make fail only where memory runs out.
 impl From<BitsFault> for LayoutFault {
     ghost use Rattle.balise_layout.specs.declared.fault.LayoutFault.TheVariants.{OutOfMemory};
 

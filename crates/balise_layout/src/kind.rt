@@ -18,7 +18,7 @@ use crate::walker::Walker;
 
 /// A kind of packets.
 #[derive(Clone, Copy, Debug, PartialEq, Eq)]
-pub enum Kind {
+pub enum PacketKind {
     /// Packet 5.
     Linking,
     /// Packet 21.
@@ -37,22 +37,22 @@ pub enum Kind {
     Opaque,
 }
 
-impl Kind {
+impl PacketKind {
     /// The kind of the packets of a number in telegrams of this M_VERSION: 27 and 41 are known where its first
     /// part is 2, the others in each version.
     #[tactic(auto, unfolding(balise_rules::specs::Packets::is_known, crate::specs::Layouts::layout_in))]
-    pub fn of(version: u32, number: u32) -> Kind
+    pub fn of(version: u32, number: u32) -> PacketKind
         ensures { number_of result ≡ layout_in version number }
     {
         match number {
-            5 => Kind::Linking,
-            21 => Kind::GradientProfile,
-            27 if version / 16 == 2 => Kind::SpeedProfile,
-            41 if version / 16 == 2 => Kind::LevelTransition,
-            65 => Kind::SpeedRestriction,
-            66 => Kind::Revocation,
-            136 => Kind::InfillLocation,
-            _ => Kind::Opaque,
+            5 => PacketKind::Linking,
+            21 => PacketKind::GradientProfile,
+            27 if version / 16 == 2 => PacketKind::SpeedProfile,
+            41 if version / 16 == 2 => PacketKind::LevelTransition,
+            65 => PacketKind::SpeedRestriction,
+            66 => PacketKind::Revocation,
+            136 => PacketKind::InfillLocation,
+            _ => PacketKind::Opaque,
         }
     }
 
@@ -60,7 +60,7 @@ impl Kind {
     pub fn is_known(self) -> bool
         ensures { result ≡ is_some (number_of self) }
     {
-        !matches!(self, Kind::Opaque)
+        !matches!(self, PacketKind::Opaque)
     }
 
     /// Whether its packets have elements, which name identities: those of packets 5 and 136 do.
@@ -68,7 +68,7 @@ impl Kind {
     pub(crate) fn has_elements(self) -> bool
         ensures { result ≡ false → Nameless (form_of (number_of self)) }
     {
-        matches!(self, Kind::Linking | Kind::InfillLocation)
+        matches!(self, PacketKind::Linking | PacketKind::InfillLocation)
     }
 
     /// Goes over a whole packet of this kind.
@@ -76,14 +76,14 @@ impl Kind {
         ensures { Ends V.allocates V.step (headed (next_of (number_of self))) walker.old result walker.new }
     {
         match self {
-            Kind::Linking => Linking::walk_whole(walker),
-            Kind::GradientProfile => GradientProfile::walk_whole(walker),
-            Kind::SpeedProfile => SpeedProfile::walk_whole(walker),
-            Kind::LevelTransition => LevelTransition::walk_whole(walker),
-            Kind::SpeedRestriction => SpeedRestriction::walk_whole(walker),
-            Kind::Revocation => Revocation::walk_whole(walker),
-            Kind::InfillLocation => InfillLocation::walk_whole(walker),
-            Kind::Opaque => Opaque::walk_whole(walker),
+            PacketKind::Linking => Linking::walk_whole(walker),
+            PacketKind::GradientProfile => GradientProfile::walk_whole(walker),
+            PacketKind::SpeedProfile => SpeedProfile::walk_whole(walker),
+            PacketKind::LevelTransition => LevelTransition::walk_whole(walker),
+            PacketKind::SpeedRestriction => SpeedRestriction::walk_whole(walker),
+            PacketKind::Revocation => Revocation::walk_whole(walker),
+            PacketKind::InfillLocation => InfillLocation::walk_whole(walker),
+            PacketKind::Opaque => Opaque::walk_whole(walker),
         }
     }
 }
@@ -93,5 +93,5 @@ impl Kind {
 pub fn is_known(version: u32, number: u32) -> bool
     ensures { result ≡ is_known version number }
 {
-    Kind::of(version, number).is_known()
+    PacketKind::of(version, number).is_known()
 }

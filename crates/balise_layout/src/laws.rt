@@ -10,27 +10,27 @@ pub fn is_steady<L: Layout>()
     ensures { IsSteadyLayout L.NUMBER }
 {}
 
-/// The versions that know its number spell a packet of this layout, or of one kept bit for bit, the others.
+/// A packet of this layout is well-formed in the versions that know its number. One kept bit for bit is so in the others.
 pub fn spelt_where_known<L: Layout>()
     ensures { SpeltWhere L.NUMBER }
 {}
 
 /// What is written of a packet of this layout is read as the same packet, whatever follows.
 pub fn written_is_read<L: Layout>()
-    ensures { WrittenIsRead L.NUMBER }
+    ensures { WrittenIsRead L.NUMBER L.form }
 {}
 
 /// What is written of a packet of this layout is as long as its L_PACKET says.
 pub fn as_long_as_said<L: Layout>()
-    ensures { IsAsLongAsSaid L.NUMBER }
+    ensures { IsAsLongAsSaid L.NUMBER L.form }
 {}
 
-/// A packet of this layout has one spelling, and its bits are of no other packet.
+/// A packet of this layout has one encoding, and its bits are of no other packet.
 pub fn one_spelling<L: Layout>()
-    ensures { HasOneSpelling L.NUMBER }
+    ensures { HasOneSpelling L.NUMBER L.form }
 {}
 
-/// A packet is read exactly where the bits begin with one that the version spells.
+/// A packet is read exactly where the bits begin with one that is well-formed in the version.
 pub fn reads_what_is_spelt()
     ensures { ReadsWhatIsSpelt }
 {}
@@ -40,7 +40,7 @@ pub fn spells_once()
     ensures { SpellsOnce }
 {}
 
-/// Setting a field leaves a packet spelt, and as long.
+/// Setting a field leaves a packet well-formed, and as long.
 pub fn setting_keeps()
     ensures { SettingKeeps }
 {}

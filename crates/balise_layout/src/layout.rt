@@ -5,6 +5,8 @@ ghost use Rattle.balise_rules.specs.Forms.{Form};
 ghost use Rattle.balise_layout.specs.Reading.{Ends};
 ghost use Rattle.balise_layout.specs.Held.{headed};
 ghost use Rattle.balise_layout.specs.Layouts.{form_of, next_of, takes};
+ghost use Rattle.balise_layout.specs.Laws.{HasOneSpelling, IsAsLongAsSaid, WrittenIsRead};
+ghost use Rattle.balise_layout.specs.LayoutLaws.{long_as_said, reads_written, spelt_once};
 
 use crate::fault::LayoutFault;
 use crate::visit::Visit;
@@ -27,6 +29,15 @@ pub trait Layout {
 
     // It is the form that the rules have for the number.
     ghost ruled: { form_of NUMBER ≡ form };
+
+    // What is written of its packets is read as the same packet, whatever follows.
+    ghost written_is_read: { WrittenIsRead NUMBER form } = { reads_written NUMBER form ruled };
+
+    // What is written of its packets is as long as L_PACKET says.
+    ghost as_long_as_said: { IsAsLongAsSaid NUMBER form } = { long_as_said NUMBER form };
+
+    // A packet has one encoding, and its bits are of no other packet.
+    ghost one_spelling: { HasOneSpelling NUMBER form } = { spelt_once NUMBER form };
 
     /// Whether a packet of this number may have the layout.
     #[tactic(auto, unfolding(crate::specs::Layouts::takes))]

@@ -10,6 +10,7 @@ pub mod laws;
 mod layout;
 mod links;
 mod packet;
+mod packet_ref;
 mod parts;
 mod search;
 mod tables;
@@ -17,11 +18,12 @@ mod visit;
 mod walker;
 
 pub use balise_bits::{Bits, BitsFault};
-pub use balise_rules::{Id, Var};
+pub use balise_rules::{Id, Refusal, Tag, Var};
 pub use fault::LayoutFault;
-pub use kind::{Kind, is_known};
+pub use kind::{PacketKind, is_known};
 pub use layout::Layout;
 pub use packet::Packet;
+pub use packet_ref::PacketRef;
 pub use tables::{
     GradientProfile, InfillLocation, LevelTransition, Linking, Opaque, Revocation, SpeedProfile,
     SpeedRestriction,

@@ -12,7 +12,7 @@ use crate::walker::Walker;
 use balise_rules::Var;
 
 /// A part of a packet that may stand several times.
-pub(crate) trait Part {
+pub(crate) trait Repeated {
     /// Its fields, before those that follow.
     ghost form: { Form → Form };
 
@@ -23,7 +23,7 @@ pub(crate) trait Part {
 
 /// N_ITER and as many parts.
 #[tactic(auto, unfolding(balise_rules::specs::Packets::counted), using(crate::proofs::Walks::repeat_next, crate::proofs::Walks::repeat_last))]
-pub(crate) fn walk_counted<P: Part, V: Visit + Drop>(
+pub(crate) fn walk_counted<P: Repeated, V: Visit + Drop>(
     walker: &mut Walker<V>,
 ) -> Result<(), LayoutFault>
     ensures { Reads V.allocates V.step (counted P.form) walker.old result walker.new }
@@ -38,7 +38,7 @@ pub(crate) fn walk_counted<P: Part, V: Visit + Drop>(
 /// An element of packet 5.
 pub(crate) struct Link;
 
-impl Part for Link {
+impl Repeated for Link {
     ghost use Rattle.balise_rules.specs.Packets.{link};
 
     ghost form = { link };
@@ -61,7 +61,7 @@ impl Part for Link {
 /// A gradient of packet 21.
 pub(crate) struct Gradient;
 
-impl Part for Gradient {
+impl Repeated for Gradient {
     ghost use Rattle.balise_rules.specs.Packets.{gradient};
 
     ghost form = { gradient };
@@ -78,7 +78,7 @@ impl Part for Gradient {
 /// A speed for one category of trains; Q_DIFF 3 is spare.
 pub(crate) struct Difference;
 
-impl Part for Difference {
+impl Repeated for Difference {
     ghost use Rattle.balise_rules.specs.Packets.{difference};
 
     ghost form = { difference };
@@ -102,7 +102,7 @@ impl Part for Difference {
 /// A section of packet 27.
 pub(crate) struct Section;
 
-impl Part for Section {
+impl Repeated for Section {
     ghost use Rattle.balise_rules.specs.Packets.{section};
 
     ghost form = { section };
@@ -120,7 +120,7 @@ impl Part for Section {
 /// A level; M_LEVELTR 1, level NTC, is followed by the national system.
 pub(crate) struct Level;
 
-impl Part for Level {
+impl Repeated for Level {
     ghost use Rattle.balise_rules.specs.Packets.{level};
 
     ghost form = { level };

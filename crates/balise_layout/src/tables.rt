@@ -2,7 +2,7 @@
 
 use crate::fault::LayoutFault;
 use crate::layout::Layout;
-use crate::parts::{Difference, Gradient, Level, Link, Part, Section, walk_counted};
+use crate::parts::{Difference, Gradient, Level, Link, Repeated, Section, walk_counted};
 use crate::visit::Visit;
 use crate::walker::Walker;
 use balise_rules::Var;
@@ -192,7 +192,7 @@ impl Layout for InfillLocation {
     ghost ruled = { unfold form_of known_body in refl };
 }
 
-/// A packet that isn't known, kept bit for bit behind its first three fields.
+/// A packet that isn't known, kept bit for bit after its first three fields.
 pub struct Opaque;
 
 impl Layout for Opaque {

@@ -9,7 +9,7 @@ use balise_rules::Var;
 
 /// Goes along a packet and is told of each field. After an error it is asked no more.
 pub trait Visit: Sized {
-    /// Whether it takes memory, and so may lack it.
+    /// Whether it takes memory, and so may run out of it.
     ghost allocates: { Bool };
 
     /// What it keeps, given how many bits stand from the field on, the variable and the value.

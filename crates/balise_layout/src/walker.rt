@@ -44,7 +44,7 @@ impl<'a, V: Visit + Drop> Walker<'a, V> {
         }
     }
 
-    /// Goes over one field and answers its value.
+    /// Goes over one field and returns its value.
     #[inline(always)]
     pub fn take(&mut self, var: Var) -> Result<u32, LayoutFault>
         ensures { Takes V.allocates V.step var self.old result self.new }

@@ -1,6 +1,7 @@
 //! The longest packets of a long telegram: read, with all their fields and elements.
 
-use crate::packets::{check_digits, check_fields_in, check_hex, packet_of};
+use crate::lent::check_lent;
+use crate::packets::{check_digits, check_hex, packet_of};
 use balise_bits::Bits;
 use balise_layout::{Id, Packet, Var};
 use std::alloc::Global;
@@ -137,9 +138,14 @@ fn a_packet_5_of_19_elements_is_read(rt: HostRuntime) {
     check_most(&rt, packet.links(5).expect(&rt, "memory").as_slice());
 }
 
+fn check_standing(rt: &impl Abort, alloc: Global, digits: &str) {
+    let bits = Bits::digits(alloc, digits).expect(rt, "memory");
+    check_lent(rt, &bits, 0, 33, digits);
+}
+
 #[test]
-fn fields_of_the_longest_packets_are_listed_where_they_stand(rt: HostRuntime) {
+fn the_longest_packets_of_telegrams_are_lent(rt: HostRuntime) {
     for digits in &[MOST_DIFFERENCES, FULL_LINKS, MOST_ELEMENTS] {
-        check_fields_in(&rt, rt.alloc(), digits, 33);
+        check_standing(&rt, rt.alloc(), digits);
     }
 }

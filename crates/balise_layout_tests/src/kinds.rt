@@ -10,32 +10,32 @@ use balise_layout::laws::{
     spelt_where_known, written_is_read,
 };
 use balise_layout::{
-    GradientProfile, InfillLocation, Kind, Layout, LevelTransition, Linking, Opaque, Packet,
+    GradientProfile, InfillLocation, Layout, LevelTransition, Linking, Opaque, Packet, PacketKind,
     Revocation, SpeedProfile, SpeedRestriction, Var, is_known,
 };
 use std::alloc::Global;
 use std::process::Abort;
 
 // A packet in digits, the version of its telegram, and its kind.
-type Row = (&'static str, u32, Kind);
+type Row = (&'static str, u32, PacketKind);
 
 const ROWS: [Row; 10] = [
-    (LINKS, 33, Kind::Linking),
-    (GRADIENTS, 33, Kind::GradientProfile),
-    (SPEEDS, 33, Kind::SpeedProfile),
-    (SPEEDS, 16, Kind::Opaque),
-    (LEVELS, 33, Kind::LevelTransition),
-    (LEVELS, 16, Kind::Opaque),
-    (RESTRICTION, 16, Kind::SpeedRestriction),
-    (REVOCATION, 33, Kind::Revocation),
-    (INFILL, 16, Kind::InfillLocation),
-    (OPAQUE, 33, Kind::Opaque),
+    (LINKS, 33, PacketKind::Linking),
+    (GRADIENTS, 33, PacketKind::GradientProfile),
+    (SPEEDS, 33, PacketKind::SpeedProfile),
+    (SPEEDS, 16, PacketKind::Opaque),
+    (LEVELS, 33, PacketKind::LevelTransition),
+    (LEVELS, 16, PacketKind::Opaque),
+    (RESTRICTION, 16, PacketKind::SpeedRestriction),
+    (REVOCATION, 33, PacketKind::Revocation),
+    (INFILL, 16, PacketKind::InfillLocation),
+    (OPAQUE, 33, PacketKind::Opaque),
 ];
 
-fn check_kind(rt: &impl Abort, packet: &Packet, version: u32, kind: Kind) {
+fn check_kind(rt: &impl Abort, packet: &Packet, version: u32, kind: PacketKind) {
     assert!(rt; packet.kind() == kind);
-    assert!(rt; Kind::of(version, packet.number()) == kind);
-    assert!(rt; kind.is_known() == (kind != Kind::Opaque));
+    assert!(rt; PacketKind::of(version, packet.number()) == kind);
+    assert!(rt; kind.is_known() == (kind != PacketKind::Opaque));
 }
 
 #[test]

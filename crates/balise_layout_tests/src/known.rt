@@ -2,17 +2,17 @@
 
 use crate::packets::{
     GRADIENTS, INFILL, INFILL_ABROAD, LEVELS, LINK, LINKS, OPAQUE, RESTRICTION, REVOCATION, SPEEDS,
-    check_digits, check_fields, check_fields_in, packet_of,
+    check_digits, check_fields, packet_of,
 };
 use balise_bits::Bits;
-use balise_layout::{Id, Packet, Var};
+use balise_layout::{Id, Packet, PacketRef, Var};
 use std::alloc::Global;
 use std::process::Abort;
 
 // A packet in digits, the version of its telegram, its length, number and direction.
-type Row = (&'static str, u32, usize, u32, u32);
+pub(crate) type Row = (&'static str, u32, usize, u32, u32);
 
-const ROWS: [Row; 12] = [
+pub(crate) const ROWS: [Row; 12] = [
     (LINKS, 33, 118, 5, 1),
     (LINK, 33, 69, 5, 1),
     (GRADIENTS, 33, 78, 21, 1),
@@ -30,8 +30,6 @@ const ROWS: [Row; 12] = [
 // That the packet that stands alone in these bits is checked and found there.
 fn check_bits(rt: &impl Abort, bits: &Bits, row: &Row) {
     assert!(rt; Packet::check(bits, 0, row.1) == Ok(row.2));
-    assert!(rt; Packet::place_in(bits, 0, row.1, Var::LPacket, 0) == Some(10));
-    assert!(rt; Packet::place_in(bits, 0, row.1, Var::LPacket, 1).is_none());
 }
 
 fn check_packet(rt: &impl Abort, packet: &Packet, row: &Row) {
@@ -57,13 +55,6 @@ fn check_row(rt: &impl Abort, alloc: Global, row: &Row) {
 fn packets_are_read_and_written(rt: HostRuntime) {
     for row in &ROWS {
         check_row(&rt, rt.alloc(), row);
-    }
-}
-
-#[test]
-fn fields_are_listed_where_a_packet_stands(rt: HostRuntime) {
-    for row in &ROWS {
-        check_fields_in(&rt, rt.alloc(), row.0, row.1);
     }
 }
 
@@ -203,19 +194,19 @@ const NAMED: [Named; 6] = [
     (OPAQUE, 33, &[]),
 ];
 
-// That the elements of the packet from bit 50 on are listed there, and none before.
-fn check_links_in(rt: &impl Abort, bits: &Bits, version: u32, expected: &[Id]) {
-    let links = Packet::links_in(bits, 50, version, 5);
-    assert!(rt; links.expect(rt, "memory").as_slice() == expected);
-    let none = Packet::links_in(bits, 49, version, 5);
-    assert!(rt; none.expect(rt, "memory").is_empty());
+// That the elements of the packet at a place are listed there.
+fn check_links_in(rt: &impl Abort, bits: &Bits, at: usize, row: &Named) {
+    let (packet, _) = Packet::read(bits, at, row.1).expect(rt, "a packet");
+    check_links(rt, &packet, row.2);
+    let links = PacketRef::new(bits, at, row.1).links(5);
+    assert!(rt; links.expect(rt, "memory").as_slice() == row.2);
 }
 
 fn check_named(rt: &impl Abort, packet: &Packet, alloc: Global, row: &Named) {
     let mut bits = Bits::new(alloc);
     bits.push_zeros(50).expect(rt, "memory");
     packet.write(&mut bits).expect(rt, "memory");
-    check_links_in(rt, &bits, row.1, row.2);
+    check_links_in(rt, &bits, 50, row);
 }
 
 #[test]

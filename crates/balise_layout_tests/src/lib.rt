@@ -10,6 +10,10 @@ mod kinds;
 #[cfg(test)]
 mod known;
 #[cfg(test)]
+mod largest;
+#[cfg(test)]
+mod lent;
+#[cfg(test)]
 mod packets;
 #[cfg(test)]
 mod setting;

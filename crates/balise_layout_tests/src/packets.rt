@@ -58,21 +58,3 @@ pub(crate) fn check_fields(rt: &impl Abort, packet: &Packet, expected: &[(Var, u
     let fields = packet.fields().expect(rt, "memory");
     assert!(rt; fields.as_slice() == expected);
 }
-
-// That the fields listed where the packet stands are those of the packet that is read, and none behind it.
-pub(crate) fn check_fields_in(rt: &impl Abort, alloc: Global, digits: &str, version: u32) {
-    let bits = Bits::digits(alloc, digits).expect(rt, "memory");
-    check_own_fields(rt, &bits, version);
-    let none = Packet::fields_in(&bits, bits.len(), version);
-    assert!(rt; none.expect(rt, "memory").is_empty())
-}
-
-fn check_own_fields(rt: &impl Abort, bits: &Bits, version: u32) {
-    let packet = Packet::read(bits, 0, version).expect(rt, "a packet").0;
-    check_listed(rt, bits, version, &packet);
-}
-
-fn check_listed(rt: &impl Abort, bits: &Bits, version: u32, packet: &Packet) {
-    let fields = Packet::fields_in(bits, 0, version).expect(rt, "memory");
-    check_fields(rt, packet, fields.as_slice());
-}

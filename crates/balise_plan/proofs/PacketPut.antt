@@ -23,7 +23,7 @@ use Rattle.balise_rules.proofs.Cases.{found, unsome}
 use Rattle.balise_rules.proofs.Found.{field_fits}
 use Rattle.balise_telegram.specs.declared.fault.TelegramFault.{TelegramFault}
 use Rattle.balise_telegram.specs.Faults.{refusal_of}
-use Rattle.balise_telegram.specs.Balise.{InsertsOrWants}
+use Rattle.balise_telegram.specs.Changes.{InsertsOrWants}
 use Rattle.balise_telegram.specs.Moving.{insert_refusal}
 use Rattle.balise_plan.specs.declared.links.LinkPlace.{LinkPlace}
 use Rattle.balise_plan.specs.declared.spot.Spot.{Spot}

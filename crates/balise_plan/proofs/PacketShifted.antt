@@ -29,7 +29,7 @@ use Rattle.balise_edit_laws.proofs.Refusing.{refused_exactly}
 use Rattle.balise_edit_laws.proofs.GroupsKept.{telegram_kept}
 use Rattle.balise_telegram.specs.declared.fault.TelegramFault.TheVariants as faults
 use Rattle.balise_telegram.specs.Faults.{refusal_of}
-use Rattle.balise_telegram.specs.Balise.{OrWants}
+use Rattle.balise_telegram.specs.Changes.{OrWants}
 use Rattle.balise_telegram.specs.Moving.{Shifts, ShiftsBefore, shift_before_refusal, moved_before}
 use Rattle.balise_plan.specs.declared.links.LinkPlace.{LinkPlace}
 use Rattle.balise_plan.specs.declared.spot.Spot.{Spot}

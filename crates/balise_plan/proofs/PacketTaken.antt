@@ -22,7 +22,7 @@ use Rattle.balise_rules.proofs.Lists.{find-without, find-without_same}
 use Rattle.balise_edit_laws.proofs.GroupsKept.{telegram_kept}
 use Rattle.balise_telegram.specs.declared.fault.TelegramFault.TheVariants as faults
 use Rattle.balise_telegram.specs.Faults.{refusal_of}
-use Rattle.balise_telegram.specs.Balise.{OrWants}
+use Rattle.balise_telegram.specs.Changes.{OrWants}
 use Rattle.balise_telegram.specs.Moving.{TakesOut}
 use Rattle.balise_telegram.specs.Packed.{links_at, links_found}
 use Rattle.balise_plan.specs.declared.links.LinkPlace.{LinkPlace}

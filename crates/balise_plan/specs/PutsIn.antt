@@ -7,7 +7,7 @@ use Rattle.balise_rules.specs.Packet.{Packet}
 use Rattle.balise_rules.specs.Telegram.{Telegram}
 use Rattle.balise_telegram.specs.declared.fault.TelegramFault.{TelegramFault}
 use Rattle.balise_telegram.specs.Faults.{refusal_of}
-use Rattle.balise_telegram.specs.Balise.{InsertsOrWants}
+use Rattle.balise_telegram.specs.Changes.{InsertsOrWants}
 use Rattle.balise_telegram.specs.Moving.{Shifts, ShiftsBefore}
 use Rattle.balise_plan.specs.declared.spot.Spot.{Spot}
 use Rattle.balise_plan.specs.declared.spot.Spot.TheVariants.{After, Before}

@@ -11,13 +11,13 @@ ghost use Rattle.balise_rules.specs.Plan.{Group as GroupValue, identity_of};
 ghost use Rattle.balise_rules.specs.Tagged.{find as under};
 
 use balise_rules::Id;
-use balise_telegram::Balise;
+use balise_telegram::Telegram;
 use std::marker::Model;
 
 /// A group.
 #[derive(Drop)]
 pub struct Group {
-    telegrams: Vec<(u32, Balise)>,
+    telegrams: Vec<(u32, Telegram)>,
 }
 
 impl Model for Group {
@@ -48,7 +48,7 @@ impl Group {
     }
 
     /// The telegram with this tag.
-    pub fn telegram(&self, t: u32) -> Option<&Balise>
+    pub fn telegram(&self, t: u32) -> Option<&Telegram>
         ensures { option_map (λ b. b.now) result ≡ under eqb t self.now }
     {
         match find(&self.telegrams, t) {
@@ -58,7 +58,7 @@ impl Group {
     }
 
     /// The telegram at a place, with its tag.
-    pub fn at(&self, pig: usize) -> Option<(u32, &Balise)>
+    pub fn at(&self, pig: usize) -> Option<(u32, &Telegram)>
         ensures { option_map (λ p. (p.0, p.1.now)) result ≡ slice_get self.now pig }
     {
         match self.telegrams.get(pig) {
@@ -69,14 +69,14 @@ impl Group {
 }
 
 // The place of the telegram with this tag.
-fn find(telegrams: &Vec<(u32, Balise)>, t: u32) -> Option<usize>
+fn find(telegrams: &Vec<(u32, Telegram)>, t: u32) -> Option<usize>
     ensures { result ≡ position (λ q. eqb t q.0) telegrams.now.items }
 {
     telegrams.iter().position(|q| t == q.0)
 }
 
 // The identity of the first telegram.
-fn identity(telegrams: &Vec<(u32, Balise)>) -> Id
+fn identity(telegrams: &Vec<(u32, Telegram)>) -> Id
     ensures { result ≡ identity_of telegrams.now.items }
 {
     match telegrams.get(0) {

@@ -15,7 +15,7 @@ use crate::links::LinkPlace;
 use crate::links_of::count;
 use crate::names::{add, forget};
 use balise_rules::{Id, Refusal, Tag};
-use balise_telegram::Balise;
+use balise_telegram::Telegram;
 use std::alloc::{AllocError, Global};
 
 /// Each link of a group with its place, in order.
@@ -30,10 +30,10 @@ pub(crate) fn links_in(
 {
     let mut found = Vec::new(alloc);
     for i in 0..group.count() {
-        let Some((t, balise)) = group.at(i) else {
+        let Some((t, telegram)) = group.at(i) else {
             return Ok(found);
         };
-        add_telegram(&mut found, g, t, balise)?;
+        add_telegram(&mut found, g, t, telegram)?;
     }
     Ok(found)
 }
@@ -42,13 +42,13 @@ fn add_telegram(
     found: &mut Vec<(Id, LinkPlace)>,
     g: Tag,
     t: u32,
-    balise: &Balise,
+    telegram: &Telegram,
 ) -> Result<(), Refusal>
-    requires { used balise.now.packets ≤ 830 }
-    ensures ok { OnOk result (found.new.items ≡ found.old.items ++ links_in_packets g t (country_of balise.now) balise.now.packets) }
+    requires { used telegram.now.packets ≤ 830 }
+    ensures ok { OnOk result (found.new.items ≡ found.old.items ++ links_in_packets g t (country_of telegram.now) telegram.now.packets) }
     ensures fault { IsOkUnless result Refusal.OutOfMemory }
 {
-    let linking = balise.linking()?;
+    let linking = telegram.linking()?;
     for (p, links) in &linking {
         add_packet(found, g, t, *p, links)?;
     }

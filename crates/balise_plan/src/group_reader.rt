@@ -7,14 +7,14 @@ ghost use Rattle.balise_rules.specs.Plan.{read_group, IsSoundGroup};
 use crate::group::Group;
 use balise_bits::Bits;
 use balise_rules::Refusal;
-use balise_telegram::Balise;
+use balise_telegram::Telegram;
 use std::alloc::Global;
 use std::marker::Model;
 
 /// A group to be: the telegrams that were read so far, tagged by their places from 0.
 #[derive(Drop)]
 pub struct GroupReader {
-    telegrams: Vec<(u32, Balise)>,
+    telegrams: Vec<(u32, Telegram)>,
 }
 
 impl Model for GroupReader {
@@ -47,7 +47,7 @@ impl GroupReader {
 
     /// Reads one telegram more.
     ///
-    /// Refused in this order: `GroupSize` for a ninth, which isn't looked at, then as `Balise::read` refuses.
+    /// Refused in this order: `GroupSize` for a ninth, which isn't looked at, then as `Telegram::of_bits` refuses.
     /// `OutOfMemory` may stand in place of any answer but `GroupSize`. A refusal leaves the group as it was.
     pub fn push(&mut self, bits: Bits) -> Result<(), Refusal>
         ensures { ReadsOn bits self.old result self.new }
@@ -56,12 +56,12 @@ impl GroupReader {
         if place >= 8 {
             return Err(Refusal::GroupSize);
         }
-        let balise = match Balise::read(bits) {
-            Ok(balise) => balise,
+        let telegram = match Telegram::of_bits(bits) {
+            Ok(telegram) => telegram,
             Err(fault) => return Err(fault.refusal()),
         };
         self.telegrams.reserve_exact(1)?;
-        self.telegrams.push((place as u32, balise))?;
+        self.telegrams.push((place as u32, telegram))?;
         Ok(())
     }
 

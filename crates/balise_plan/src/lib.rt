@@ -26,7 +26,7 @@ mod walk;
 pub use balise_bits::Bits;
 pub use balise_layout::{Id, Packet, Var};
 pub use balise_rules::{Refusal, Refusal as PlanFault, Tag, Tag as GroupTag, Tag as PacketTag};
-pub use balise_telegram::Balise;
+pub use balise_telegram::{PacketRef, Telegram, TelegramFault};
 pub use group::Group;
 pub use group_reader::GroupReader;
 pub use link_set::Links;

@@ -207,8 +207,8 @@ fn tells_links(rt: &impl Abort, alloc: Global, plan: &Plan) -> bool {
 /// Whether a telegram is found in its group.
 fn tells_telegram(plan: &Plan) -> bool {
     match plan.telegram(SECOND, 0) {
-        Some(balise) => {
-            (balise.head(Var::NidBg) == Some(101))
+        Some(telegram) => {
+            (telegram.head(Var::NidBg) == Some(101))
                 & plan.telegram(SECOND, 1).is_none()
                 & plan.telegram(NEW, 0).is_none()
         }

@@ -9,8 +9,7 @@ ghost use Rattle.balise_rules.specs.Telegram.{Telegram, version_of};
 
 use crate::plans::{check_texts, plan_of, telegrams};
 use crate::walking::agrees;
-use balise_plan::{Balise, Bits, Group, GroupTag, Packet, PacketTag, Plan, Refusal, Spot, Var};
-use balise_telegram::TelegramFault;
+use balise_plan::{Bits, Group, GroupTag, Packet, PacketTag, Plan, Refusal, Spot, Telegram, Var};
 use std::alloc::Global;
 use std::process::Abort;
 
@@ -263,15 +262,15 @@ pub(crate) fn group_shows(rt: &impl Abort, group: &Group, wanted: &Vec<Bits>) ->
     let mut same = group.count() == wanted.len();
     for (i, bits) in wanted.iter().enumerate() {
         match group.at(i) {
-            Some((tag, balise)) => same &= (tag as usize == i) & shows_bits(rt, balise, bits),
+            Some((tag, telegram)) => same &= (tag as usize == i) & shows_bits(rt, telegram, bits),
             None => same = false,
         }
     }
     same
 }
 
-fn shows_bits(rt: &impl Abort, balise: &Balise, bits: &Bits) -> bool {
-    balise.shown().expect(rt, "memory") == *bits
+fn shows_bits(rt: &impl Abort, telegram: &Telegram, bits: &Bits) -> bool {
+    telegram.shown().expect(rt, "memory") == *bits
 }
 
 /// Whether a packet may be put into a telegram, where that stands: under a tag that is new there, in a version that
@@ -281,31 +280,21 @@ fn may_put(plan: &Plan, g: GroupTag, t: u32, p: PacketTag, packet: &Packet) -> b
     ensures spelt { IsTrue result → (y : Telegram) → telegram_at g t plan.now.groups ≡ Some y → IsSpelt (version_of y) packet.now }
 {
     match plan.telegram(g, t) {
-        Some(balise) => may_take(balise, p, packet),
+        Some(telegram) => may_take(telegram, p, packet),
         None => true,
     }
 }
 
 /// Whether the tag is new in the telegram and its version spells the packet.
-fn may_take(balise: &Balise, p: PacketTag, packet: &Packet) -> bool
-    ensures new { IsTrue result → find same_tag p balise.now.packets ≡ None }
-    ensures spelt { IsTrue result → IsSpelt (version_of balise.now) packet.now }
+fn may_take(telegram: &Telegram, p: PacketTag, packet: &Packet) -> bool
+    ensures new { IsTrue result → find same_tag p telegram.now.packets ≡ None }
+    ensures spelt { IsTrue result → IsSpelt (version_of telegram.now) packet.now }
 {
-    packet.is_spelt(balise.version()) && is_new(balise, p)
+    packet.is_spelt(telegram.version()) && is_new(telegram, p)
 }
 
-fn is_new(balise: &Balise, p: PacketTag) -> bool
-    ensures { IsTrue result → find same_tag p balise.now.packets ≡ None }
+fn is_new(telegram: &Telegram, p: PacketTag) -> bool
+    ensures { IsTrue result → find same_tag p telegram.now.packets ≡ None }
 {
-    match balise.copy() {
-        Ok(mut copy) => lacks(&mut copy, p),
-        Err(_) => false,
-    }
-}
-
-/// Whether no packet has this tag. One that has is taken.
-fn lacks(balise: &mut Balise, p: PacketTag) -> bool
-    ensures { IsTrue result → find same_tag p balise.old.packets ≡ None }
-{
-    matches!(balise.take(p), Err(TelegramFault::NoSuchPacket))
+    telegram.packet(p).is_none()
 }

@@ -1,7 +1,7 @@
 //! Names found by going over a whole plan, and those that the plan answers.
 
 use crate::plans::id;
-use balise_plan::{Balise, Group, GroupTag, Id, LinkPlace, Links, PacketTag, Plan};
+use balise_plan::{Group, GroupTag, Id, LinkPlace, Links, PacketTag, Plan, Telegram};
 use std::alloc::Global;
 use std::process::Abort;
 
@@ -100,8 +100,8 @@ fn add_plan(rt: &impl Abort, found: &mut Vec<(Id, LinkPlace)>, plan: &Plan) {
 
 fn add_group(rt: &impl Abort, found: &mut Vec<(Id, LinkPlace)>, g: GroupTag, group: &Group) {
     for pig in 0..group.count() {
-        if let Some((t, balise)) = group.at(pig) {
-            add_telegram(rt, found, (g, t), balise);
+        if let Some((t, telegram)) = group.at(pig) {
+            add_telegram(rt, found, (g, t), telegram);
         }
     }
 }
@@ -110,12 +110,12 @@ fn add_telegram(
     rt: &impl Abort,
     found: &mut Vec<(Id, LinkPlace)>,
     at: (GroupTag, u32),
-    balise: &Balise,
+    telegram: &Telegram,
 ) {
-    for i in 0..balise.count() {
-        let (packet, _) = balise.packet_at(i).expect(rt, "a packet");
-        let links = balise.links(packet).expect(rt, "memory");
-        add_packet(rt, found, at, packet, links.as_slice());
+    let country = telegram.identity().country;
+    for (tag, packet) in telegram.packets() {
+        let links = packet.links(country).expect(rt, "memory");
+        add_packet(rt, found, at, tag, links.as_slice());
     }
 }
 

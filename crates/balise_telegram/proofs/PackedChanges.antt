@@ -1,36 +1,26 @@
 -- Another value put where a field of a packet stands, in a telegram that is held as its bits.
--- From what is put over the spelling of one packet, with all that stands behind it as it is.
-use Rattle.std.proofs.Common.{◌≡◌, ◌∙◌, ℕ, ◌+◌, ◌^◌, ◌<◌, Bool, true, false, cond, List, [], ◌∷◌, ◌++◌, length, drop, Some, None, Ok, refl, sym, ap, subst, append_assoc, length-append, arith}
+-- From what is put over the spelling of one packet, with all that stands after it as it is.
+use Rattle.std.proofs.Common.{◌≡◌, ◌∙◌, ℕ, ◌+◌, Bool, true, false, cond, List, [], ◌∷◌, ◌++◌, Some, None, refl, sym, ap, append_assoc, arith}
 use Rattle.std.specs.Prelude.{All}
 use Rattle.std.proofs.lemmas.List.Elements.{All-head, All-tail}
 use Rattle.balise_rules.specs.declared.tag.Tag.{Tag}
 use Rattle.balise_rules.specs.declared.variable.Var.{Var}
-use Rattle.balise_rules.specs.Variables.{width_of, steers}
-use Rattle.balise_rules.specs.Bits.{bits, ones, put_at}
-use Rattle.balise_rules.specs.Forms.{Matches, Numbered, spelling}
+use Rattle.balise_rules.specs.Variables.{width_of}
+use Rattle.balise_rules.specs.Bits.{bits, put_at}
+use Rattle.balise_rules.specs.Forms.{spelling}
 use Rattle.balise_rules.specs.Tagged.{find, each, Distinct}
 use Rattle.balise_rules.specs.Tags.{Key, same_tag}
-use Rattle.balise_rules.specs.Packet.{Packet, bits_of, width, with_value, IsSpelt}
-use Rattle.balise_rules.specs.Telegram.{Telegram, header, is_balise, packets_bits, read_telegram, shown, used, version_of, IsLength, IsRead, TaggedFrom}
-use Rattle.balise_rules.proofs.AllItems.{all-each}
+use Rattle.balise_rules.specs.Packet.{Packet, bits_of, width, IsSpelt}
+use Rattle.balise_rules.specs.Telegram.{Telegram, packets_bits}
 use Rattle.balise_rules.proofs.Cases.{unsome}
 use Rattle.balise_rules.proofs.Each.{each-absent}
 use Rattle.balise_rules.proofs.Found.{fields_distinct}
-use Rattle.balise_rules.proofs.TaggedFrom.{tagged_distinct, tagged_each}
-use Rattle.balise_rules.proofs.TelegramAgain.{fixed_length, header_again, padding_shown, telegram_again}
-use Rattle.balise_rules.proofs.TelegramRead.{header_fixed}
-use Rattle.balise_rules.proofs.TelegramShown.{used_is}
-use Rattle.balise_rules.proofs.Tests.{split_on, tag_test}
-use Rattle.balise_rules.proofs.Used.{used-each}
+use Rattle.balise_rules.proofs.Tests.{tag_test}
 use Rattle.balise_layout.specs.Held.{before, further, with_field as with_packet_field}
 use Rattle.balise_layout.proofs.Places.{further_is, put_further, put_spelling}
-use Rattle.balise_layout.proofs.Setting.{IsSpelt-with_field}
-use Rattle.balise_telegram.specs.Packed.{packet_place, place_from, telegram_of, IsTelegram}
-use Rattle.balise_telegram.specs.HeaderFields.{head_place}
-use Rattle.balise_telegram.specs.Setting.{with_changed, with_field, with_head}
-use Rattle.balise_telegram.proofs.HeaderForms.{IsAside, header_kept, version_kept, balise_kept}
-use Rattle.balise_telegram.proofs.HeaderPlaces.{head_replaced}
-use Rattle.balise_telegram.proofs.Settings.{as_wide, telegram}
+use Rattle.balise_telegram.specs.Packed.{packet_place, place_from}
+use Rattle.balise_telegram.specs.Setting.{with_changed}
+use Rattle.balise_telegram.proofs.Settings.{telegram}
 use Rattle.balise_telegram.proofs.Tagging.{Packets, with_packet}
 
 -- where a field of the packet that was found stands
@@ -90,111 +80,6 @@ put_packets version tag v k n at place (x ∷ xs) raw dist a e = by (same_tag ta
               ∙ ap (λ (b : List Bool). bits_of x.1 ++ b) l.put ∙ sym (append_assoc (bits_of x.1) (packets_bits (set_in tag v k n xs)) raw)
               ∙ ap (λ (q : Packet). (bits_of q ++ packets_bits (set_in tag v k n xs)) ++ raw) (sym one);
         }
-
--- bits that a telegram shows, which is in order, are that telegram's
-pub record InOrder (y : Telegram) : Type 0 where
-  pub header : Matches header y.head []
-  pub numbered : Numbered y.head
-  pub balise : is_balise y.head ≡ true
-  pub tags : TaggedFrom 0 y.packets
-  pub packets : All (λ p. IsSpelt (version_of y) p.1) y.packets
-  pub padding : y.padding ≡ ones (used y.packets) ++ drop (used y.packets) y.padding
-
-pub in_order : (b : List Bool) (y : Telegram) → IsRead b y → InOrder y
-in_order b y r = record {
-  header = r.header;
-  numbered = r.numbered;
-  balise = r.balise;
-  tags = r.tags;
-  packets = r.packets;
-  padding = r.padding ∙ ap (λ (l : List Bool). ones (used y.packets) ++ drop (used y.packets) l) (sym r.shows) ∙ ap (λ (l : List Bool). ones (used y.packets) ++ l) (padding_shown y r.header);
-}
-
-pub order_read : (b : List Bool) (y : Telegram) → b ≡ shown y → IsLength (length b) → InOrder y → IsRead b y
-order_read b y e size o = record {
-  size = size;
-  header = o.header;
-  numbered = o.numbered;
-  balise = o.balise;
-  tags = o.tags;
-  packets = o.packets;
-  shows = sym e;
-  padding = o.padding ∙ ap (λ (l : List Bool). ones (used y.packets) ++ l) (sym (padding_shown y o.header) ∙ ap (drop (used y.packets)) (sym e));
-}
-
--- what is held then, and what it is seen as
-pub held_again : (b : List Bool) (y : Telegram) → IsRead b y → IsTelegram b × (telegram_of (read_telegram b) ≡ y)
-held_again b y r = let e = telegram_again b y r in let is : telegram_of (read_telegram b) ≡ y = ap telegram_of e in (e ∙ ap Ok (sym is), is)
-
--- as many bits as before
-same_size : (y z : Telegram) → length (spelling y.head) ≡ length (spelling z.head) → used y.packets ≡ used z.packets → y.padding ≡ z.padding → length (shown y) ≡ length (shown z)
-same_size y z h u p =
-    let a = drop (used y.packets) y.padding in
-    let b = drop (used z.packets) z.padding in
-    let same : length a ≡ length b = ap (λ (k : ℕ). length (drop k y.padding)) u ∙ ap (λ (l : List Bool). length (drop (used z.packets) l)) p in
-    let one = length-append (spelling y.head) (packets_bits y.packets ++ (ones 8 ++ a)) in
-    let two = length-append (packets_bits y.packets) (ones 8 ++ a) in
-    let three = length-append (ones 8) a in
-    let one' = length-append (spelling z.head) (packets_bits z.packets ++ (ones 8 ++ b)) in
-    let two' = length-append (packets_bits z.packets) (ones 8 ++ b) in
-    let three' = length-append (ones 8) b in
-    let f = used_is y.packets in
-    let g = used_is z.packets in omega (arith, h, u, same, one, two, three, one', two', three', f, g)
-
-pub set_read : (b : List Bool) (y : Telegram) (tag : Tag) (v : Var) (k n place : ℕ) → IsRead b y → place_from 50 tag (v, k) y.packets ≡ Some place → steers v ≡ false → n < 2 ^ width_of v → IsRead (put_at place (bits (width_of v) n) b) (with_field tag v k n y)
-set_read b y tag v k n place r e free fit =
-    let z = with_field tag v k n y in
-    let new = bits (width_of v) n in
-    let g = with_packet tag (with_packet_field v k n) in
-    let raw = ones 8 ++ drop (used y.packets) y.padding in
-    let wide : used z.packets ≡ used y.packets = used-each g (as_wide tag v k n) y.packets in
-    let fifty = fixed_length header 50 y.head [] header_fixed r.header in
-    let p = put_packets (version_of y) tag v k n 50 place y.packets raw (tagged_distinct 0 y.packets r.tags) r.packets e in
-    let far : place ≡ length (spelling y.head) + p.from = p.far ∙ ap (λ (j : ℕ). j + p.from) (sym fifty) in
-    let shows : put_at place new b ≡ shown z =
-    ap (put_at place new) (sym r.shows) ∙ ap (λ (j : ℕ). put_at j new (shown y)) far ∙ put_further (spelling y.head) (packets_bits y.packets ++ raw) new p.from ∙ ap (λ (l : List Bool). spelling y.head ++ l) p.put
-    ∙ ap (λ (j : ℕ). spelling y.head ++ (packets_bits z.packets ++ (ones 8 ++ drop j y.padding))) (sym wide) in
-    let long : length (put_at place new b) ≡ length b = ap length shows ∙ same_size z y refl wide refl ∙ ap length r.shows in
-    let o = in_order b y r in
-    order_read (put_at place new b) z shows (subst IsLength (sym long) r.size) (record {
-      header = o.header;
-      numbered = o.numbered;
-      balise = o.balise;
-      tags = tagged_each 0 g y.packets o.tags;
-      packets = all-each (IsSpelt (version_of y)) (IsSpelt (version_of y)) g (λ q x s. split_on (same_tag tag q) (λ d. simp d (IsSpelt-with_field (version_of y) x v k n free fit s)) (λ d. simp d s)) y.packets o.packets;
-      padding = subst (λ (u : ℕ). y.padding ≡ ones u ++ drop u y.padding) (sym wide) o.padding;
-    })
-
--- ---- the header
-
-head_read : (b : List Bool) (y : Telegram) (v : Var) (n : ℕ) → IsRead b y → IsAside v → n < 2 ^ width_of v → IsRead (spelling (with_value v 0 n y.head) ++ drop 50 b) (with_head v n y)
-head_read b y v n r aside fit =
-    let z = with_head v n y in
-    let kept = header_kept v 0 n y.head fit r.header r.numbered in
-    let rest = packets_bits y.packets ++ (ones 8 ++ drop (used y.packets) y.padding) in
-    let behind : drop 50 b ≡ rest = (header_again y b rest r.header r.numbered (sym r.shows)).1 in
-    let shows : spelling z.head ++ drop 50 b ≡ shown z = ap (λ (l : List Bool). spelling z.head ++ l) behind in
-    let fifty = fixed_length header 50 y.head [] header_fixed r.header in
-    let fifty' = fixed_length header 50 z.head [] header_fixed kept.0 in
-    let long : length (spelling z.head ++ drop 50 b) ≡ length b = ap length shows ∙ same_size z y (fifty' ∙ sym fifty) refl refl ∙ ap length r.shows in
-    let o = in_order b y r in
-    order_read (spelling z.head ++ drop 50 b) z shows (subst IsLength (sym long) r.size) (record {
-      header = kept.0;
-      numbered = kept.1;
-      balise = balise_kept v 0 n y.head aside ∙ o.balise;
-      tags = o.tags;
-      packets = subst (λ (w : ℕ). All (λ p. IsSpelt w p.1) y.packets) (sym (version_kept v 0 n y.head aside)) o.packets;
-      padding = o.padding;
-    })
-
--- what is held then, and what it is seen as
-pub head_put : (b : List Bool) (y : Telegram) (v : Var) (n at : ℕ) (new : List Bool) → IsRead b y → head_place v ≡ Some at → IsAside v → n < 2 ^ width_of v → new ≡ put_at at (bits (width_of v) n) b → IsTelegram new × (telegram_of (read_telegram new) ≡ with_head v n y)
-head_put b y v n at new r place aside fit e =
-    let same : new ≡ spelling (with_value v 0 n y.head) ++ drop 50 b = e ∙ head_replaced b y v n at r place in
-    let a = held_again _ _ (head_read b y v n r aside fit) in
-    (subst IsTelegram (sym same) a.0, ap (λ (l : List Bool). telegram_of (read_telegram l)) same ∙ a.1)
-
--- ---- what the changes are, where the packet is found
 
 -- two changes that make the same of the packet that is found
 each_alike : (tag : Tag) (f g : Packet → Packet) (ps : Packets) → Distinct same_tag ps → ((p : Packet) → find same_tag tag ps ≡ Some p → f p ≡ g p) → each (with_packet tag f) ps ≡ each (with_packet tag g) ps

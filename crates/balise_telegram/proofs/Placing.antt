@@ -1,22 +1,19 @@
 -- What taking a packet out at its place, and putting one in at a place, makes of the packets.
-use Rattle.std.proofs.Common.{◌≡◌, ◌∙◌, ℕ, zero, suc, ◌+◌, ◌<◌, ◌≤◌, Bool, false, List, [], ◌∷◌, length, get_or, Option, Some, None, is_some, Ok, refl, sym, ap, arith}
+use Rattle.std.proofs.Common.{◌≡◌, ◌∙◌, ℕ, zero, suc, ◌+◌, ◌<◌, ◌≤◌, Bool, false, List, [], ◌∷◌, length, get_or, Option, Some, None, is_some, refl, sym, ap, arith}
 use Rattle.std.specs.List.{insert, remove, position, slice_get}
 use Rattle.std.specs.Option.{option_map}
 use Rattle.std.proofs.lemmas.List.Quantifiers.{position-Some}
 use Rattle.balise_rules.specs.declared.tag.Tag.{Tag}
 use Rattle.balise_rules.specs.Tagged.{find, has, first, behind, put_behind, put_in_front, without, Distinct}
 use Rattle.balise_rules.specs.Tags.{same_tag}
-use Rattle.balise_rules.specs.Forms.{Fields}
 use Rattle.balise_rules.specs.Packet.{Packet, width}
-use Rattle.balise_rules.specs.Telegram.{Telegram, used}
+use Rattle.balise_rules.specs.Telegram.{used}
 use Rattle.balise_rules.proofs.Tests.{split_on, flip_no, tag_test}
 use Rattle.balise_rules.proofs.Lists.{without-absent}
 use Rattle.balise_rules.proofs.Distincts.{distinct-without}
 use Rattle.balise_rules.proofs.Used.{used-without}
 use Rattle.balise_telegram.specs.Reading.{IsHeld}
-use Rattle.balise_rules.specs.Back.{with_packets}
-use Rattle.balise_telegram.specs.Moving.{inserted, TakesOut}
-use Rattle.balise_telegram.proofs.Settings.{telegram}
+use Rattle.balise_telegram.specs.Moving.{inserted}
 use Rattle.balise_telegram.proofs.Tagging.{Packets, is_tagged, StandsAt, stands_at, stands_behind, found, not_found}
 
 -- the packet taken out at its place is the packet taken out under its tag
@@ -74,7 +71,7 @@ none_before tag z (y ∷ ys) n =
 pub held_without : (tag : Tag) (ps : Packets) (padding : List Bool) → IsHeld ps padding → IsHeld (without same_tag tag ps) padding
 held_without tag ps padding h = let u = used-without tag ps in record { tags = distinct-without same_tag tag ps h.tags; size = h.size; fits = omega (arith, u, h.fits) }
 
-used-insert : (ps : Packets) (i : ℕ) (z : Tag × Packet) → used (insert ps i z) ≡ used ps + width z.1
+pub used-insert : (ps : Packets) (i : ℕ) (z : Tag × Packet) → used (insert ps i z) ≡ used ps + width z.1
 used-insert [] zero z = omega arith
 used-insert [] (suc i) z = omega arith
 used-insert (y ∷ ys) zero z = omega arith
@@ -98,18 +95,6 @@ pub held_insert : (ps : Packets) (padding : List Bool) (i : ℕ) (z : Tag × Pac
 held_insert ps padding i z h n fits = let u = used-insert ps i z in record { tags = distinct-insert ps i z h.tags n; size = h.size; fits = omega (arith, u, fits) }
 
 -- ---- the telegram
-
--- what taking a packet out of a telegram that the code holds in its parts answers and leaves
-pub taken : (head : Fields) (ps now : Packets) (padding : List Bool) (y : Telegram) (tag : Tag) (i : ℕ) (x : Tag × Packet) (next : Option Tag) → telegram head ps padding ≡ y → Distinct same_tag ps → StandsAt tag ps i x → next ≡ option_map (λ (q : Tag × Packet). q.0) (slice_get y.packets (suc i)) → now ≡ remove ps i →
-    TakesOut tag y (Ok (x.1, next)) (telegram head now padding)
-taken head ps now padding y tag i x next view u s e is =
-    let same : ps ≡ y.packets = ap (λ (t : Telegram). t.packets) view in (
-      ap (find same_tag tag) (sym same) ∙ found tag ps i x s,
-      ap (behind same_tag tag) (sym same) ∙ neighbour tag ps i x s ∙ ap (λ (l : Packets). option_map (λ (q : Tag × Packet). q.0) (slice_get l (suc i))) same ∙ sym e,
-      ap (λ (l : Packets). telegram head l padding) (is ∙ sym (removed tag ps i x u s)) ∙ ap (λ (t : Telegram). with_packets t (without same_tag tag t.packets)) view,
-    )
-
--- ---- places that were looked for
 
 abbrev pub Place : Type 0
 Place = Option ℕ

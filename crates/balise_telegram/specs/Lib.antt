@@ -4,7 +4,7 @@ pub mod Faults
 pub mod Setting
 pub mod Moving
 pub mod Packed
-pub mod Balise
+pub mod Changes
 pub use Rattle.balise_rules.specs.Variables
 pub use Rattle.balise_rules.specs.Refusals
 pub use Rattle.balise_rules.specs.Bits
@@ -24,3 +24,4 @@ pub use Rattle.balise_layout.specs.First
 pub use Rattle.balise_layout.specs.Collected
 pub use Rattle.balise_layout.specs.Held
 pub use Rattle.balise_layout.specs.Setting as PacketSetting
+pub mod Shown

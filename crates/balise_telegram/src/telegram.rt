@@ -1,76 +1,80 @@
-//! A telegram: header, tagged packets and padding.
+//! A telegram: the bits that it shows and, once its packets were edited, their tags and its ground.
 
 mod changes;
+mod edited;
+mod iter;
 mod packets;
+mod reading;
+mod walking;
 
-ghost use Rattle.std.specs.Prelude.{◌≡◌, ◌≢◌, ◌≤◌, ◌<◌, ◌+◌, ◌*◌, ◌^◌, drop, IfErr, IfOk, IfSome, IsOkUnless, length, map, Ok, Err, option_map, slice_get};
+ghost use Rattle.std.specs.Prelude.{◌≡◌, ◌≤◌, ◌<◌, ◌^◌, ◌+◌, ℕ, IfErr, IfOk, IfSome, IsOkUnless, OnErr, OnOk, length, map, option_map, slice_get, Option};
 ghost use Rattle.std.specs.List.{position};
-ghost use Rattle.balise_rules.specs.declared.variable.Var.TheVariants.{NidPacket};
-ghost use Rattle.balise_rules.specs.Packet.{field_of, value};
+ghost use Rattle.balise_rules.specs.Digits.{hex_of};
 ghost use Rattle.balise_rules.specs.Tagged.{find, Distinct};
 ghost use Rattle.balise_rules.specs.Tags.{same_tag};
+ghost use Rattle.balise_rules.specs.Packet.{field_of, Packet};
 ghost use Rattle.balise_rules.specs.Plan.{country_of, identity_in};
-ghost use Rattle.balise_rules.specs.Telegram.{IsLength, read_packets, read_telegram, room, shown, used, version_of};
-ghost use Rattle.balise_layout.specs.Collected.{all_keyed};
-ghost use Rattle.balise_telegram.specs.Faults.{refusal_of};
-ghost use Rattle.balise_telegram.specs.Packed.{linking, links_at};
-ghost use Rattle.balise_telegram.specs.Setting.{field_at, SetsField, SetsHead};
+ghost use Rattle.balise_rules.specs.Telegram.{shown, used, version_of, IsLength};
+ghost use Rattle.balise_rules.specs.declared.tag.Tag.{Tag};
+ghost use Rattle.balise_telegram.specs.HeaderFields.{fields_in};
+ghost use Rattle.balise_telegram.specs.Packed.{linking, links_at, packet_place, place_from};
+ghost use Rattle.balise_telegram.specs.Shown.{IsPlace};
+ghost use Rattle.balise_telegram.specs.declared.telegram.walking.Place.{Place};
 
 use crate::PacketTag;
 use crate::fault::TelegramFault;
-use crate::header::Header;
+use crate::header::{Header, head_place};
 use crate::linking::add_linking;
+use crate::telegram::edited::{Edited, place_read, tag_read};
+use crate::telegram::walking::{Place, after, ends, walk};
 use balise_bits::Bits;
-use balise_layout::Packet;
+use balise_layout::PacketRef;
 use balise_rules::{Id, Var};
-use std::alloc::Global;
+pub use iter::Packets;
 use std::marker::Model;
 
-/// A telegram of 210 or 830 bits (SUBSET-026, 8.4.2): a header of 50 bits, packets, packet 255 of 8 bits,
-/// and padding. Each packet has a tag, which it keeps wherever it is moved.
+/// A telegram of 210 or 830 bits. It is held as the bits that it shows. Once a packet was put in, taken out or moved,
+/// the tags of its packets stand beside them, and its padding as it was read.
 #[derive(Drop)]
 pub struct Telegram {
-    header: Header,
-    packets: Vec<(PacketTag, Packet)>,
-    padding: Bits,
+    packed: Bits,
+    edited: Option<Box<Edited>>,
 }
 
 impl Model for Telegram {
     ghost use Rattle.balise_rules.specs.Telegram as rules;
-    ghost use Rattle.balise_telegram.specs.Reading.{IsHeld};
+    ghost use Rattle.balise_telegram.specs.Shown.{seen, StandsFor};
 
     ghost Value = { rules.Telegram };
 
-    ghost view = { λ t. record { head = t.header; packets = t.packets.items; padding = t.padding } };
+    ghost view = { λ t. seen t.packed t.edited };
 
-    ghost invariant = { λ t. IsHeld t.packets.items t.padding };
+    ghost invariant = { λ t. StandsFor t.packed t.edited (seen t.packed t.edited) };
 }
 
 impl Telegram {
-    /// The telegram that these bits are, its packets tagged `Base` by their places, from 0.
-    ///
-    /// Refused in this order: `BadLength` for another number of bits, `NotABalise`, and then the first of what is
-    /// met packet by packet: `NoEnd` where fewer than 8 bits are left, `PacketZero`, `PacketCut`, `LayoutMismatch`.
-    /// `OutOfMemory` may stand in place of any answer.
-    pub fn read(alloc: Global, bits: Bits) -> Result<Telegram, TelegramFault>
-        ensures ok { IfOk result (λ t. read_telegram bits ≡ Ok t) }
-        ensures fault { IfErr result (λ e. e ≢ TelegramFault.OutOfMemory → read_telegram bits ≡ Err (refusal_of e)) }
+    /// The bits that it shows.
+    pub fn bits(&self) -> &Bits
+        ensures { result.now ≡ shown self.now }
     {
-        if (bits.len() != 210) & (bits.len() != 830) {
-            return Err(TelegramFault::BadLength);
-        }
-        let header = Header::read(&bits);
-        if !header.is_balise() {
-            return Err(TelegramFault::NotABalise);
-        }
-        let (packets, end) = read_packets(alloc, &bits, header.version())?;
-        let mut padding = bits;
-        padding.put_ones(0, end);
-        Ok(Telegram {
-            header,
-            packets,
-            padding,
-        })
+        &self.packed
+    }
+
+    /// A copy of the bits that it shows.
+    pub fn shown(&self) -> Result<Bits, TelegramFault>
+        ensures ok { IfOk result (λ b. b ≡ shown self.now) }
+        ensures fault { IsOkUnless result TelegramFault.OutOfMemory }
+    {
+        Ok(self.packed.copy()?)
+    }
+
+    /// Writes the digits of its bits into a buffer, in place of all that it holds. Out of memory, that stays.
+    pub fn hex_into(&self, out: &mut Vec<u8>) -> Result<(), TelegramFault>
+        ensures ok { OnOk result (out.new.items ≡ hex_of (shown self.now)) }
+        ensures err { OnErr result (out.new.items ≡ out.old.items) }
+        ensures fault { IsOkUnless result TelegramFault.OutOfMemory }
+    {
+        Ok(self.packed.hex_into(out)?)
     }
 
     /// How many bits it has: 210 or 830.
@@ -79,34 +83,46 @@ impl Telegram {
         ensures due { IsLength result }
         ensures fits { used self.now.packets ≤ length self.now.padding }
     {
-        self.padding.len()
+        self.packed.len()
     }
 
     /// How many bits header, packets and packet 255 take: 58 and the packets' widths.
     pub fn used(&self) -> usize
         ensures { result ≡ used self.now.packets }
     {
-        let mut used = 58;
-        for (_, packet) in &self.packets {
-            used += packet.width();
-        }
-        used
+        self.end().at + 8
     }
 
-    /// The bits that it shows, as many as its width: header, packets, packet 255 and padding.
-    pub fn shown(&self) -> Result<Bits, TelegramFault>
-        ensures ok { IfOk result (λ bits. bits ≡ shown self.now) }
-        ensures fault { IsOkUnless result TelegramFault.OutOfMemory }
+    /// M_VERSION, of 7 bits: the first three are the X of version X.Y, the last four its Y.
+    pub fn version(&self) -> u32
+        ensures { result ≡ version_of self.now }
     {
-        let mut bits = self.padding.copy()?;
-        self.header.put_over(&mut bits);
-        let mut at = 50;
-        for (_, packet) in &self.packets {
-            packet.put_over(&mut bits, at);
-            at += packet.width();
-        }
-        bits.put(at, 8, 255);
-        Ok(bits)
+        Header::version_in(&self.packed)
+    }
+
+    /// The identity of its group, as the header has it.
+    pub fn identity(&self) -> Id
+        ensures { result ≡ identity_in self.now }
+    {
+        Header::identity_in(&self.packed)
+    }
+
+    /// The ten numbers of its header.
+    pub fn header(&self) -> Header
+        ensures { fields_in result ≡ self.now.head }
+    {
+        Header::read(&self.packed)
+    }
+
+    /// The value of a variable of the header, where a header has it.
+    pub fn head(&self, var: Var) -> Option<u32>
+        ensures { result ≡ field_of var 0 self.now.head }
+    {
+        let bits = &self.packed;
+        let Some(at) = head_place(var) else {
+            return None;
+        };
+        Some(bits.number(at, var.width()))
     }
 
     /// How many packets it has. No tag stands twice among them.
@@ -114,48 +130,33 @@ impl Telegram {
         ensures count { result ≡ length self.now.packets }
         ensures tags { Distinct same_tag self.now.packets }
     {
-        self.packets.len()
+        let _packed = &self.packed;
+        self.end().index
     }
 
-    /// The tag and NID_PACKET of the packet at a place, from 0.
-    pub fn packet_at(&self, i: usize) -> Option<(PacketTag, u32)>
-        ensures { result ≡ option_map (λ q. (q.0, value NidPacket 0 q.1.fields)) (slice_get self.now.packets i) }
+    /// The packet with this tag, lent.
+    pub fn packet(&self, tag: PacketTag) -> Option<PacketRef<'_>>
+        ensures { result ≡ find same_tag tag self.now.packets }
     {
-        match self.packets.get(i) {
-            Some((tag, packet)) => Some((*tag, packet.number())),
-            None => None,
-        }
+        let Some(place) = self.find(tag) else {
+            return None;
+        };
+        Some(self.lent(place))
     }
 
-    /// The fields of the packet at a place, from 0, in bit order: variable, occurrence from 0, and value.
-    pub(crate) fn fields_at(&self, i: usize) -> Result<Option<Vec<(Var, u32, u32)>>, TelegramFault>
-        ensures ok { IfOk result (λ fields. option_map (λ fs. all_keyed fs.items) fields ≡ option_map (λ q. q.1.fields) (slice_get self.now.packets i)) }
-        ensures fault { IsOkUnless result TelegramFault.OutOfMemory }
+    /// The packet at a place in the order, from 0, lent, with its tag. A loop over all packets takes `packets`, which
+    /// doesn't begin at the first packet each time.
+    pub fn at(&self, i: usize) -> Option<(PacketTag, PacketRef<'_>)>
+        ensures { result ≡ slice_get self.now.packets i }
     {
-        match self.packets.get(i) {
-            Some((_, packet)) => Ok(Some(packet.fields()?)),
-            None => Ok(None),
+        let place = walk(&self.packed, i);
+        if place.index < i {
+            return None;
         }
-    }
-
-    /// The packet with this tag, where it stands.
-    pub fn packet(&self, tag: PacketTag) -> Option<&Packet>
-        ensures { option_map (λ p. p.now) result ≡ find same_tag tag self.now.packets }
-    {
-        match self.place_of(tag) {
-            Some(i) => Some(&self.packets[i].1),
-            None => None,
-        }
-    }
-
-    /// The value of occurrence `k`, from 0, of a variable of the packet with this tag, where both are there.
-    pub fn field(&self, tag: PacketTag, var: Var, k: u32) -> Option<u32>
-        ensures { result ≡ field_at tag var k self.now }
-    {
-        match self.packet(tag) {
-            Some(packet) => packet.field(var, k),
-            None => None,
-        }
+        let Some(tag) = self.tag_at(place) else {
+            return None;
+        };
+        Some((tag, self.lent(place)))
     }
 
     /// The identities of the elements of the packet with this tag, one each in order, with number 16383 kept: none
@@ -164,10 +165,10 @@ impl Telegram {
         ensures ok { IfOk result (λ links. links.items ≡ links_at tag self.now) }
         ensures fault { IsOkUnless result TelegramFault.OutOfMemory }
     {
+        let country = self.identity().country;
         let Some(packet) = self.packet(tag) else {
-            return Ok(Vec::new(*self.packets.allocator()));
+            return Ok(Vec::new(self.packed.allocator()));
         };
-        let country = self.head(Var::NidC).unwrap_or(0);
         Ok(packet.links(country)?)
     }
 
@@ -178,139 +179,108 @@ impl Telegram {
         ensures fault { IsOkUnless result TelegramFault.OutOfMemory }
     {
         let country = self.identity().country;
-        let mut found = Vec::new(*self.packets.allocator());
-        for (tag, packet) in &self.packets {
-            let links = packet.links(country)?;
-            add_linking(&mut found, *tag, links)?;
+        let mut found = Vec::new(self.packed.allocator());
+        for (tag, packet) in self.packets() {
+            add_linking(&mut found, tag, packet.links(country)?)?;
         }
         Ok(found)
     }
 
-    /// The value of a variable of the header, where a header has it.
-    pub fn head(&self, var: Var) -> Option<u32>
-        ensures { result ≡ field_of var 0 self.now.head }
+    /// The same telegram once more.
+    pub fn copy(&self) -> Result<Telegram, TelegramFault>
+        ensures ok { IfOk result (λ telegram. telegram ≡ self.now) }
+        ensures fault { IsOkUnless result TelegramFault.OutOfMemory }
     {
-        self.header.get(var)
-    }
-
-    /// How many bits of padding it shows, which is the room for further packets.
-    pub fn room(&self) -> usize
-        ensures room { result ≡ room self.now }
-        ensures fits { used self.now.packets ≤ length self.now.padding }
-    {
-        self.width() - self.used()
-    }
-
-    /// The identity of its group, as the header has it.
-    pub(crate) fn identity(&self) -> Id
-        ensures { result ≡ identity_in self.now }
-    {
-        self.header.identity()
-    }
-
-    /// M_VERSION, of 7 bits.
-    pub fn version(&self) -> u32
-        ensures { result ≡ version_of self.now }
-    {
-        self.header.version()
-    }
-
-    /// Sets occurrence `k`, from 0, of a variable of the packet with this tag, and answers the old value. Takes no memory.
-    ///
-    /// Refused in this order, and then all stays: `NoSuchPacket`, `NoSuchVariable`, `Steering`, `ValueTooWide`.
-    pub fn set_field(
-        &mut self,
-        tag: PacketTag,
-        var: Var,
-        k: u32,
-        value: u32,
-    ) -> Result<u32, TelegramFault>
-        ensures { SetsField tag var k value self.old result self.new }
-    {
-        let Some(i) = self.place_of(tag) else {
-            return Err(TelegramFault::NoSuchPacket);
+        let packed = self.packed.copy()?;
+        let edited = match &self.edited {
+            Some(edited) => Some(edited.copy(self.packed.allocator())?),
+            None => None,
         };
-        let old = self.packets[i].1.set_field(var, k, value)?;
-        Ok(old)
-    }
-
-    /// Sets M_DUP, M_MCOUNT or Q_LINK of the header and answers the old value. Takes no memory.
-    ///
-    /// Refused in this order, and then all stays: `NoSuchVariable`, `Steering`, `ValueTooWide`.
-    pub fn set_head(&mut self, var: Var, value: u32) -> Result<u32, TelegramFault>
-        ensures { SetsHead var value self.old result self.new }
-    {
-        self.header.set(var, value)
-    }
-
-    // Where its memory comes from.
-    pub(crate) fn allocator(&self) -> Global {
-        *self.packets.allocator()
+        Ok(Telegram { packed, edited })
     }
 
     // The place of the packet with this tag.
-    fn place_of(&self, tag: PacketTag) -> Option<usize>
-        ensures place { result ≡ position (λ q. same_tag tag q.0) self.now.packets }
-        ensures small { IfSome result (λ i. i + 1 < 2 ^ 64) }
+    fn find(&self, tag: PacketTag) -> Option<Place>
+        ensures place { option_map (λ (p : Place). p.index) result ≡ position (λ q. same_tag tag q.0) self.now.packets }
+        ensures stands { IfSome result (λ p. IsPlace self.now p × (p.index < length self.now.packets)) }
     {
-        self.packets.iter().position(|q| tag == q.0)
+        match &self.edited {
+            Some(edited) => {
+                let Some(i) = edited.place_of(tag) else {
+                    return None;
+                };
+                Some(walk(&self.packed, i))
+            }
+            None => place_read(&self.packed, tag),
+        }
     }
-}
 
-/// The packets of a telegram's bits, and where packet 255 ends.
-fn read_packets(
-    alloc: Global,
-    bits: &Bits,
-    version: u32,
-) -> Result<(Vec<(PacketTag, Packet)>, usize), TelegramFault>
-    requires header { 50 ≤ length bits.now }
-    requires most { length bits.now ≤ 830 }
-    ensures ok { IfOk result (λ r. read_packets (length bits.now) version 0 (drop 50 bits.now) ≡ Ok (r.0.items, drop r.1 bits.now)) }
-    ensures used { IfOk result (λ r. r.1 ≡ used r.0.items) }
-    ensures within { IfOk result (λ r. r.1 ≤ length bits.now) }
-    ensures fault { IfErr result (λ e. e ≢ TelegramFault.OutOfMemory → read_packets (length bits.now) version 0 (drop 50 bits.now) ≡ Err (refusal_of e)) }
-{
-    let mut packets = Vec::with_capacity(alloc, count_packets(bits))?;
-    let mut at = 50;
-    let mut count = 0;
-    'packets: loop {
-        if bits.len() - at < 8 {
-            return Err(TelegramFault::NoEnd);
+    // The place after the last packet.
+    fn end(&self) -> Place
+        ensures index { result.index ≡ length self.now.packets }
+        ensures at { result.at + 8 ≡ used self.now.packets }
+        ensures small { result.at + 8 < 2 ^ 64 }
+    {
+        match &self.edited {
+            Some(edited) => Place {
+                index: edited.tags.len(),
+                at: edited.used - 8,
+            },
+            None => ends(&self.packed),
         }
-        let number = bits.number(at, 8);
-        if number == 255 {
-            return Ok((packets, at + 8));
+    }
+
+    // The tag of the packet at a place, where one stands there.
+    fn tag_at(&self, place: Place) -> Option<PacketTag>
+        requires { IsPlace self.now place }
+        ensures { result ≡ option_map (λ q. q.0) (slice_get self.now.packets place.index) }
+    {
+        match &self.edited {
+            Some(edited) => edited.tag_at(place.index),
+            None => tag_read(&self.packed, place),
         }
-        if number == 0 {
-            return Err(TelegramFault::PacketZero);
-        }
-        let (packet, end) = match Packet::read(bits, at, version) {
-            Ok(read) => read,
-            Err(fault) => return Err(TelegramFault::from(fault)),
+    }
+
+    // The packet at a place, lent.
+    fn lent(&self, place: Place) -> PacketRef<'_>
+        requires place { IsPlace self.now place }
+        requires stands { place.index < length self.now.packets }
+        ensures { (x : Tag × Packet) → slice_get self.now.packets place.index ≡ Some x → result ≡ x.1 }
+    {
+        PacketRef::new(&self.packed, place.at, self.version())
+    }
+
+    // The place after the packet at a place.
+    fn after(&self, place: Place) -> Place
+        requires place { IsPlace self.now place }
+        requires stands { place.index < length self.now.packets }
+        ensures index { result.index ≡ place.index + 1 }
+        ensures place { IsPlace self.now result }
+    {
+        after(&self.packed, place)
+    }
+
+    // Where the packet with this tag stands among the bits.
+    fn bits_of(&self, tag: PacketTag) -> Option<usize>
+        ensures place { result ≡ packet_place 50 tag self.now.packets }
+        ensures tags { Distinct same_tag self.now.packets }
+    {
+        let _packed = &self.packed;
+        let Some(place) = self.find(tag) else {
+            return None;
         };
-        packets.push((PacketTag::Base(count), packet))?;
-        at = end;
-        count += 1;
+        Some(place.at)
     }
-}
 
-// How many packets stand one behind another by the lengths that they say, so that their list is made as long at once.
-fn count_packets(bits: &Bits) -> usize
-    requires { 50 ≤ length bits.now }
-    ensures { 23 * result + 50 ≤ length bits.now }
-{
-    let mut at = 50;
-    let mut count = 0;
-    'packets: loop {
-        if bits.len() - at < 23 {
-            return count;
+    // Where an occurrence of a variable of the packet that stands there stands among the bits.
+    fn place_in(&self, packet: usize, var: Var, k: u32) -> Option<usize>
+        requires { (tag : Tag) × (packet_place 50 tag self.now.packets ≡ Some packet) }
+        ensures { (tag : Tag) → packet_place 50 tag self.now.packets ≡ Some packet → result ≡ place_from 50 tag (var, k) self.now.packets }
+    {
+        let bits = &self.packed;
+        match PacketRef::new(bits, packet, self.version()).place_of(var, k) {
+            Some(before) => Some(packet + before),
+            None => None,
         }
-        let front = bits.number(at, 23);
-        let width = (front % 8192) as usize;
-        if (front >> 15 == 255) | (width < 23) | (width > bits.len() - at) {
-            return count;
-        }
-        at += width;
-        count += 1;
     }
 }

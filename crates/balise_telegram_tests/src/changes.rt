@@ -1,7 +1,7 @@
 //! What turning and renumbering change, with digits made by hand.
 
-use crate::telegrams::{balise, check_shown};
-use balise_telegram::{Balise, Id, PacketTag};
+use crate::telegrams::{check_shown, telegram_of};
+use balise_telegram::{Id, PacketTag, Telegram};
 use std::process::Abort;
 
 /// One packet 5 with one element.
@@ -26,12 +26,17 @@ pub(crate) const TURNED: &str = "a1007f80a03250800f82a1201f07fffffffffffffffffff
 pub(crate) const HEADER_PUT: &str = "a1307f80a184d0900f82a1201f07ffffffffffffffffffffffffc0";
 
 /// Whether the packet with this tag has these elements.
-pub(crate) fn has_links(rt: &impl Abort, telegram: &Balise, tag: PacketTag, links: &[Id]) -> bool {
+pub(crate) fn has_links(
+    rt: &impl Abort,
+    telegram: &Telegram,
+    tag: PacketTag,
+    links: &[Id],
+) -> bool {
     telegram.links(tag).expect(rt, "memory").as_slice() == links
 }
 
 /// That changes of an element or a packet that isn't there change nothing.
-fn change_lacking(rt: &impl Abort, telegram: &mut Balise) {
+fn change_lacking(rt: &impl Abort, telegram: &mut Telegram) {
     let (first, lacking) = (PacketTag::Base(0), PacketTag::Base(1));
     assert!(rt; has_links(rt, telegram, lacking, &[]));
     telegram.flip_link(first, 1);
@@ -43,5 +48,5 @@ fn change_lacking(rt: &impl Abort, telegram: &mut Balise) {
 
 #[test]
 fn changes_no_element_that_is_lacking(rt: HostRuntime) {
-    change_lacking(&rt, &mut balise(&rt, rt.alloc(), LINKING));
+    change_lacking(&rt, &mut telegram_of(&rt, rt.alloc(), LINKING));
 }

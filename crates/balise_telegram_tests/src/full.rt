@@ -3,8 +3,8 @@
 
 use crate::packets::{Moved, check_moves, read_packet};
 use crate::put::{hands_back, put_after, put_before, put_beside};
-use crate::telegrams::{balise, check_shown, shows};
-use balise_telegram::{Balise, Bits, Packet, PacketTag, TelegramFault};
+use crate::telegrams::{check_shown, shows, telegram_of};
+use balise_telegram::{Bits, Packet, PacketTag, Telegram, TelegramFault};
 use std::alloc::Global;
 use std::process::Abort;
 
@@ -26,10 +26,10 @@ pub(crate) const SHORT: &str = "a1007f80a0327fffffffffffffffffffffffffffffffffff
 /// 210 and 830 bits with the longest packet 44 that they have room for.
 const SHORT_FILLED: &str = "a1007f80a0324b104c000000000000000000000000000000003fc0";
 
-const LONG_FILLED: &str =
+pub(crate) const LONG_FILLED: &str =
     "a1007f80a0324b118200000000000000000000000000000000000000000000000000000000000000000000000000000000000000000000000000000000000000000000000000000000000000000000000000000000000000000000000000000000000000000003fc";
 
-/// The bits of a packet 44, which isn't known, of so many bits: zeros behind its first three fields.
+/// The bits of a packet 44, which isn't known, of so many bits: zeros after its first three fields.
 fn opaque(rt: &impl Abort, alloc: Global, width: u32) -> Bits {
     let mut bits = Bits::from_hex(alloc, "2c40", 10).expect(rt, "digits");
     assert!(rt; width >= 23 && width < 8192);
@@ -39,26 +39,32 @@ fn opaque(rt: &impl Abort, alloc: Global, width: u32) -> Bits {
 }
 
 /// Takes the packet with this tag out.
-fn taken(rt: &impl Abort, telegram: &mut Balise, tag: PacketTag) -> Packet {
+fn taken(rt: &impl Abort, telegram: &mut Telegram, tag: PacketTag) -> Packet {
     telegram.take(tag).expect(rt, "a packet").0
 }
 
 /// Whether the telegram holds so many packets, and bits used and left of so many.
-pub(crate) fn holds(balise: &Balise, count: usize, used: usize, room: usize, width: usize) -> bool {
-    (balise.count() == count)
-        & (balise.used() == used)
-        & (balise.room() == room)
-        & (balise.width() == width)
+pub(crate) fn holds(
+    telegram: &Telegram,
+    count: usize,
+    used: usize,
+    room: usize,
+    width: usize,
+) -> bool {
+    (telegram.count() == count)
+        & (telegram.used() == used)
+        & (telegram.room() == room)
+        & (telegram.width() == width)
 }
 
 /// That the telegram and a copy show 33 packets.
-fn check_copy(rt: &impl Abort, telegram: &Balise) {
+fn check_copy(rt: &impl Abort, telegram: &Telegram) {
     check_shown(rt, telegram, FULL);
     check_shown(rt, &telegram.copy().expect(rt, "memory"), FULL);
 }
 
 fn check_full(rt: &impl Abort, alloc: Global) {
-    check_copy(rt, &balise(rt, alloc, FULL));
+    check_copy(rt, &telegram_of(rt, alloc, FULL));
 }
 
 #[test]
@@ -66,11 +72,11 @@ fn shows_and_copies_33_packets(rt: HostRuntime) {
     check_full(&rt, rt.alloc());
 }
 
-/// Moves a packet into another telegram, behind the last one.
-fn move_behind(
+/// Moves a packet into another telegram, after the last one.
+fn move_after(
     rt: &impl Abort,
-    from: &mut Balise,
-    to: &mut Balise,
+    from: &mut Telegram,
+    to: &mut Telegram,
     place: u32,
     last: Option<PacketTag>,
 ) {
@@ -79,25 +85,25 @@ fn move_behind(
 }
 
 /// Moves 33 packets into another telegram, from the first one on.
-fn fill_from_front(rt: &impl Abort, from: &mut Balise, to: &mut Balise) {
+fn fill_from_front(rt: &impl Abort, from: &mut Telegram, to: &mut Telegram) {
     let mut last = None;
     for place in 0..33 {
-        move_behind(rt, from, to, place, last);
+        move_after(rt, from, to, place, last);
         last = Some(PacketTag::Fresh(place));
     }
     check_shown(rt, to, FULL);
     check_shown(rt, from, LONG);
 }
 
-fn check_front(rt: &impl Abort, alloc: Global, from: &mut Balise) {
-    fill_from_front(rt, from, &mut balise(rt, alloc, LONG));
+fn check_front(rt: &impl Abort, alloc: Global, from: &mut Telegram) {
+    fill_from_front(rt, from, &mut telegram_of(rt, alloc, LONG));
 }
 
 /// Moves a packet into another telegram, before the first one.
 fn move_before(
     rt: &impl Abort,
-    from: &mut Balise,
-    to: &mut Balise,
+    from: &mut Telegram,
+    to: &mut Telegram,
     place: u32,
     tag: PacketTag,
     first: Option<PacketTag>,
@@ -107,7 +113,7 @@ fn move_before(
 }
 
 /// Moves 33 packets into another telegram, from the last one on.
-fn fill_from_back(rt: &impl Abort, from: &mut Balise, to: &mut Balise) {
+fn fill_from_back(rt: &impl Abort, from: &mut Telegram, to: &mut Telegram) {
     let mut first = None;
     for count in 0..33 {
         let tag = PacketTag::Base(count);
@@ -118,13 +124,13 @@ fn fill_from_back(rt: &impl Abort, from: &mut Balise, to: &mut Balise) {
     check_shown(rt, from, LONG);
 }
 
-fn check_back(rt: &impl Abort, alloc: Global, from: &mut Balise) {
-    fill_from_back(rt, from, &mut balise(rt, alloc, LONG));
+fn check_back(rt: &impl Abort, alloc: Global, from: &mut Telegram) {
+    fill_from_back(rt, from, &mut telegram_of(rt, alloc, LONG));
 }
 
 fn check_both(rt: &impl Abort, alloc: Global) {
-    check_front(rt, alloc, &mut balise(rt, alloc, FULL));
-    check_back(rt, alloc, &mut balise(rt, alloc, FULL));
+    check_front(rt, alloc, &mut telegram_of(rt, alloc, FULL));
+    check_back(rt, alloc, &mut telegram_of(rt, alloc, FULL));
 }
 
 #[test]
@@ -153,20 +159,26 @@ fn moves_among_33_packets(rt: HostRuntime) {
 }
 
 /// Whether a packet is put in that is as long as the room.
-fn fills(rt: &impl Abort, telegram: &mut Balise, ahead: bool, packet: Packet, after: &str) -> bool {
+fn fills(
+    rt: &impl Abort,
+    telegram: &mut Telegram,
+    ahead: bool,
+    packet: Packet,
+    after: &str,
+) -> bool {
     let put = put_beside(rt, telegram, ahead, None, PacketTag::Fresh(1), packet);
     put.is_ok() & shows(rt, telegram, after) & (telegram.room() == 0)
 }
 
 /// That a packet that is as long as the room is put in, taken out and put in again.
-fn check_fitting(rt: &impl Abort, telegram: &mut Balise, fitting: &Bits, after: &str) {
+fn check_fitting(rt: &impl Abort, telegram: &mut Telegram, fitting: &Bits, after: &str) {
     assert!(rt; fills(rt, telegram, false, read_packet(rt, fitting), after));
     let packet = taken(rt, telegram, PacketTag::Fresh(1));
     assert!(rt; fills(rt, telegram, true, packet, after));
 }
 
 /// That a packet that is longer than the room is handed back.
-fn check_longer(rt: &impl Abort, telegram: &mut Balise, longer: &Bits, before: &str) {
+pub(crate) fn check_longer(rt: &impl Abort, telegram: &mut Telegram, longer: &Bits, before: &str) {
     assert!(rt; hands_back(rt, telegram, longer, None, TelegramFault::NoRoom));
     check_shown(rt, telegram, before);
 }
@@ -176,23 +188,23 @@ type Room = (&'static str, u32, &'static str);
 
 const ROOMS: [Room; 2] = [(SHORT, 152, SHORT_FILLED), (LONG, 772, LONG_FILLED)];
 
-fn check_room(rt: &impl Abort, alloc: Global, telegram: &mut Balise, row: &Room) {
+fn check_room(rt: &impl Abort, alloc: Global, telegram: &mut Telegram, row: &Room) {
     check_fitting(rt, telegram, &opaque(rt, alloc, row.1), row.2);
 }
 
 /// The digits of a telegram, and the width of a packet that is too long.
 const LONGER: [(&str, u32); 3] = [(SHORT, 153), (LONG, 773), (FULL, 23)];
 
-fn check_no_room(rt: &impl Abort, alloc: Global, telegram: &mut Balise, row: &(&str, u32)) {
+fn check_no_room(rt: &impl Abort, alloc: Global, telegram: &mut Telegram, row: &(&str, u32)) {
     check_longer(rt, telegram, &opaque(rt, alloc, row.1), row.0);
 }
 
 fn check_rooms(rt: &impl Abort, alloc: Global) {
     for row in &ROOMS {
-        check_room(rt, alloc, &mut balise(rt, alloc, row.0), row);
+        check_room(rt, alloc, &mut telegram_of(rt, alloc, row.0), row);
     }
     for row in &LONGER {
-        check_no_room(rt, alloc, &mut balise(rt, alloc, row.0), row);
+        check_no_room(rt, alloc, &mut telegram_of(rt, alloc, row.0), row);
     }
 }
 

@@ -1,19 +1,27 @@
-//! Tests of balise_telegram: telegrams of known digits, held as their bits and open.
+//! Tests of balise_telegram: telegrams of known digits, their packets, and edits of them.
 #![tactic(auto)]
 
-#[cfg(test)]
-mod alike;
-#[cfg(test)]
-mod balise;
 #[cfg(test)]
 mod changes;
 #[cfg(test)]
 mod full;
 #[cfg(test)]
+mod header;
+#[cfg(test)]
+mod kinds;
+#[cfg(test)]
+mod largest;
+#[cfg(test)]
+mod lent;
+#[cfg(test)]
+mod memory;
+#[cfg(test)]
+mod order;
+#[cfg(test)]
 mod packets;
 #[cfg(test)]
 mod put;
 #[cfg(test)]
-mod same;
+mod telegram;
 #[cfg(test)]
 mod telegrams;

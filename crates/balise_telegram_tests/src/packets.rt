@@ -1,10 +1,10 @@
 //! Packets taken out and put in, with digits made by hand.
 
-use crate::balise::{FORMS, form};
 use crate::full::SHORT;
 use crate::put::{hands_back, put_beside};
-use crate::telegrams::{TWO_PACKETS, balise, check_shown, shows};
-use balise_telegram::{Balise, Bits, Packet, PacketTag, TelegramFault, Var};
+use crate::telegram::{EDITED, two_packets};
+use crate::telegrams::{TWO_PACKETS, check_shown, shows, telegram_of};
+use balise_telegram::{Bits, Packet, PacketTag, Telegram, TelegramFault, Var};
 use std::alloc::Global;
 use std::process::Abort;
 
@@ -63,11 +63,11 @@ fn has_bits(rt: &impl Abort, packet: &Packet, bits: &Bits) -> bool {
 }
 
 /// Whether the packets have these restrictions, in order.
-fn has_order(telegram: &Balise, restrictions: &[u32]) -> bool {
+pub(crate) fn has_order(telegram: &Telegram, restrictions: &[u32]) -> bool {
     let mut same = telegram.count() == restrictions.len();
     for (i, restriction) in restrictions.iter().enumerate() {
-        match telegram.packet_at(i) {
-            Some((tag, _)) => same &= telegram.field(tag, Var::NidTsr, 0) == Some(*restriction),
+        match telegram.at(i) {
+            Some((_, packet)) => same &= packet.field(Var::NidTsr, 0) == Some(*restriction),
             None => same = false,
         }
     }
@@ -78,7 +78,7 @@ fn has_order(telegram: &Balise, restrictions: &[u32]) -> bool {
 fn put(
     rt: &impl Abort,
     alloc: Global,
-    telegram: &mut Balise,
+    telegram: &mut Telegram,
     ahead: bool,
     text: &str,
     beside: Option<PacketTag>,
@@ -89,21 +89,29 @@ fn put(
 }
 
 /// Whether the one packet is taken out, which takes back restriction 5.
-fn takes(rt: &impl Abort, telegram: &mut Balise, tag: PacketTag) -> bool {
+fn takes(rt: &impl Abort, telegram: &mut Telegram, tag: PacketTag) -> bool {
     let (packet, next) = telegram.take(tag).expect(rt, "a packet");
     (packet.field(Var::NidTsr, 0) == Some(5)) & next.is_none()
+}
+
+/// Whether a packet 66 with this tag stands first.
+fn is_first(telegram: &Telegram, tag: PacketTag) -> bool {
+    match telegram.at(0) {
+        Some((first, packet)) => (first == tag) & (packet.number() == 66),
+        None => false,
+    }
 }
 
 /// Whether a telegram shows its one packet, and without it these digits.
 fn takes_out(
     rt: &impl Abort,
-    telegram: &mut Balise,
+    telegram: &mut Telegram,
     tag: PacketTag,
     before: &str,
     after: &str,
 ) -> bool {
     shows(rt, telegram, after)
-        & (telegram.packet_at(0) == Some((tag, 66)))
+        & is_first(telegram, tag)
         & takes(rt, telegram, tag)
         & shows(rt, telegram, before)
         & telegram.take(tag).is_err()
@@ -117,7 +125,7 @@ const EMPTY: &[(bool, &str, &str)] = &[
 ];
 
 /// That a packet is put in and taken out again.
-fn check_put(rt: &impl Abort, alloc: Global, telegram: &mut Balise, row: &(bool, &str, &str)) {
+fn check_put(rt: &impl Abort, alloc: Global, telegram: &mut Telegram, row: &(bool, &str, &str)) {
     let tag = PacketTag::Fresh(1);
     put(rt, alloc, telegram, row.0, FIVE, None, tag);
     assert!(rt; takes_out(rt, telegram, tag, row.1, row.2));
@@ -125,7 +133,7 @@ fn check_put(rt: &impl Abort, alloc: Global, telegram: &mut Balise, row: &(bool,
 
 fn check_each_put(rt: &impl Abort, alloc: Global) {
     for row in EMPTY.iter() {
-        check_put(rt, alloc, &mut balise(rt, alloc, row.1), row);
+        check_put(rt, alloc, &mut telegram_of(rt, alloc, row.1), row);
     }
 }
 
@@ -134,8 +142,17 @@ fn puts_a_packet_in_and_takes_it_out(rt: HostRuntime) {
     check_each_put(&rt, rt.alloc());
 }
 
+/// The same without the packet, read with it: its padding began after the packet.
+const PADDED_LATER: &str = "a1007f80a0327fffffffffda5a5a5a5a5a5a5a5a5a5a5a5a5a5a40";
+
+#[test]
+fn pads_with_ones_where_a_packet_was_read(rt: HostRuntime) {
+    let mut telegram = telegram_of(&rt, rt.alloc(), COLOURED_ONE);
+    assert!(rt; takes_out(&rt, &mut telegram, FIRST, PADDED_LATER, COLOURED_ONE));
+}
+
 /// Whether a packet is put in before or after another one, which one, its tag, the restrictions of all packets then,
-/// and what stands behind it.
+/// and what stands after it.
 type Row = (
     bool,
     Option<PacketTag>,
@@ -171,21 +188,21 @@ const BESIDE: &[Row] = &[
     (true, None, PacketTag::Fresh(3), [5, 7, 9], None),
 ];
 
-/// What stands behind the packet that is taken out.
-pub(crate) fn behind(rt: &impl Abort, telegram: &mut Balise, tag: PacketTag) -> Option<PacketTag> {
+/// What stands after the packet that is taken out.
+fn next_of(rt: &impl Abort, telegram: &mut Telegram, tag: PacketTag) -> Option<PacketTag> {
     telegram.take(tag).expect(rt, "a packet").1
 }
 
 /// Whether the packet that was put in is changed and taken out.
-fn changes_and_takes(rt: &impl Abort, telegram: &mut Balise, row: &Row) -> bool {
+fn changes_and_takes(rt: &impl Abort, telegram: &mut Telegram, row: &Row) -> bool {
     has_order(telegram, &row.3)
         & (telegram.set_field(row.2, Var::NidTsr, 0, 8) == Ok(9))
-        & (behind(rt, telegram, row.2) == row.4)
+        & (next_of(rt, telegram, row.2) == row.4)
         & shows(rt, telegram, TWO_PACKETS)
 }
 
 /// That a packet is put in, changed and taken out.
-fn check_each_beside(rt: &impl Abort, alloc: Global, telegram: &mut Balise) {
+fn check_each_beside(rt: &impl Abort, alloc: Global, telegram: &mut Telegram) {
     for row in BESIDE.iter() {
         put(rt, alloc, telegram, row.0, NINE, row.1, row.2);
         assert!(rt; changes_and_takes(rt, telegram, row));
@@ -193,7 +210,7 @@ fn check_each_beside(rt: &impl Abort, alloc: Global, telegram: &mut Balise) {
 }
 
 fn check_beside(rt: &impl Abort, alloc: Global) {
-    check_each_beside(rt, alloc, &mut balise(rt, alloc, TWO_PACKETS));
+    check_each_beside(rt, alloc, &mut telegram_of(rt, alloc, TWO_PACKETS));
 }
 
 #[test]
@@ -202,7 +219,7 @@ fn puts_a_packet_in_beside_another(rt: HostRuntime) {
 }
 
 /// Puts two packets in last.
-fn put_two_last(rt: &impl Abort, alloc: Global, telegram: &mut Balise) {
+fn put_two_last(rt: &impl Abort, alloc: Global, telegram: &mut Telegram) {
     for n in 0..2 {
         put(rt, alloc, telegram, true, FIVE, None, PacketTag::Fresh(n));
     }
@@ -210,7 +227,7 @@ fn put_two_last(rt: &impl Abort, alloc: Global, telegram: &mut Balise) {
 
 /// That what is lacking isn't changed, and that a packet is handed back that is put in beside it, or that there is no
 /// room for.
-fn check_refused(rt: &impl Abort, alloc: Global, telegram: &mut Balise, given: &Bits) {
+fn check_refused(rt: &impl Abort, alloc: Global, telegram: &mut Telegram, given: &Bits) {
     telegram.flip_dir(LACKING);
     telegram.flip_link(FIRST, 0);
     telegram.name_link(FIRST, 0, 777);
@@ -224,8 +241,8 @@ fn check_refused(rt: &impl Abort, alloc: Global, telegram: &mut Balise, given: &
 }
 
 fn check_each_refused(rt: &impl Abort, alloc: Global, given: &Bits) {
-    for is_open in &FORMS {
-        check_refused(rt, alloc, &mut form(rt, alloc, *is_open), given);
+    for is_edited in &EDITED {
+        check_refused(rt, alloc, &mut two_packets(rt, alloc, *is_edited), given);
     }
 }
 
@@ -234,13 +251,13 @@ fn check_nine(rt: &impl Abort, alloc: Global) {
 }
 
 #[test]
-fn a_refused_change_leaves_either_form(rt: HostRuntime) {
+fn a_refused_change_leaves_a_telegram(rt: HostRuntime) {
     check_nine(&rt, rt.alloc());
 }
 
 /// Moves a packet before the one beside it, or after it.
-fn shift(
-    telegram: &mut Balise,
+pub(crate) fn shift(
+    telegram: &mut Telegram,
     ahead: bool,
     tag: PacketTag,
     beside: Option<PacketTag>,
@@ -252,7 +269,7 @@ fn shift(
     }
 }
 
-/// Whether a packet is moved before or after another one, the two, what stood behind it, and the digits then.
+/// Whether a packet is moved before or after another one, the two, what stood after it, and the digits then.
 pub(crate) type Moved = (
     bool,
     PacketTag,
@@ -268,11 +285,11 @@ const MOVED: &[Moved] = &[
     (true, SECOND, None, Some(FIRST), TWO_PACKETS),
 ];
 
-fn moves(rt: &impl Abort, telegram: &mut Balise, row: &Moved) -> bool {
+fn moves(rt: &impl Abort, telegram: &mut Telegram, row: &Moved) -> bool {
     (shift(telegram, row.0, row.1, row.2) == Ok(row.3)) & shows(rt, telegram, row.4)
 }
 
-fn check_each_move(rt: &impl Abort, telegram: &mut Balise, rows: &[Moved]) {
+fn check_each_move(rt: &impl Abort, telegram: &mut Telegram, rows: &[Moved]) {
     for row in rows.iter() {
         assert!(rt; moves(rt, telegram, row));
     }
@@ -280,7 +297,7 @@ fn check_each_move(rt: &impl Abort, telegram: &mut Balise, rows: &[Moved]) {
 
 /// That packets of a telegram are moved.
 pub(crate) fn check_moves(rt: &impl Abort, alloc: Global, text: &str, rows: &[Moved]) {
-    check_each_move(rt, &mut balise(rt, alloc, text), rows);
+    check_each_move(rt, &mut telegram_of(rt, alloc, text), rows);
 }
 
 #[test]
@@ -308,11 +325,11 @@ const ORDERED: &[Ordered] = &[
     (true, THIRD, Some(FIRST), None, [7, 9, 5]),
 ];
 
-fn orders(telegram: &mut Balise, row: &Ordered) -> bool {
+fn orders(telegram: &mut Telegram, row: &Ordered) -> bool {
     (shift(telegram, row.0, row.1, row.2) == Ok(row.3)) & has_order(telegram, &row.4)
 }
 
-fn check_each_order(rt: &impl Abort, alloc: Global, telegram: &mut Balise) {
+fn check_each_order(rt: &impl Abort, alloc: Global, telegram: &mut Telegram) {
     put(rt, alloc, telegram, true, NINE, None, THIRD);
     for row in ORDERED.iter() {
         assert!(rt; orders(telegram, row));
@@ -320,7 +337,7 @@ fn check_each_order(rt: &impl Abort, alloc: Global, telegram: &mut Balise) {
 }
 
 fn check_orders(rt: &impl Abort, alloc: Global) {
-    check_each_order(rt, alloc, &mut balise(rt, alloc, TWO_PACKETS));
+    check_each_order(rt, alloc, &mut telegram_of(rt, alloc, TWO_PACKETS));
 }
 
 #[test]
@@ -345,19 +362,19 @@ const NOT_MOVED: &[Refused] = &[
     (false, SECOND, Some(SECOND), TelegramFault::SamePlace),
 ];
 
-fn is_not_moved(rt: &impl Abort, telegram: &mut Balise, row: &Refused) -> bool {
+fn is_not_moved(rt: &impl Abort, telegram: &mut Telegram, row: &Refused) -> bool {
     (shift(telegram, row.0, row.1, row.2) == Err(row.3)) & shows(rt, telegram, TWO_PACKETS)
 }
 
-fn check_each_not_moved(rt: &impl Abort, telegram: &mut Balise) {
+fn check_each_not_moved(rt: &impl Abort, telegram: &mut Telegram) {
     for row in NOT_MOVED.iter() {
         assert!(rt; is_not_moved(rt, telegram, row));
     }
 }
 
 fn check_not_moved(rt: &impl Abort, alloc: Global) {
-    for is_open in &FORMS {
-        check_each_not_moved(rt, &mut form(rt, alloc, *is_open));
+    for is_edited in &EDITED {
+        check_each_not_moved(rt, &mut two_packets(rt, alloc, *is_edited));
     }
 }
 

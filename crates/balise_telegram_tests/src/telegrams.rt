@@ -1,16 +1,37 @@
 //! Telegrams of known digits, each read and shown again.
 
-use crate::balise::{FORMS, form, reads};
 use crate::changes::LINKING;
 use crate::full::SHORT;
 use crate::packets::{COLOURED, ONE_PACKET};
-use balise_telegram::{Balise, Bits, PacketTag, Refusal, TelegramFault, Var};
+use crate::telegram::{EDITED, two_packets};
+use balise_telegram::{Bits, PacketTag, Refusal, Telegram, TelegramFault, Var};
 use std::alloc::Global;
 use std::process::Abort;
 
-/// Whether the telegram shows these bits.
-pub(crate) fn shows_bits(rt: &impl Abort, telegram: &Balise, bits: &Bits) -> bool {
-    telegram.shown().expect(rt, "memory") == *bits
+/// Whether the telegram shows these bits, lent and copied.
+fn shows_bits(rt: &impl Abort, telegram: &Telegram, bits: &Bits) -> bool {
+    (telegram.shown().expect(rt, "memory") == *bits) & (*telegram.bits() == *bits)
+}
+
+/// Whether this is the outcome of reading these bits: a telegram that shows them, or this fault.
+fn is_read(
+    rt: &impl Abort,
+    outcome: Result<Telegram, TelegramFault>,
+    bits: &Bits,
+    fault: Option<TelegramFault>,
+) -> bool {
+    match outcome {
+        Ok(telegram) => fault.is_none() & shows_bits(rt, &telegram, bits),
+        Err(why) => fault == Some(why),
+    }
+}
+
+/// Whether reading these bits answers this, and leaves them.
+fn reads(rt: &impl Abort, bits: &Bits, fault: Option<TelegramFault>) -> bool {
+    let given = bits.copy().expect(rt, "memory");
+    is_read(rt, Telegram::read(&given), bits, fault)
+        & (given == *bits)
+        & is_read(rt, Telegram::of_bits(given), bits, fault)
 }
 
 /// That reading these digits answers this, and that what is read shows them.
@@ -97,8 +118,8 @@ pub(crate) fn bits(rt: &impl Abort, alloc: Global, text: &str) -> Bits {
     Bits::from_hex(alloc, text, len).expect(rt, "digits")
 }
 
-pub(crate) fn balise(rt: &impl Abort, alloc: Global, text: &str) -> Balise {
-    Balise::read(bits(rt, alloc, text)).expect(rt, "a telegram")
+pub(crate) fn telegram_of(rt: &impl Abort, alloc: Global, text: &str) -> Telegram {
+    Telegram::of_bits(bits(rt, alloc, text)).expect(rt, "a telegram")
 }
 
 /// Whether these are the bits of a telegram's digits.
@@ -107,12 +128,13 @@ fn are_digits(rt: &impl Abort, shown: &Bits, text: &str) -> bool {
 }
 
 /// Whether the telegram shows these digits.
-pub(crate) fn shows(rt: &impl Abort, telegram: &Balise, text: &str) -> bool {
-    are_digits(rt, &telegram.shown().expect(rt, "memory"), text)
+pub(crate) fn shows(rt: &impl Abort, telegram: &Telegram, text: &str) -> bool {
+    are_digits(rt, telegram.bits(), text)
+        & are_digits(rt, &telegram.shown().expect(rt, "memory"), text)
 }
 
 /// That the telegram shows these digits.
-pub(crate) fn check_shown(rt: &impl Abort, telegram: &Balise, text: &str) {
+pub(crate) fn check_shown(rt: &impl Abort, telegram: &Telegram, text: &str) {
     assert!(rt; shows(rt, telegram, text));
 }
 
@@ -143,7 +165,7 @@ const NOT_SET: [NotSet; 6] = [
 ];
 
 /// Whether a field isn't set, and nothing changes.
-fn is_not_set(rt: &impl Abort, telegram: &mut Balise, row: &NotSet) -> bool {
+fn is_not_set(rt: &impl Abort, telegram: &mut Telegram, row: &NotSet) -> bool {
     (telegram.set_field(row.0, row.1, row.2, row.3) == Err(row.4))
         & shows(rt, telegram, TWO_PACKETS)
 }
@@ -151,7 +173,7 @@ fn is_not_set(rt: &impl Abort, telegram: &mut Balise, row: &NotSet) -> bool {
 /// Whether the second packet's restriction is set, and these digits are shown then.
 pub(crate) fn sets(
     rt: &impl Abort,
-    telegram: &mut Balise,
+    telegram: &mut Telegram,
     value: u32,
     old: u32,
     text: &str,
@@ -162,7 +184,7 @@ pub(crate) fn sets(
 /// The two packets, the second one with restriction 9.
 pub(crate) const SET: &str = "a1007f80a03250900f82a1201f09ffffffffffffffffffffffffc0";
 
-fn set_fields(rt: &impl Abort, telegram: &mut Balise) -> bool {
+fn set_fields(rt: &impl Abort, telegram: &mut Telegram) -> bool {
     let mut same = true;
     for row in &NOT_SET {
         same &= is_not_set(rt, telegram, row);
@@ -183,7 +205,7 @@ const HEAD_NOT_SET: [HeadNotSet; 6] = [
 ];
 
 /// Whether a variable of the header isn't set, and nothing changes.
-fn head_is_not_set(rt: &impl Abort, telegram: &mut Balise, row: &HeadNotSet) -> bool {
+fn head_is_not_set(rt: &impl Abort, telegram: &mut Telegram, row: &HeadNotSet) -> bool {
     (telegram.set_head(row.0, row.1) == Err(row.2)) & shows(rt, telegram, TWO_PACKETS)
 }
 
@@ -197,14 +219,14 @@ const HEAD_SET: [HeadSet; 3] = [
 ];
 
 /// Whether a variable of the header is set.
-pub(crate) fn sets_head(telegram: &mut Balise, row: &HeadSet) -> bool {
+pub(crate) fn sets_head(telegram: &mut Telegram, row: &HeadSet) -> bool {
     (telegram.set_head(row.0, row.1) == Ok(row.2)) & (telegram.head(row.0) == Some(row.1))
 }
 
 /// The two packets under the header that was set.
 const HEAD_IS_SET: &str = "a1010380a03210900f82a1201f07ffffffffffffffffffffffffc0";
 
-fn set_heads(rt: &impl Abort, telegram: &mut Balise) -> bool {
+fn set_heads(rt: &impl Abort, telegram: &mut Telegram) -> bool {
     let mut same = true;
     for row in &HEAD_NOT_SET {
         same &= head_is_not_set(rt, telegram, row);
@@ -215,13 +237,13 @@ fn set_heads(rt: &impl Abort, telegram: &mut Balise) -> bool {
     same & shows(rt, telegram, HEAD_IS_SET)
 }
 
-fn check_set(rt: &impl Abort, telegram: &mut Balise) {
+fn check_set(rt: &impl Abort, telegram: &mut Telegram) {
     assert!(rt; set_fields(rt, telegram) & set_heads(rt, telegram));
 }
 
 fn check_set_of_each(rt: &impl Abort, alloc: Global) {
-    for is_open in &FORMS {
-        check_set(rt, &mut form(rt, alloc, *is_open));
+    for is_edited in &EDITED {
+        check_set(rt, &mut two_packets(rt, alloc, *is_edited));
     }
 }
 

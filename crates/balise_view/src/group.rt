@@ -53,10 +53,10 @@ fn send_telegrams<S: Serializer>(group: &Group, out: &mut S) -> Result<(), S::Er
     let count = group.count();
     out.begin_seq(Some(count))?;
     for pig in 0..count {
-        let Some((_, balise)) = group.at(pig) else {
+        let Some((_, telegram)) = group.at(pig) else {
             unreachable!()
         };
-        DescribedTelegram(balise).serialize(out)?;
+        DescribedTelegram(telegram).serialize(out)?;
     }
     out.end_seq()
 }

@@ -11,12 +11,12 @@ ghost use Rattle.balise_view.specs.Given.{packet_data, telegram_data};
 use crate::packet::DescribedPacket;
 use balise_layout::is_known;
 use balise_rules::Var;
-use balise_telegram::Balise;
+use balise_telegram::Telegram;
 use serde::{Described, Serialize, Serializer};
 
 /// The telegram of a balise, to be written.
 #[derive(Clone, Copy)]
-pub(crate) struct DescribedTelegram<'a>(pub(crate) &'a Balise);
+pub(crate) struct DescribedTelegram<'a>(pub(crate) &'a Telegram);
 
 impl Described for DescribedTelegram<'_> {
     ghost writes = { λ t. SendsValue (telegram_data t.0.now) };
@@ -44,31 +44,27 @@ impl Serialize for DescribedTelegram<'_> {
 }
 
 // Its packets in order.
-fn send_packets<S: Serializer>(balise: &Balise, out: &mut S) -> Result<(), S::Error>
-    ensures { OnOk result (SendsValue (array (items_of (map (λ p. packet_data (version_of balise.now) p.1) balise.now.packets))) (S.written out.old) (S.written out.new)) }
+fn send_packets<S: Serializer>(telegram: &Telegram, out: &mut S) -> Result<(), S::Error>
+    ensures { OnOk result (SendsValue (array (items_of (map (λ p. packet_data (version_of telegram.now) p.1) telegram.now.packets))) (S.written out.old) (S.written out.new)) }
 {
-    let version = balise.version();
-    let count = balise.count();
-    out.begin_seq(Some(count))?;
-    for place in 0..count {
-        let Some((_, number)) = balise.packet_at(place) else {
-            unreachable!()
-        };
-        let Ok(Some(fields)) = balise.fields_at(place) else {
+    let version = telegram.version();
+    out.begin_seq(Some(telegram.count()))?;
+    for (_, packet) in telegram.packets() {
+        let Ok(fields) = packet.fields() else {
             return Err(out.custom("no memory"));
         };
-        let packet = DescribedPacket {
+        let described = DescribedPacket {
             fields: fields.as_slice(),
-            known: is_known(version, number),
+            known: is_known(version, packet.number()),
         };
-        packet.serialize(out)?;
+        described.serialize(out)?;
     }
     out.end_seq()
 }
 
 // The value of a variable of the header.
-fn head_value(balise: &Balise, var: Var) -> u32
-    ensures { result ≡ value var 0 balise.now.head }
+fn head_value(telegram: &Telegram, var: Var) -> u32
+    ensures { result ≡ value var 0 telegram.now.head }
 {
-    balise.head(var).unwrap_or(0)
+    telegram.head(var).unwrap_or(0)
 }

@@ -121,7 +121,7 @@ fn check_moved(rt: &impl Abort, alloc: Global, plan: &mut Plan) {
     check_line(rt, alloc, plan.group(GROUP).expect(rt, "a group"), MOVED);
 }
 
-// Two packets 66, the second moved to the front: the telegram is held as its packets then.
+// Two packets 66, the second moved to the front: their tags no longer go by their places.
 #[test]
 fn packets_moved(rt: HostRuntime) {
     let text = "a1007f80a03250900f82a1201f07ffffffffffffffffffffffffc0";

@@ -122,8 +122,8 @@ pub(crate) fn delete(
     ensures kind { IfOk result (λ m. kind_in m ≡ OfDeletion) }
 {
     let mut names = Vec::new(alloc);
-    if let Some(balise) = plan.telegram(g, t) {
-        let Ok(links) = balise.links(p) else {
+    if let Some(telegram) = plan.telegram(g, t) {
+        let Ok(links) = telegram.links(p) else {
             return Err(Refusal::OutOfMemory);
         };
         add_real(&mut names, &links)?;

@@ -8,10 +8,10 @@ ghost use Rattle.balise_rules.specs.Variables.{is_distance};
 ghost use Rattle.balise_layout.specs.Collected.{all_keyed};
 ghost use Rattle.balise_edits.specs.Reviews.{distances, packet_lines, telegram_lines};
 
-use balise_layout::{Packet, is_known};
+use balise_layout::is_known;
 use balise_plan::Group;
 use balise_rules::{Id, Refusal, ReviewLine, Reviewed, Var};
-use balise_telegram::Balise;
+use balise_telegram::{PacketRef, Telegram};
 
 /// Lists those of a group as it will be once turned, its telegrams from the last to the first.
 pub(crate) fn add_distances(found: &mut Vec<ReviewLine>, group: &Group) -> Result<(), Refusal>
@@ -21,40 +21,36 @@ pub(crate) fn add_distances(found: &mut Vec<ReviewLine>, group: &Group) -> Resul
     let count = group.count();
     let id = group.identity();
     for pig in 0..count {
-        let Some((_, balise)) = group.at(count - 1 - pig) else {
+        let Some((_, telegram)) = group.at(count - 1 - pig) else {
             return Ok(());
         };
         let Ok(place) = u32::try_from(pig) else {
             return Err(Refusal::OutOfMemory);
         };
-        add_telegram(found, id, place, balise)?;
+        add_telegram(found, id, place, telegram)?;
     }
     Ok(())
 }
 
-// Those of a telegram's packets. They are taken out of a copy one after another.
+// Those of a telegram's packets.
 fn add_telegram(
     found: &mut Vec<ReviewLine>,
     id: Id,
     pig: u32,
-    balise: &Balise,
+    telegram: &Telegram,
 ) -> Result<(), Refusal>
-    ensures ok { OnOk result (found.new.items ≡ found.old.items ++ packet_lines id (version_of balise.now) pig 0 balise.now.packets) }
+    ensures ok { OnOk result (found.new.items ≡ found.old.items ++ packet_lines id (version_of telegram.now) pig 0 telegram.now.packets) }
     ensures fault { IsOkUnless result Refusal.OutOfMemory }
 {
-    let version = balise.version();
-    let mut rest = balise.copy()?;
-    for pkt in 0..balise.count() {
-        let Some((p, _)) = rest.packet_at(0) else {
-            return Ok(());
-        };
-        let Ok((packet, _)) = rest.take(p) else {
-            return Err(Refusal::OutOfMemory);
-        };
+    let version = telegram.version();
+    let _count = telegram.count();
+    let mut pkt: usize = 0;
+    for (_, packet) in telegram.packets() {
         let Ok(place) = u32::try_from(pkt) else {
             return Err(Refusal::OutOfMemory);
         };
         add_packet(found, id, pig, place, version, &packet)?;
+        pkt += 1;
     }
     Ok(())
 }
@@ -66,7 +62,7 @@ fn add_packet(
     pig: u32,
     pkt: u32,
     version: u32,
-    packet: &Packet,
+    packet: &PacketRef<'_>,
 ) -> Result<(), Refusal>
     ensures ok { OnOk result (found.new.items ≡ found.old.items ++ lines_at id pig pkt (looked_in version packet.now)) }
     ensures fault { IsOkUnless result Refusal.OutOfMemory }

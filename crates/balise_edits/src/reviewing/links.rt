@@ -1,20 +1,17 @@
 //! The links to a group.
 
-ghost use Rattle.std.specs.Prelude.{◌≡◌, ◌++◌, ◌<◌, ◌^◌, cond, flat_map, IfOk, IsOkUnless, length, OnOk, reverse, slice_get, Some, true};
+ghost use Rattle.std.specs.Prelude.{◌≡◌, ◌++◌, ◌<◌, ◌^◌, All, cond, flat_map, IfOk, IsOkUnless, length, OnOk, reverse, slice_get, Some, true};
 ghost use Rattle.std.specs.List.Sorted.{IsStrictlySortedBy};
 ghost use Rattle.std.specs.Ordering.{nat_cmp};
 ghost use Rattle.balise_rules.specs.Forms.{Numbered};
 ghost use Rattle.balise_rules.specs.Names.{is_real};
-ghost use Rattle.balise_rules.specs.Packet.{Packet};
 ghost use Rattle.balise_rules.specs.Plan.{country_of, identity_of, IsSound, IsSoundGroup};
-ghost use Rattle.balise_rules.specs.Review.{lines_at};
-ghost use Rattle.balise_rules.specs.Tagged.{find, Distinct};
-ghost use Rattle.balise_rules.specs.Tags.{same_tag};
-ghost use Rattle.balise_edits.specs.Reviews.{distance_under, group_links, links_of, named_under, packet_links, telegram_links, HasLinking, HasPlaces};
+ghost use Rattle.balise_rules.specs.Review.{distance_of, lines_at};
+ghost use Rattle.balise_edits.specs.Reviews.{group_links, links_of, named_in, packet_links, telegram_links, HasLinking, HasPlaces};
 
 use balise_plan::{Group, LinkPlace, Plan};
 use balise_rules::{Id, Refusal, ReviewLine, Reviewed, Tag, Var};
-use balise_telegram::Balise;
+use balise_telegram::{PacketRef, Telegram};
 use std::collections::BTreeSet;
 
 /// Lists the links to an identity, of the plan as it will be once a group is turned. Only the groups that have such a
@@ -106,13 +103,13 @@ fn add_group(
     let own = group.identity();
     for pig in 0..count {
         let at = if turned { count - 1 - pig } else { pig };
-        let Some((_, balise)) = group.at(at) else {
+        let Some((_, telegram)) = group.at(at) else {
             return Ok(());
         };
         let Ok(place) = u32::try_from(pig) else {
             return Err(Refusal::OutOfMemory);
         };
-        add_telegram(found, id, own, place, balise)?;
+        add_telegram(found, id, own, place, telegram)?;
     }
     Ok(())
 }
@@ -123,38 +120,41 @@ fn add_telegram(
     id: Id,
     own: Id,
     pig: u32,
-    balise: &Balise,
+    telegram: &Telegram,
 ) -> Result<(), Refusal>
-    requires numbered { (p : Tag) → (x : Packet) → find same_tag p balise.now.packets ≡ Some x → Numbered x.fields }
-    ensures ok { OnOk result (found.new.items ≡ found.old.items ++ packet_links id own (country_of balise.now) pig 0 balise.now.packets) }
+    requires numbered { All (λ p. Numbered p.1.fields) telegram.now.packets }
+    ensures ok { OnOk result (found.new.items ≡ found.old.items ++ packet_links id own (country_of telegram.now) pig 0 telegram.now.packets) }
     ensures fault { IsOkUnless result Refusal.OutOfMemory }
 {
-    for pkt in 0..balise.count() {
-        let Some((p, _)) = balise.packet_at(pkt) else {
-            return Ok(());
-        };
+    let country = telegram.identity().country;
+    let _count = telegram.count();
+    let mut pkt: usize = 0;
+    for (_, packet) in telegram.packets() {
         let Ok(place) = u32::try_from(pkt) else {
             return Err(Refusal::OutOfMemory);
         };
-        add_packet(found, id, own, pig, place, balise, p)?;
+        add_packet(found, id, own, pig, place, country, &packet)?;
+        pkt += 1;
     }
     Ok(())
 }
 
-// Those of a packet, which stands.
+// Those of a packet of a telegram of this country.
 fn add_packet(
     found: &mut Vec<ReviewLine>,
     id: Id,
     own: Id,
     pig: u32,
     pkt: u32,
-    balise: &Balise,
-    p: Tag,
+    country: u32,
+    packet: &PacketRef<'_>,
 ) -> Result<(), Refusal>
-    ensures ok { OnOk result (found.new.items ≡ found.old.items ++ lines_at own pig pkt (named_under id p balise.now)) }
+    ensures ok { OnOk result (found.new.items ≡ found.old.items ++ lines_at own pig pkt (named_in id country packet.now)) }
     ensures fault { IsOkUnless result Refusal.OutOfMemory }
 {
-    let links = balise.links(p)?;
+    let Ok(links) = packet.links(country) else {
+        return Err(Refusal::OutOfMemory);
+    };
     for k in 0..links.len() {
         if links[k] != id {
             continue;
@@ -162,8 +162,8 @@ fn add_packet(
         let Ok(next) = u32::try_from(k + 1) else {
             return Err(Refusal::OutOfMemory);
         };
-        add_distance(found, own, pig, pkt, balise, p, next - 1)?;
-        add_distance(found, own, pig, pkt, balise, p, next)?;
+        add_distance(found, own, pig, pkt, packet, next - 1)?;
+        add_distance(found, own, pig, pkt, packet, next)?;
     }
     Ok(())
 }
@@ -174,14 +174,13 @@ fn add_distance(
     own: Id,
     pig: u32,
     pkt: u32,
-    balise: &Balise,
-    p: Tag,
+    packet: &PacketRef<'_>,
     k: u32,
 ) -> Result<(), Refusal>
-    ensures ok { OnOk result (found.new.items ≡ found.old.items ++ lines_at own pig pkt (distance_under p balise.now k)) }
+    ensures ok { OnOk result (found.new.items ≡ found.old.items ++ lines_at own pig pkt (distance_of packet.now.fields k)) }
     ensures fault { IsOkUnless result Refusal.OutOfMemory }
 {
-    let Some(value) = balise.field(p, Var::DLink, k) else {
+    let Some(value) = packet.field(Var::DLink, k) else {
         return Ok(());
     };
     let what = Reviewed::Field(Var::DLink, k, value);

@@ -61,10 +61,10 @@ fn edit_in(plan: &Plan, edit: LineEdit) -> Result<Edit, Refusal>
             after,
             packet: digits,
         } => {
-            let Some(balise) = plan.telegram(g, t) else {
+            let Some(telegram) = plan.telegram(g, t) else {
                 return Err(Refusal::JournalMismatch);
             };
-            match packet_in(&digits, balise.version()) {
+            match packet_in(&digits, telegram.version()) {
                 Ok(packet) => Ok(Edit::InsertPacket {
                     g,
                     t,

@@ -5,14 +5,14 @@ ghost use Rattle.balise_plan.specs.Walks.{changed, in_group, with_number, FitsNa
 ghost use Rattle.std.specs.Prelude.{eqb, ◌≡◌, ◌<◌, ◌^◌, IfOk, IfErr};
 ghost use Rattle.balise_plan.specs.LinksIn.{LinksIn, NoLinks};
 ghost use Rattle.balise_telegram.specs.Setting.{SetsField, SetsHead};
-ghost use Rattle.balise_telegram.specs.Balise.{OrWants};
+ghost use Rattle.balise_telegram.specs.Changes.{OrWants};
 ghost use Rattle.balise_telegram.specs.Moving.{TakesOut};
 
 use crate::change::Change;
 use crate::group::{Group, find};
 use balise_layout::Packet;
 use balise_rules::{Id, Refusal, Tag, Var};
-use balise_telegram::Balise;
+use balise_telegram::Telegram;
 
 impl Group {
     /// Sets a field of a packet of one telegram.
@@ -111,7 +111,7 @@ impl Group {
 
 // Another number in each header.
 #[tactic(auto, unfolding(balise_rules::specs::Variables::width_of))]
-fn number_each(telegrams: &mut Vec<(u32, Balise)>, number: u32)
+fn number_each(telegrams: &mut Vec<(u32, Telegram)>, number: u32)
     requires { number < 2 ^ 14 }
     ensures { telegrams.new.items ≡ with_number number telegrams.old.items }
 {

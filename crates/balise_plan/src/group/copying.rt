@@ -13,8 +13,8 @@ impl Group {
     {
         let alloc = *self.telegrams.allocator();
         let mut telegrams = Vec::with_capacity(alloc, self.telegrams.len())?;
-        for (tag, balise) in &self.telegrams {
-            telegrams.push((*tag, balise.copy()?))?;
+        for (tag, telegram) in &self.telegrams {
+            telegrams.push((*tag, telegram.copy()?))?;
         }
         Ok(Group { telegrams })
     }

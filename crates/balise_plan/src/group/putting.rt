@@ -1,19 +1,20 @@
 //! A packet put into one telegram of a group, or moved in it.
 
 ghost use Rattle.std.specs.Prelude.{◌≡◌, None, Some, eqb, option_map};
+ghost use Rattle.balise_rules.specs.Packet.{IsSpelt};
 ghost use Rattle.balise_rules.specs.Plan.{country_of};
 ghost use Rattle.balise_rules.specs.Tagged.{find as under};
 ghost use Rattle.balise_rules.specs.Tags.{same_tag};
-ghost use Rattle.balise_rules.specs.Telegram.{Telegram};
+ghost use Rattle.balise_rules.specs.Telegram.{version_of, Telegram};
 ghost use Rattle.balise_plan.specs.PutsIn.{PutsIn, ShiftsIn, no_telegram};
 ghost use Rattle.balise_plan.specs.Within.{Within, Passed, no_telegram as lacking};
-ghost use Rattle.balise_telegram.specs.Balise.{OrWants};
+ghost use Rattle.balise_telegram.specs.Changes.{OrWants};
 
 use crate::group::{Group, find};
 use crate::spot::Spot;
 use balise_layout::Packet;
 use balise_rules::{Refusal, Tag, Var};
-use balise_telegram::{Balise, TelegramFault};
+use balise_telegram::{Telegram, TelegramFault};
 
 impl Group {
     /// NID_C of one telegram, of 10 bits.
@@ -27,7 +28,7 @@ impl Group {
         Some(telegram.head(Var::NidC).unwrap_or(0))
     }
 
-    /// Puts a packet into one telegram under a tag that is new there.
+    /// Puts a packet into one telegram under a tag that is new there. The packet is spelt in the telegram's version.
     pub(crate) fn put_packet(
         &mut self,
         t: u32,
@@ -35,7 +36,8 @@ impl Group {
         p: Tag,
         packet: Packet,
     ) -> Result<(), (Refusal, Packet)>
-        requires { (y : Telegram) → under eqb t self.old ≡ Some y → under same_tag p y.packets ≡ None }
+        requires new { (y : Telegram) → under eqb t self.old ≡ Some y → under same_tag p y.packets ≡ None }
+        requires spelt { (y : Telegram) → under eqb t self.old ≡ Some y → IsSpelt (version_of y) packet }
         ensures { Within eqb t (no_telegram packet) (PutsIn spot p packet) self.old result self.new }
     {
         let Some(i) = find(&self.telegrams, t) else {
@@ -67,12 +69,13 @@ impl Group {
 }
 
 fn put(
-    telegram: &mut Balise,
+    telegram: &mut Telegram,
     spot: Spot<Tag>,
     p: Tag,
     packet: Packet,
 ) -> Result<(), (Refusal, Packet)>
-    requires { under same_tag p telegram.old.packets ≡ None }
+    requires new { under same_tag p telegram.old.packets ≡ None }
+    requires spelt { IsSpelt (version_of telegram.old) packet }
     ensures { PutsIn spot p packet telegram.old result telegram.new }
 {
     let answer = match spot {
@@ -85,7 +88,7 @@ fn put(
     }
 }
 
-fn shift(telegram: &mut Balise, p: Tag, spot: Spot<Tag>) -> Result<Option<Tag>, TelegramFault>
+fn shift(telegram: &mut Telegram, p: Tag, spot: Spot<Tag>) -> Result<Option<Tag>, TelegramFault>
     ensures { OrWants (ShiftsIn spot p) telegram.old result telegram.new }
 {
     match spot {

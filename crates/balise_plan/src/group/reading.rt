@@ -7,7 +7,7 @@ ghost use Rattle.balise_rules.specs.Plan.{agree_from, read_group, IsSoundGroup};
 use crate::group::{Group, identity};
 use balise_bits::Bits;
 use balise_rules::{Id, Refusal, Var};
-use balise_telegram::Balise;
+use balise_telegram::Telegram;
 use std::alloc::Global;
 
 impl Group {
@@ -27,18 +27,18 @@ impl Group {
         let mut read = Vec::with_capacity(alloc, count)?;
         let mut tag = 0;
         for bits in telegrams {
-            let balise = match Balise::read(bits) {
-                Ok(balise) => balise,
+            let telegram = match Telegram::of_bits(bits) {
+                Ok(telegram) => telegram,
                 Err(fault) => return Err(fault.refusal()),
             };
-            read.push((tag, balise))?;
+            read.push((tag, telegram))?;
             tag += 1;
         }
         Group::of_read(read)
     }
 
     // The group of telegrams that were read.
-    pub(crate) fn of_read(telegrams: Vec<(u32, Balise)>) -> Result<Group, Refusal>
+    pub(crate) fn of_read(telegrams: Vec<(u32, Telegram)>) -> Result<Group, Refusal>
         requires { WereRead telegrams.items }
         ensures group { result ≡ group_of telegrams.items }
         ensures sound { IfOk result (λ g. IsSoundGroup g) }
@@ -60,7 +60,7 @@ impl Group {
 }
 
 // Whether each telegram has its place as N_PIG, the count less one as N_TOTAL, and this identity.
-fn agree(telegrams: &Vec<(u32, Balise)>, id: Id) -> bool
+fn agree(telegrams: &Vec<(u32, Telegram)>, id: Id) -> bool
     requires { length telegrams.now.items < 2 ^ 32 }
     ensures { result ≡ agree_from id (length telegrams.now.items - 1) 0 telegrams.now.items }
 {

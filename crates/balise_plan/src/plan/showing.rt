@@ -37,10 +37,10 @@ fn shown_group(alloc: Global, group: &Group) -> Result<Vec<Bits>, Refusal>
 {
     let mut telegrams = Vec::with_capacity(alloc, group.count())?;
     for i in 0..group.count() {
-        let Some((_, balise)) = group.at(i) else {
+        let Some((_, telegram)) = group.at(i) else {
             return Ok(telegrams);
         };
-        let bits = balise.shown()?;
+        let bits = telegram.shown()?;
         telegrams.push(bits)?;
     }
     Ok(telegrams)

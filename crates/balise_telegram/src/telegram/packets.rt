@@ -1,44 +1,74 @@
-//! Packets taken out and put in. Header and padding stay.
+//! Packets taken out of a telegram, put in and moved. The bits after them are shifted.
 
-ghost use Rattle.std.specs.Prelude.{◌≡◌, ◌≤◌, IfSome, is_some, length, Option, None, option_map, slice_get};
-ghost use Rattle.balise_rules.specs.Packet.{Packet};
+ghost use Rattle.std.specs.Prelude.{◌≡◌, ◌≤◌, ◌<◌, IfSome, IsOk, vec_len, vec_capacity, OnErr, OnOk, IsOkUnless, is_some, option_map, length, Option};
+ghost use Rattle.std.specs.List.{insert, remove};
+ghost use Rattle.balise_rules.specs.Back.{with_packets};
+ghost use Rattle.balise_rules.specs.Packet.{width, IsSpelt, Packet};
 ghost use Rattle.balise_rules.specs.Tagged.{find, put, put_before, stands};
 ghost use Rattle.balise_rules.specs.Tags.{same_tag};
+ghost use Rattle.balise_rules.specs.Telegram.{room, shown, used, version_of, Telegram};
 ghost use Rattle.balise_rules.specs.declared.tag.Tag.{Tag};
-ghost use Rattle.balise_telegram.specs.Moving.{place_after, place_before, inserted, Inserts, Shifts, ShiftsBefore, TakesOut};
+ghost use Rattle.balise_telegram.specs.Changes.{InsertsOrWants, OrWants};
+ghost use Rattle.balise_telegram.specs.Moving.{inserted, place_after, place_before, Shifts, ShiftsBefore, TakesOut};
+ghost use Rattle.balise_telegram.specs.Shown.{index_of, Gap, IsOver, IsPlace, IsShown, Spot};
+ghost use Rattle.balise_telegram.specs.declared.telegram.walking.Place.{Place};
 
 use crate::PacketTag;
 use crate::fault::TelegramFault;
 use crate::telegram::Telegram;
+use crate::telegram::edited::{Edited, edited_or_read};
+use crate::telegram::walking::{Place, first};
+use balise_bits::Bits;
 use balise_layout::Packet;
-use std::alloc::AllocFailed;
 
 impl Telegram {
-    /// Takes the packet with this tag out, and answers it and the tag of its next neighbour. Takes no memory.
-    /// Refused, and then all stays: `NoSuchPacket`.
-    pub fn take(&mut self, tag: PacketTag) -> Result<(Packet, Option<PacketTag>), TelegramFault>
-        ensures { TakesOut tag self.old result self.new }
+    /// How many bits of padding it shows, which is the room for further packets.
+    pub fn room(&self) -> usize
+        ensures room { result ≡ room self.now }
+        ensures fits { used self.now.packets ≤ length self.now.padding }
     {
-        let Some(i) = self.place_of(tag) else {
+        self.packed.len() - self.used()
+    }
+
+    /// Takes the packet with this tag out, and answers it and the tag of its next neighbour.
+    ///
+    /// Refused, and then all stays: `NoSuchPacket`. `OutOfMemory` may stand in place of any answer.
+    pub fn take(&mut self, tag: PacketTag) -> Result<(Packet, Option<PacketTag>), TelegramFault>
+        ensures { OrWants (TakesOut tag) self.old result self.new }
+    {
+        let Some(place) = self.find(tag) else {
             return Err(TelegramFault::NoSuchPacket);
         };
-        let next = self.tag_at(i + 1);
-        let (_, packet) = self.packets.remove(i);
+        let after = self.after(place);
+        let next = self.tag_at(after);
+        let packet = self.lent(place).to_packet()?;
+        let used = self.end().at + 8;
+        let kept = self.edited.take();
+        let mut edited = edited_or_read(kept, &self.packed)?;
+        cut_out(
+            &mut self.packed,
+            &mut edited,
+            place,
+            after.at - place.at,
+            used,
+        );
+        self.edited = Some(edited);
         Ok((packet, next))
     }
 
     /// Puts a packet in directly after the anchor, or first where there is none.
     ///
     /// Refused in this order, and then all stays and the packet is handed back: `NoSuchPacket` where the anchor
-    /// doesn't stand, `NoRoom` where the packet is wider than the room, `OutOfMemory`.
+    /// doesn't stand, `NoRoom` where the packet is wider than the room. `OutOfMemory` may stand in place of any answer.
     pub fn insert_after(
         &mut self,
         anchor: Option<PacketTag>,
         tag: PacketTag,
         packet: Packet,
     ) -> Result<(), (TelegramFault, Packet)>
-        requires { find same_tag tag self.old.packets ≡ None }
-        ensures { Inserts (stands same_tag anchor self.old.packets) packet (put same_tag anchor (tag, packet) self.old.packets) self.old result self.new }
+        requires new { find same_tag tag self.old.packets ≡ None }
+        requires spelt { IsSpelt (version_of self.old) packet }
+        ensures { InsertsOrWants (stands same_tag anchor self.old.packets) packet (put same_tag anchor (tag, packet) self.old.packets) self.old result self.new }
     {
         let place = self.place_after(anchor);
         self.put_in(place, tag, packet)
@@ -47,136 +77,202 @@ impl Telegram {
     /// Puts a packet in directly before the neighbour, or last where there is none.
     ///
     /// Refused in this order, and then all stays and the packet is handed back: `NoSuchPacket` where the neighbour
-    /// doesn't stand, `NoRoom` where the packet is wider than the room, `OutOfMemory`.
+    /// doesn't stand, `NoRoom` where the packet is wider than the room. `OutOfMemory` may stand in place of any answer.
     pub fn put_before(
         &mut self,
         next: Option<PacketTag>,
         tag: PacketTag,
         packet: Packet,
     ) -> Result<(), (TelegramFault, Packet)>
-        requires { find same_tag tag self.old.packets ≡ None }
-        ensures { Inserts (stands same_tag next self.old.packets) packet (put_before same_tag next (tag, packet) self.old.packets) self.old result self.new }
+        requires new { find same_tag tag self.old.packets ≡ None }
+        requires spelt { IsSpelt (version_of self.old) packet }
+        ensures { InsertsOrWants (stands same_tag next self.old.packets) packet (put_before same_tag next (tag, packet) self.old.packets) self.old result self.new }
     {
         let place = self.place_before(next);
         self.put_in(place, tag, packet)
     }
 
-    /// Moves the packet with this tag directly after the anchor, or to the first place, and answers the tag of its old next neighbour. Takes no memory.
+    /// Moves the packet with this tag directly after the anchor, or to the first place, and answers the tag of its old
+    /// next neighbour.
     ///
     /// Refused in this order, and then all stays: `NoSuchPacket` where it or the anchor doesn't stand, `SamePlace`
-    /// where the anchor is itself or its left neighbour, or there is none and it is the first.
+    /// where the anchor is itself or its left neighbour, or there is none and it is the first. `OutOfMemory` may stand
+    /// in place of any answer.
     pub fn shift_after(
         &mut self,
         tag: PacketTag,
         anchor: Option<PacketTag>,
     ) -> Result<Option<PacketTag>, TelegramFault>
-        ensures { Shifts tag anchor self.old result self.new }
+        ensures { OrWants (Shifts tag anchor) self.old result self.new }
     {
         let to = self.place_after(anchor);
         self.shift_to(tag, to)
     }
 
-    /// Moves the packet with this tag directly before the neighbour, or to the last place, and answers the tag of its old next neighbour. Takes no memory.
+    /// Moves the packet with this tag directly before the neighbour, or to the last place, and answers the tag of its
+    /// old next neighbour.
     ///
     /// Refused in this order, and then all stays: `NoSuchPacket` where it or the neighbour doesn't stand, `SamePlace`
-    /// where the neighbour is itself or its right neighbour, or there is none and it is the last.
+    /// where the neighbour is itself or its right neighbour, or there is none and it is the last. `OutOfMemory` may
+    /// stand in place of any answer.
     pub fn shift_before(
         &mut self,
         tag: PacketTag,
         next: Option<PacketTag>,
     ) -> Result<Option<PacketTag>, TelegramFault>
-        ensures { ShiftsBefore tag next self.old result self.new }
+        ensures { OrWants (ShiftsBefore tag next) self.old result self.new }
     {
         let to = self.place_before(next);
         self.shift_to(tag, to)
     }
 
-    // Moves a packet to a place, where there is one: the place is counted before it goes.
+    // Moves a packet to a place, where there is one. The place is as it is before the packet goes.
     fn shift_to(
         &mut self,
         tag: PacketTag,
-        place: Option<usize>,
+        place: Option<Place>,
     ) -> Result<Option<PacketTag>, TelegramFault>
-        requires within { IfSome place (λ i. i ≤ length self.old.packets) }
-        ensures after { (a : Option Tag) → place ≡ place_after a self.old.packets → Shifts tag a self.old result self.new }
-        ensures before { (n : Option Tag) → place ≡ place_before n self.old.packets → ShiftsBefore tag n self.old result self.new }
+        requires within { IfSome place (λ p. IsPlace self.old p) }
+        ensures after { (a : Option Tag) → index_of place ≡ place_after a self.old.packets → OrWants (Shifts tag a) self.old result self.new }
+        ensures before { (n : Option Tag) → index_of place ≡ place_before n self.old.packets → OrWants (ShiftsBefore tag n) self.old result self.new }
     {
-        let Some(from) = self.place_of(tag) else {
+        let Some(from) = self.find(tag) else {
             return Err(TelegramFault::NoSuchPacket);
         };
         let Some(to) = place else {
             return Err(TelegramFault::NoSuchPacket);
         };
-        if to == from || to == from + 1 {
+        if to.index == from.index || to.index == from.index + 1 {
             return Err(TelegramFault::SamePlace);
         }
-        let next = self.tag_at(from + 1);
-        let item = self.packets.remove(from);
-        // A packet that stood before the new place is no longer counted. There is room for it.
-        let place = if from < to { to - 1 } else { to };
-        let _ = self.packets.insert(place, item);
+        let after = self.after(from);
+        let next = self.tag_at(after);
+        let packet = self.lent(from).to_packet()?;
+        let used = self.end().at + 8;
+        let width = after.at - from.at;
+        let kept = self.edited.take();
+        let mut edited = edited_or_read(kept, &self.packed)?;
+        cut_out(&mut self.packed, &mut edited, from, width, used);
+        // A packet that stood before the new place is no longer counted. There is room for its tag.
+        let place = if from.index < to.index {
+            Place {
+                index: to.index - 1,
+                at: to.at - width,
+            }
+        } else {
+            to
+        };
+        let _done = put_between(
+            &mut self.packed,
+            &mut edited,
+            place,
+            used - width,
+            tag,
+            &packet,
+        );
+        self.edited = Some(edited);
         Ok(next)
     }
 
     // Puts a packet in at a place, where there is one.
     fn put_in(
         &mut self,
-        place: Option<usize>,
+        place: Option<Place>,
         tag: PacketTag,
         packet: Packet,
     ) -> Result<(), (TelegramFault, Packet)>
         requires new { find same_tag tag self.old.packets ≡ None }
-        requires within { IfSome place (λ i. i ≤ length self.old.packets) }
-        ensures { Inserts (is_some place) packet (inserted place (tag, packet) self.old.packets) self.old result self.new }
+        requires spelt { IsSpelt (version_of self.old) packet }
+        requires within { IfSome place (λ p. IsPlace self.old p) }
+        ensures { InsertsOrWants (is_some (index_of place)) packet (inserted (index_of place) (tag, packet) self.old.packets) self.old result self.new }
     {
-        let Some(i) = place else {
+        let Some(place) = place else {
             return Err((TelegramFault::NoSuchPacket, packet));
         };
-        if self.room() < packet.width() {
+        let used = self.end().at + 8;
+        if self.packed.len() - used < packet.width() {
             return Err((TelegramFault::NoRoom, packet));
         }
-        if let Err(AllocFailed { value: (_, packet) }) = self.packets.insert(i, (tag, packet)) {
-            return Err((TelegramFault::OutOfMemory, packet));
+        let kept = self.edited.take();
+        let mut edited = match edited_or_read(kept, &self.packed) {
+            Ok(edited) => edited,
+            Err(fault) => return Err((fault, packet)),
+        };
+        let done = put_between(&mut self.packed, &mut edited, place, used, tag, &packet);
+        self.edited = Some(edited);
+        match done {
+            Ok(()) => Ok(()),
+            Err(fault) => Err((fault, packet)),
         }
-        Ok(())
     }
 
     // The place directly after the anchor, or the first.
-    fn place_after(&self, anchor: Option<PacketTag>) -> Option<usize>
-        ensures place { result ≡ place_after anchor self.now.packets }
-        ensures there { is_some result ≡ stands same_tag anchor self.now.packets }
-        ensures within { IfSome result (λ i. i ≤ length self.now.packets) }
-        ensures put { (z : Tag × Packet) → inserted result z self.now.packets ≡ put same_tag anchor z self.now.packets }
+    fn place_after(&self, anchor: Option<PacketTag>) -> Option<Place>
+        ensures place { index_of result ≡ place_after anchor self.now.packets }
+        ensures there { is_some (index_of result) ≡ stands same_tag anchor self.now.packets }
+        ensures within { IfSome result (λ p. IsPlace self.now p) }
+        ensures put { (z : Tag × Packet) → inserted (index_of result) z self.now.packets ≡ put same_tag anchor z self.now.packets }
     {
         let Some(tag) = anchor else {
-            return Some(0);
+            return Some(first());
         };
-        match self.place_of(tag) {
-            Some(i) => Some(i + 1),
+        match self.find(tag) {
+            Some(place) => Some(self.after(place)),
             None => None,
         }
     }
+}
 
+impl Telegram {
     // The place directly before the neighbour, or the last.
-    fn place_before(&self, next: Option<PacketTag>) -> Option<usize>
-        ensures place { result ≡ place_before next self.now.packets }
-        ensures there { is_some result ≡ stands same_tag next self.now.packets }
-        ensures within { IfSome result (λ i. i ≤ length self.now.packets) }
-        ensures put { (z : Tag × Packet) → inserted result z self.now.packets ≡ put_before same_tag next z self.now.packets }
+    fn place_before(&self, next: Option<PacketTag>) -> Option<Place>
+        ensures place { index_of result ≡ place_before next self.now.packets }
+        ensures there { is_some (index_of result) ≡ stands same_tag next self.now.packets }
+        ensures within { IfSome result (λ p. IsPlace self.now p) }
+        ensures put { (z : Tag × Packet) → inserted (index_of result) z self.now.packets ≡ put_before same_tag next z self.now.packets }
     {
         match next {
-            Some(tag) => self.place_of(tag),
-            None => Some(self.packets.len()),
+            Some(tag) => self.find(tag),
+            None => Some(self.end()),
         }
     }
+}
 
-    // The tag of the packet at a place.
-    fn tag_at(&self, i: usize) -> Option<PacketTag>
-        ensures { result ≡ option_map (λ q. q.0) (slice_get self.now.packets i) }
-    {
-        match self.packets.get(i) {
-            Some((tag, _)) => Some(*tag),
-            None => None,
-        }
-    }
+// Takes the packet at a place out: what stands after it is moved over it, and the bits that are freed are the ground's.
+fn cut_out(bits: &mut Bits, edited: &mut Edited, place: Place, width: usize, used: usize)
+    requires { (y : Telegram) × IsShown bits.old y × IsOver edited.old y × Spot y place.index place.at width used }
+    ensures shown { (y : Telegram) → IsShown bits.old y → IsOver edited.old y → Spot y place.index place.at width used → bits.new ≡ shown (with_packets y (remove y.packets place.index)) }
+    ensures over { (y : Telegram) → IsShown bits.old y → IsOver edited.old y → Spot y place.index place.at width used → IsOver edited.new (with_packets y (remove y.packets place.index)) }
+    ensures spare { vec_len edited.new.tags < vec_capacity edited.new.tags }
+{
+    let after = place.at + width;
+    bits.move_part(place.at, after, used - after);
+    bits.put_part(used - width, &edited.ground, used - width, width);
+    let _ = edited.tags.remove(place.index);
+    edited.used = used - width;
+}
+
+// Puts a packet in at a place: what stands there is moved to after it.
+fn put_between(
+    bits: &mut Bits,
+    edited: &mut Edited,
+    place: Place,
+    used: usize,
+    tag: PacketTag,
+    packet: &Packet,
+) -> Result<(), TelegramFault>
+    requires { (y : Telegram) × IsShown bits.old y × IsOver edited.old y × Gap y place.index place.at (width packet.now) used }
+    ensures shown { OnOk result ((y : Telegram) → IsShown bits.old y → IsOver edited.old y → Gap y place.index place.at (width packet.now) used → bits.new ≡ shown (with_packets y (insert y.packets place.index (tag, packet.now)))) }
+    ensures over { OnOk result ((y : Telegram) → IsShown bits.old y → IsOver edited.old y → Gap y place.index place.at (width packet.now) used → IsOver edited.new (with_packets y (insert y.packets place.index (tag, packet.now)))) }
+    ensures bits { OnErr result (bits.new ≡ bits.old) }
+    ensures kept { OnErr result ((y : Telegram) → IsOver edited.old y → IsOver edited.new y) }
+    ensures fault { IsOkUnless result TelegramFault.OutOfMemory }
+    ensures room { vec_len edited.old.tags < vec_capacity edited.old.tags → IsOk result }
+{
+    edited.tags.insert(place.index, tag)?;
+    let width = packet.width();
+    bits.move_part(place.at + width, place.at, used - place.at);
+    packet.put_over(bits, place.at);
+    edited.used = used + width;
+    Ok(())
 }

@@ -22,7 +22,7 @@ items v = v.items
 pub returns-clause-ok : goal.returns-clause-ok
 unfolding items
 returns-clause-ok c =
-    let y = c.args.balise.now in
+    let y = c.args.telegram.now in
     let told = c.deref-links-items.result.now in
     let is : map (λ (p : Tag × Vec Id Global). (p.0, items p.1)) told ≡ linking (country_of y) y.packets = ap (map (λ (p : Tag × Vec Id Global). (p.0, items p.1))) c.deref-links-items.ensures.value ∙ c.in_ok-linking.ensures.ok in
     let all = told_alone (λ p ls. filter is_real ls) (λ p. refl) items told (country_of y) y.packets is ∙ each_packet (country_of y) y.packets in

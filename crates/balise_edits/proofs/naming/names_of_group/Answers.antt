@@ -8,7 +8,7 @@ use Rattle.balise_edits.proofs.naming.names_of_group.Goals as goal
 pub loop-i-preserved : goal.loop-i-preserved
 loop-i-preserved c =
     let ys = c.args.group.now in
-    let y = c.in-Some.balise.now in
+    let y = c.in-Some.telegram.now in
     let rest = names_in (drop (c.loop-i.i + 1) ys) in
     let here : names_in (drop c.loop-i.i ys) ≡ names_in_packets (country_of y) y.packets ++ rest = ap names_in (drop_found ys c.loop-i.i (c.in-Some.field-0-0, y) (sym c.in-Some.ensures)) in
     ap (λ (l : List Id). l ++ rest) c.in_ok-add_telegram.ensures.ok

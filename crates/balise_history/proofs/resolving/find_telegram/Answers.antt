@@ -10,7 +10,7 @@ pub returns-in-Some-at-clause-ok : goal.returns-in-Some-at-clause-ok
 returns-in-Some-at-clause-ok c =
     let plan = c.args.plan.now.groups in
     let group = group_found c.args.id plan c.in-Some.g c.in-Some-group.group.now c.requires (sym c.in-Some.ensures) (sym c.in-Some-group.ensures) in
-    telegram_found c.args.id c.args.pig plan c.in-Some.g c.in-Some-group.group.now (Some (c.in-Some-at.t, c.in-Some-at.balise.now)) group (sym c.in-Some-at.ensures)
+    telegram_found c.args.id c.args.pig plan c.in-Some.g c.in-Some-group.group.now (Some (c.in-Some-at.t, c.in-Some-at.telegram.now)) group (sym c.in-Some-at.ensures)
 
 pub returns-in-None-clause-fault : goal.returns-in-None-clause-fault
 returns-in-None-clause-fault c =
@@ -19,4 +19,4 @@ returns-in-None-clause-fault c =
     telegram_found c.args.id c.args.pig plan c.in-Some.g c.in-Some-group.group.now None group (sym c.in-None.ensures)
 
 pub returns-in-Some-at-clause-tags : goal.returns-in-Some-at-clause-tags
-returns-in-Some-at-clause-tags c = tags_there c.args.plan.now.groups c.in-Some.g c.in-Some-group.group.now c.args.pig c.in-Some-at.t c.in-Some-at.balise.now c.requires (sym c.in-Some-group.ensures) (sym c.in-Some-at.ensures)
+returns-in-Some-at-clause-tags c = tags_there c.args.plan.now.groups c.in-Some.g c.in-Some-group.group.now c.args.pig c.in-Some-at.t c.in-Some-at.telegram.now c.requires (sym c.in-Some-group.ensures) (sym c.in-Some-at.ensures)

@@ -9,7 +9,7 @@ use Rattle.balise_history.proofs.resolving.shift.Goals.{then-at-pkt, else-at-pkt
 
 pub returns-in_err-after-clause-fault : goal.returns-in_err-after-clause-fault
 returns-in_err-after-clause-fault c =
-    let y = c.in_ok-g.balise.now in
+    let y = c.in_ok-g.telegram.now in
     let w = c.in_ok-g.ensures.ok in
     let f : FoundPacket = record { group = c.in_ok-g.g; place = c.in_ok-g.t; telegram = y; tag = c.in_ok-g.p; packet = w.0 } in
     let n : anchor_at c.args.at (without same_tag c.in_ok-g.p y.packets) ≡ anchor_at c.if-at-pkt.with_it y.packets = elim c.if-at-pkt.branch [
@@ -21,7 +21,7 @@ returns-in_err-after-clause-fault c =
 
 pub returns-clause-ok : goal.returns-clause-ok
 returns-clause-ok c =
-    let y = c.in_ok-g.balise.now in
+    let y = c.in_ok-g.telegram.now in
     let w = c.in_ok-g.ensures.ok in
     let f : FoundPacket = record { group = c.in_ok-g.g; place = c.in_ok-g.t; telegram = y; tag = c.in_ok-g.p; packet = w.0 } in
     let n : anchor_at c.args.at (without same_tag c.in_ok-g.p y.packets) ≡ anchor_at c.if-at-pkt.with_it y.packets = elim c.if-at-pkt.branch [

@@ -5,4 +5,4 @@ use Rattle.balise_layout.specs.Walks.{walk}
 use Rattle.balise_layout.proofs.parts.walk_counted.Given as goal
 
 abbrev pub invariant-loop : goal.invariant-loop
-invariant-loop g l = (rest : Form) → walk g.V.Visit.step (counted g.P.Part.form rest) l.fn.walker ≡ walk g.V.Visit.step (repeat (l.more - l.counter) g.P.Part.form rest) l.walker
+invariant-loop g l = (rest : Form) → walk g.V.Visit.step (counted g.P.Repeated.form rest) l.fn.walker ≡ walk g.V.Visit.step (repeat (l.more - l.counter) g.P.Repeated.form rest) l.walker

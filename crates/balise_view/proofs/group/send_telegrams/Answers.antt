@@ -11,7 +11,7 @@ pub loop-pig-preserved : goal.loop-pig-preserved
 loop-pig-preserved g c =
     let written = g.S.Serializer.written in
     let ys = c.args.group.now in
-    let y : ℕ × Telegram = (c.in-Some.field-0-0, c.in-Some.balise.now) in
+    let y : ℕ × Telegram = (c.in-Some.field-0-0, c.in-Some.telegram.now) in
     one_sent (λ t. telegram_data t.1) ys (drop c.loop-pig.pig ys) (drop (c.loop-pig.pig + 1) ys) y (written c.begin_seq.new.self) (written c.loop-pig.out) (written c.serialize.new.out)
     (drop_found ys c.loop-pig.pig y (sym c.in-Some.ensures)) c.loop-pig.invariant c.in_ok-serialize.ensures
 

@@ -8,7 +8,7 @@ use Rattle.balise_edits.proofs.reviewing.distances.add_distances.Goals as goal
 pub loop-pig-preserved : goal.loop-pig-preserved
 loop-pig-preserved c =
     let ys = c.args.group.now in
-    let y = c.in-Some.balise.now in
+    let y = c.in-Some.telegram.now in
     let n = c.loop-pig.pig in
     let i = identity_of ys in
     let at : c.in-Ok.place ≡ n = search rules in

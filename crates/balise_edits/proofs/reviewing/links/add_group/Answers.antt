@@ -1,6 +1,9 @@
 use Rattle.std.proofs.Common.{rules, ◌≡◌, ◌∙◌, ◌+◌, ◌-◌, ◌++◌, ◌<◌, cond, drop, length, reverse, slice_get, Some, ap, sym}
+use Rattle.std.proofs.lemmas.List.Elements.{All-weaker}
+use Rattle.balise_rules.specs.Forms.{Numbered}
+use Rattle.balise_rules.specs.Packet.{IsSpelt}
 use Rattle.balise_rules.specs.Plan.{country_of, identity_of}
-use Rattle.balise_rules.proofs.Found.{packet_spelt}
+use Rattle.balise_rules.specs.Telegram.{version_of}
 use Rattle.balise_plan.proofs.GroupLists.{sound_at}
 use Rattle.balise_edits.specs.Reviews.{packet_links, telegram_links}
 use Rattle.balise_edits.proofs.FoundLines.{one_more, over_found, at_reverse}
@@ -10,15 +13,15 @@ use Rattle.balise_edits.proofs.reviewing.links.add_group.Goals.{then-turned, els
 pub add_telegram-requires : goal.add_telegram-requires
 add_telegram-requires c =
     let ys = c.args.group.now in
-    let y = c.in-Some.balise.now in
+    let y = c.in-Some.telegram.now in
     let s = sound_at (identity_of ys) (length ys - 1) 0 ys c.if-turned.at c.in-Some.field-0-0 y c.requires.telegrams (sym c.in-Some.ensures) in
-    record { numbered = λ p x f. (packet_spelt y s p x f).numbered }
+    record { numbered = All-weaker (λ p. IsSpelt (version_of y) p.1) (λ p. Numbered p.1.fields) (λ p d. d.numbered) y.packets s.packets }
 
 pub loop-pig-preserved : goal.loop-pig-preserved
 loop-pig-preserved c =
     let ys = c.args.group.now in
     let zs = cond c.args.turned (reverse ys) ys in
-    let y = c.in-Some.balise.now in
+    let y = c.in-Some.telegram.now in
     let t = c.in-Some.field-0-0 in
     let n = c.loop-pig.pig in
     let i = c.args.id in

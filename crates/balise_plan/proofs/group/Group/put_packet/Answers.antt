@@ -8,7 +8,10 @@ pub returns-in_default : goal.returns-in_default
 returns-in_default c = at_none nat_test c.args.t (no_telegram c.args.packet) (PutsIn c.args.spot c.args.p c.args.packet) c.self.inside.telegrams.items c.args.self.now c.self.view_is c.in_default.ensures
 
 pub put-requires : goal.put-requires
-put-requires c = c.requires c.index_mut.result.now.1 (found_at eqb c.args.t c.self.inside.telegrams.items c.args.self.now c.self.view_is c.in-Some.i c.in-Some.ensures c.index_mut.result.now c.index_mut.ensures.value)
+put-requires c =
+    let y = c.index_mut.result.now.1 in
+    let stands = found_at eqb c.args.t c.self.inside.telegrams.items c.args.self.now c.self.view_is c.in-Some.i c.in-Some.ensures c.index_mut.result.now c.index_mut.ensures.value in
+    record { new = c.requires.new y stands; spelt = c.requires.spelt y stands }
 
 pub invariant_of-self : goal.invariant_of-self
 invariant_of-self c = distinct_at nat_test c.args.t c.self.inside.telegrams.items c.self.invariant c.in-Some.i c.in-Some.ensures c.index_mut.result.now c.index_mut.ensures.value c.put.new.telegram

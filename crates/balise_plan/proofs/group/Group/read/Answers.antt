@@ -20,7 +20,7 @@ overflow_add-tag c = let i = c.loop-bits.invariant in omega (arith, i.few, i.cou
 
 pub loop-bits-preserved : goal.loop-bits-preserved
 loop-bits-preserved c =
-    reads_on c.args.telegrams.items c.loop-bits.read.items c.push.new.self.items c.loop-bits.bits-iterator.rest.items c.next.new.self.rest.items c.in-Some.bits c.loop-bits.tag c.in-Ok.balise c.loop-bits.invariant c.in-Some.ensures.steps.0 c.in-Ok.ensures.ok c.in_ok-push.ensures.items
+    reads_on c.args.telegrams.items c.loop-bits.read.items c.push.new.self.items c.loop-bits.bits-iterator.rest.items c.next.new.self.rest.items c.in-Some.bits c.loop-bits.tag c.in-Ok.telegram c.loop-bits.invariant c.in-Some.ensures.steps.0 c.in-Ok.ensures.ok c.in_ok-push.ensures.items
 
 pub of_read-requires : goal.of_read-requires
 of_read-requires c =

@@ -1,23 +1,89 @@
-use Rattle.std.proofs.Common.{ap, sym}
-use Rattle.balise_rules.specs.Telegram.{Telegram}
+-- Q_DIR stands after 8 bits of every packet.
+use Rattle.std.proofs.Common.{◌≡◌, ◌∙◌, ◌-◌, ◌+◌, ℕ, refl, ap, sym, subst, arith}
+use Rattle.balise_rules.specs.declared.variable.Var.TheVariants.{QDir}
+use Rattle.balise_rules.specs.Edits.{exchanged}
+use Rattle.balise_rules.specs.Variables.{width_of, steers}
+use Rattle.balise_rules.specs.Packet.{bits_of, value}
+use Rattle.balise_rules.specs.Telegram.{Telegram, version_of}
+use Rattle.balise_layout.specs.Held.{with_field}
 use Rattle.balise_layout.specs.Setting.{turned}
-use Rattle.balise_telegram.proofs.Tagging.{StandsAt, stands_in}
-use Rattle.balise_telegram.proofs.Changing.{unchanged, changed, held_changed, width-turned}
+use Rattle.balise_layout.proofs.First.{spells_holds}
+use Rattle.balise_layout.proofs.Values.{exchanged_low, exchanged_high, with_field-same, dir_found}
+use Rattle.balise_telegram.proofs.PackedPlaces.{not_located}
+use Rattle.balise_telegram.proofs.PackedFields.{absent, its_value}
+use Rattle.balise_telegram.proofs.FieldPlaces.{dir_place, field_there, packet_within}
+use Rattle.balise_telegram.proofs.PackedChanges.{changed_alike, kept_as_is}
+use Rattle.balise_telegram.specs.Shown.{IsShown}
+use Rattle.balise_telegram.proofs.Walking.{shown_size}
 use Rattle.balise_telegram.proofs.telegram.Telegram.flip_dir.Goals as goal
 
-pub invariant_of-self : goal.invariant_of-self
-invariant_of-self c =
-    let y = c.self.inside in
-    let x = c.index_mut.result.now in
-    let stands : StandsAt c.args.tag y.packets.items c.in-Some.i x = stands_in c.args.tag c.args.self.now.packets y.packets.items c.in-Some.i x (ap (λ (t : Telegram). t.packets) (sym c.self.view_is)) c.in-Some.ensures.place c.index_mut.ensures.value in
-    held_changed c.args.tag turned y.packets.items y.padding c.in-Some.i x c.flip_dir.new.self width-turned c.self.invariant stands c.flip_dir.ensures.turned
-
-pub returns-in-Some : goal.returns-in-Some
-returns-in-Some c =
-    let y = c.self.inside in
-    let x = c.index_mut.result.now in
-    let stands : StandsAt c.args.tag y.packets.items c.in-Some.i x = stands_in c.args.tag c.args.self.now.packets y.packets.items c.in-Some.i x (ap (λ (t : Telegram). t.packets) (sym c.self.view_is)) c.in-Some.ensures.place c.index_mut.ensures.value in
-    changed c.args.tag turned y.header y.packets.items y.padding c.args.self.now c.in-Some.i x c.flip_dir.new.self c.self.view_is c.self.invariant stands c.flip_dir.ensures.turned
-
 pub returns-in_default : goal.returns-in_default
-returns-in_default c = unchanged c.args.tag turned c.args.self.now c.in_default.ensures.place
+returns-in_default c = absent c.args.tag turned c.args.self.now (not_located c.args.tag 50 c.args.self.now.packets (sym c.in_default.ensures.place))
+
+pub overflow_add-packet : goal.overflow_add-packet
+overflow_add-packet c =
+    let b = c.self.inside.packed in
+    let y = c.args.self.now in
+    let e = sym c.in-Some.ensures.place in
+    let r : IsShown b y = subst (λ (x : Telegram). IsShown b x) c.self.view_is (c.self.invariant.shown) in
+    omega (arith, packet_within b y c.args.tag c.in-Some.packet r e, (shown_size b y r).1)
+
+pub number-dir-requires-clause-within : goal.number-dir-requires-clause-within
+number-dir-requires-clause-within c =
+    let b = c.self.inside.packed in
+    let y = c.args.self.now in
+    let e = sym c.in-Some.ensures.place in
+    let r : IsShown b y = subst (λ (x : Telegram). IsShown b x) c.self.view_is (c.self.invariant.shown) in
+    omega (arith, packet_within b y c.args.tag c.in-Some.packet r e)
+
+pub overflow_add-packet-then-dir-lt2 : goal.overflow_add-packet-then-dir-lt2
+overflow_add-packet-then-dir-lt2 c =
+    let b = c.self.inside.packed in
+    let y = c.args.self.now in
+    let e = sym c.in-Some.ensures.place in
+    let r : IsShown b y = subst (λ (x : Telegram). IsShown b x) c.self.view_is (c.self.invariant.shown) in
+    omega (arith, packet_within b y c.args.tag c.in-Some.packet r e, (shown_size b y r).1)
+
+pub put_field-requires-clause-stands : goal.put_field-requires-clause-stands
+put_field-requires-clause-stands c =
+    let b = c.self.inside.packed in
+    let y = c.args.self.now in
+    let e = sym c.in-Some.ensures.place in
+    let r : IsShown b y = subst (λ (x : Telegram). IsShown b x) c.self.view_is (c.self.invariant.shown) in
+    (c.args.tag, 0, dir_place b y c.args.tag c.in-Some.packet r e)
+
+pub put_field-requires-clause-free : goal.put_field-requires-clause-free
+unfolding steers
+put_field-requires-clause-free c = refl
+
+pub put_field-requires-clause-fits : goal.put_field-requires-clause-fits
+unfolding width_of
+put_field-requires-clause-fits c = omega arith
+
+pub returns-then-dir-lt2 : goal.returns-then-dir-lt2
+unfolding width_of
+returns-then-dir-lt2 c =
+    let b = c.self.inside.packed in
+    let y = c.args.self.now in
+    let e = sym c.in-Some.ensures.place in
+    let r : IsShown b y = subst (λ (x : Telegram). IsShown b x) c.self.view_is (c.self.invariant.shown) in
+    let f = field_there b y c.args.tag QDir 0 c.in-Some.packet (c.in-Some.packet + 8) r e (dir_place b y c.args.tag c.in-Some.packet r e) in
+    let dir : c.number-dir.result ≡ value QDir 0 f.packet.fields = c.number-dir.ensures ∙ sym (its_value b y c.args.tag QDir 0 (c.in-Some.packet + 8) f) in
+    let new : 1 - c.number-dir.result ≡ exchanged 0 1 (value QDir 0 f.packet.fields) = sym (exchanged_low c.number-dir.result c.if-dir-lt2.true) ∙ ap (exchanged 0 1) dir in
+    c.put_field.ensures c.args.tag 0 (dir_place b y c.args.tag c.in-Some.packet r e)
+    ∙ changed_alike c.args.tag (with_field QDir 0 (1 - c.number-dir.result)) turned y f.packet c.in-Some.ensures.tags f.is (ap (λ (n : ℕ). with_field QDir 0 n f.packet) new)
+
+pub returns-else-dir-lt2 : goal.returns-else-dir-lt2
+unfolding width_of
+returns-else-dir-lt2 c =
+    let b = c.self.inside.packed in
+    let y = c.args.self.now in
+    let e = sym c.in-Some.ensures.place in
+    let r : IsShown b y = subst (λ (x : Telegram). IsShown b x) c.self.view_is (c.self.invariant.shown) in
+    let f = field_there b y c.args.tag QDir 0 c.in-Some.packet (c.in-Some.packet + 8) r e (dir_place b y c.args.tag c.in-Some.packet r e) in
+    let p = f.packet in
+    let holds = spells_holds (version_of y) (bits_of p) p f.spelt in
+    let dir : c.number-dir.result ≡ value QDir 0 p.fields = c.number-dir.ensures ∙ sym (its_value b y c.args.tag QDir 0 (c.in-Some.packet + 8) f) in
+    let same : exchanged 0 1 (value QDir 0 p.fields) ≡ value QDir 0 p.fields = ap (exchanged 0 1) (sym dir) ∙ exchanged_high c.number-dir.result c.if-dir-lt2.false ∙ dir in
+    let stays : turned p ≡ p = ap (λ (n : ℕ). with_field QDir 0 n p) same ∙ with_field-same _ (bits_of p) p QDir 0 (value QDir 0 p.fields) holds (dir_found _ (bits_of p) p holds) in
+    kept_as_is c.args.tag turned y p c.in-Some.ensures.tags f.is stays

@@ -1,23 +1,62 @@
-use Rattle.std.proofs.Common.{ap, sym}
+-- The orientation is one bit.
+use Rattle.std.proofs.Common.{◌≡◌, ◌∙◌, ◌-◌, ℕ, drop, refl, ap, sym, subst, arith}
+use Rattle.balise_rules.specs.declared.variable.Var.TheVariants.{QLinkorientation}
+use Rattle.balise_rules.specs.Variables.{width_of, steers}
+use Rattle.balise_rules.specs.Packet.{value}
 use Rattle.balise_rules.specs.Telegram.{Telegram}
+use Rattle.balise_layout.specs.Held.{with_field}
 use Rattle.balise_layout.specs.Setting.{flipped}
-use Rattle.balise_telegram.proofs.Tagging.{StandsAt, stands_in}
-use Rattle.balise_telegram.proofs.Changing.{unchanged, changed, held_changed, width-flipped}
+use Rattle.balise_layout.proofs.Values.{small_bit, with_field-missing}
+use Rattle.balise_telegram.proofs.PackedPlaces.{not_located}
+use Rattle.balise_telegram.proofs.PackedFields.{absent, found_there, its_value, none_stands}
+use Rattle.balise_telegram.proofs.FieldPlaces.{field_there}
+use Rattle.balise_telegram.proofs.PackedChanges.{changed_alike, kept_as_is}
+use Rattle.balise_telegram.specs.Shown.{IsShown}
 use Rattle.balise_telegram.proofs.telegram.Telegram.flip_link.Goals as goal
 
-pub invariant_of-self : goal.invariant_of-self
-invariant_of-self c =
-    let y = c.self.inside in
-    let x = c.index_mut.result.now in
-    let stands : StandsAt c.args.tag y.packets.items c.in-Some.i x = stands_in c.args.tag c.args.self.now.packets y.packets.items c.in-Some.i x (ap (λ (t : Telegram). t.packets) (sym c.self.view_is)) c.in-Some.ensures.place c.index_mut.ensures.value in
-    held_changed c.args.tag (flipped c.args.k) y.packets.items y.padding c.in-Some.i x c.flip_link.new.self (width-flipped c.args.k) c.self.invariant stands c.flip_link.ensures.flipped
-
-pub returns-in-Some : goal.returns-in-Some
-returns-in-Some c =
-    let y = c.self.inside in
-    let x = c.index_mut.result.now in
-    let stands : StandsAt c.args.tag y.packets.items c.in-Some.i x = stands_in c.args.tag c.args.self.now.packets y.packets.items c.in-Some.i x (ap (λ (t : Telegram). t.packets) (sym c.self.view_is)) c.in-Some.ensures.place c.index_mut.ensures.value in
-    changed c.args.tag (flipped c.args.k) y.header y.packets.items y.padding c.args.self.now c.in-Some.i x c.flip_link.new.self c.self.view_is c.self.invariant stands c.flip_link.ensures.flipped
-
 pub returns-in_default : goal.returns-in_default
-returns-in_default c = unchanged c.args.tag (flipped c.args.k) c.args.self.now c.in_default.ensures.place
+returns-in_default c = absent c.args.tag (flipped c.args.k) c.args.self.now (not_located c.args.tag 50 c.args.self.now.packets (sym c.in_default.ensures.place))
+
+pub number-old-requires-clause-within : goal.number-old-requires-clause-within
+unfolding width_of
+number-old-requires-clause-within c =
+    let b = c.self.inside.packed in
+    let y = c.args.self.now in
+    let e = sym c.in-Some.ensures.place in
+    let r : IsShown b y = subst (λ (x : Telegram). IsShown b x) c.self.view_is (c.self.invariant.shown) in
+    let f = field_there b y c.args.tag QLinkorientation c.args.k c.in-Some.packet c.in-Some-place_in.at r e (sym (c.in-Some-place_in.ensures c.args.tag e)) in
+    f.within
+
+pub overflow_sub-old : goal.overflow_sub-old
+overflow_sub-old c = omega (arith, c.number-old.ensures, small_bit (drop c.in-Some-place_in.at c.self.inside.packed))
+
+pub put_field-requires-clause-stands : goal.put_field-requires-clause-stands
+put_field-requires-clause-stands c = (c.args.tag, c.args.k, sym (c.in-Some-place_in.ensures c.args.tag (sym c.in-Some.ensures.place)))
+
+pub put_field-requires-clause-free : goal.put_field-requires-clause-free
+unfolding steers
+put_field-requires-clause-free c = refl
+
+pub put_field-requires-clause-fits : goal.put_field-requires-clause-fits
+unfolding width_of
+put_field-requires-clause-fits c = omega arith
+
+pub returns-in-Some-place_in : goal.returns-in-Some-place_in
+unfolding width_of
+returns-in-Some-place_in c =
+    let b = c.self.inside.packed in
+    let y = c.args.self.now in
+    let e = sym c.in-Some.ensures.place in
+    let r : IsShown b y = subst (λ (x : Telegram). IsShown b x) c.self.view_is (c.self.invariant.shown) in
+    let f = field_there b y c.args.tag QLinkorientation c.args.k c.in-Some.packet c.in-Some-place_in.at r e (sym (c.in-Some-place_in.ensures c.args.tag e)) in
+    let old : c.number-old.result ≡ value QLinkorientation c.args.k f.packet.fields = c.number-old.ensures ∙ sym (its_value b y c.args.tag QLinkorientation c.args.k c.in-Some-place_in.at f) in
+    c.put_field.ensures c.args.tag c.args.k (sym (c.in-Some-place_in.ensures c.args.tag (sym c.in-Some.ensures.place)))
+    ∙ changed_alike c.args.tag (with_field QLinkorientation c.args.k (1 - c.number-old.result)) (flipped c.args.k) y f.packet c.in-Some.ensures.tags f.is (ap (λ (n : ℕ). with_field QLinkorientation c.args.k (1 - n) f.packet) old)
+
+pub returns-in_default-place_in : goal.returns-in_default-place_in
+returns-in_default-place_in c =
+    let y = c.args.self.now in
+    let e = sym c.in-Some.ensures.place in
+    let p = found_there c.args.tag 50 c.in-Some.packet y.packets e in
+    let none = none_stands c.args.tag QLinkorientation c.args.k c.in-Some.packet y.packets p.0 e p.1 (sym (c.in_default-place_in.ensures c.args.tag e)) in
+    kept_as_is c.args.tag (flipped c.args.k) y p.0 c.in-Some.ensures.tags p.1 (with_field-missing p.0 QLinkorientation c.args.k (1 - value QLinkorientation c.args.k p.0.fields) none)

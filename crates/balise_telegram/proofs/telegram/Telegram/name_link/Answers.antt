@@ -1,23 +1,35 @@
-use Rattle.std.proofs.Common.{ap, sym}
-use Rattle.balise_rules.specs.Telegram.{Telegram}
+-- The number is put where the element has its own.
+use Rattle.std.proofs.Common.{refl, sym}
+use Rattle.balise_rules.specs.declared.variable.Var.TheVariants.{NidBg}
+use Rattle.balise_rules.specs.Variables.{width_of, steers}
 use Rattle.balise_layout.specs.Setting.{renamed}
-use Rattle.balise_telegram.proofs.Tagging.{StandsAt, stands_in}
-use Rattle.balise_telegram.proofs.Changing.{unchanged, changed, held_changed, width-renamed}
+use Rattle.balise_layout.proofs.Values.{with_field-missing}
+use Rattle.balise_telegram.proofs.PackedPlaces.{not_located}
+use Rattle.balise_telegram.proofs.PackedFields.{absent, found_there, none_stands}
+use Rattle.balise_telegram.proofs.PackedChanges.{kept_as_is}
 use Rattle.balise_telegram.proofs.telegram.Telegram.name_link.Goals as goal
 
-pub invariant_of-self : goal.invariant_of-self
-invariant_of-self c =
-    let y = c.self.inside in
-    let x = c.index_mut.result.now in
-    let stands : StandsAt c.args.tag y.packets.items c.in-Some.i x = stands_in c.args.tag c.args.self.now.packets y.packets.items c.in-Some.i x (ap (λ (t : Telegram). t.packets) (sym c.self.view_is)) c.in-Some.ensures.place c.index_mut.ensures.value in
-    held_changed c.args.tag (renamed c.args.k c.args.number) y.packets.items y.padding c.in-Some.i x c.name_link.new.self (width-renamed c.args.k c.args.number) c.self.invariant stands c.name_link.ensures.renamed
-
-pub returns-in-Some : goal.returns-in-Some
-returns-in-Some c =
-    let y = c.self.inside in
-    let x = c.index_mut.result.now in
-    let stands : StandsAt c.args.tag y.packets.items c.in-Some.i x = stands_in c.args.tag c.args.self.now.packets y.packets.items c.in-Some.i x (ap (λ (t : Telegram). t.packets) (sym c.self.view_is)) c.in-Some.ensures.place c.index_mut.ensures.value in
-    changed c.args.tag (renamed c.args.k c.args.number) y.header y.packets.items y.padding c.args.self.now c.in-Some.i x c.name_link.new.self c.self.view_is c.self.invariant stands c.name_link.ensures.renamed
-
 pub returns-in_default : goal.returns-in_default
-returns-in_default c = unchanged c.args.tag (renamed c.args.k c.args.number) c.args.self.now c.in_default.ensures.place
+returns-in_default c = absent c.args.tag (renamed c.args.k c.args.number) c.args.self.now (not_located c.args.tag 50 c.args.self.now.packets (sym c.in_default.ensures.place))
+
+pub put_field-requires-clause-stands : goal.put_field-requires-clause-stands
+put_field-requires-clause-stands c = (c.args.tag, c.args.k, sym (c.in-Some-place_in.ensures c.args.tag (sym c.in-Some.ensures.place)))
+
+pub put_field-requires-clause-free : goal.put_field-requires-clause-free
+unfolding steers
+put_field-requires-clause-free c = refl
+
+pub put_field-requires-clause-fits : goal.put_field-requires-clause-fits
+unfolding width_of
+put_field-requires-clause-fits c = c.requires
+
+pub returns-in-Some-place_in : goal.returns-in-Some-place_in
+returns-in-Some-place_in c = c.put_field.ensures c.args.tag c.args.k (sym (c.in-Some-place_in.ensures c.args.tag (sym c.in-Some.ensures.place)))
+
+pub returns-in_default-place_in : goal.returns-in_default-place_in
+returns-in_default-place_in c =
+    let y = c.args.self.now in
+    let e = sym c.in-Some.ensures.place in
+    let p = found_there c.args.tag 50 c.in-Some.packet y.packets e in
+    let none = none_stands c.args.tag NidBg c.args.k c.in-Some.packet y.packets p.0 e p.1 (sym (c.in_default-place_in.ensures c.args.tag e)) in
+    kept_as_is c.args.tag (renamed c.args.k c.args.number) y p.0 c.in-Some.ensures.tags p.1 (with_field-missing p.0 NidBg c.args.k c.args.number none)

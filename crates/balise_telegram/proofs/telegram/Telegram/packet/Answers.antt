@@ -1,14 +1,15 @@
-use Rattle.std.proofs.Common.{◌∙◌, ap, sym}
-use Rattle.balise_rules.specs.Tagged.{find}
-use Rattle.balise_rules.specs.Tags.{same_tag}
-use Rattle.balise_rules.specs.Telegram.{Telegram}
-use Rattle.balise_telegram.proofs.Tagging.{Packets, stands_in, found, not_found}
+use Rattle.std.proofs.Common.{◌∙◌, Some, sym, ap}
+use Rattle.std.proofs.lemmas.Option.{slice_get-get_or}
+use Rattle.balise_telegram.proofs.Tagging.{found, not_found}
+use Rattle.balise_telegram.proofs.Placing.{looked}
 use Rattle.balise_telegram.proofs.telegram.Telegram.packet.Goals as goal
 
-pub returns-in-Some : goal.returns-in-Some
-returns-in-Some c =
-    let same = ap (λ (y : Telegram). y.packets) (sym c.self.view_is) in
-    sym (ap (λ (ps : Packets). find same_tag c.args.tag ps) same ∙ found c.args.tag c.self.inside.packets.items c.in-Some.i c.index.result.now (stands_in c.args.tag c.args.self.now.packets c.self.inside.packets.items c.in-Some.i c.index.result.now same c.in-Some.ensures.place c.index.ensures))
+pub returns-in_default : goal.returns-in_default
+returns-in_default c = sym (not_found c.args.tag c.args.self.now.packets c.in_default.ensures.place)
 
-pub returns-in-None : goal.returns-in-None
-returns-in-None c = sym (not_found c.args.tag c.args.self.now.packets c.in-None.ensures.place)
+pub returns : goal.returns
+returns c =
+    let ps = c.args.self.now.packets in
+    let i = c.in-Some.place.index in
+    let q = looked c.args.tag ps i c.in-Some.ensures.place in
+    ap Some (c.lent.ensures q.0 (slice_get-get_or ps i q.0 q.1.within ∙ ap Some (sym q.1.is))) ∙ sym (found c.args.tag ps i q.0 q.1)

@@ -7,13 +7,13 @@ use Rattle.balise_telegram.proofs.Placing.{there_from, none_after, put_after_fro
 use Rattle.balise_telegram.proofs.Tagging.{not_found}
 use Rattle.balise_telegram.proofs.telegram.Telegram.place_after.Goals as goal
 
-pub returns-in-Some-place_of-clause-there : goal.returns-in-Some-place_of-clause-there
-returns-in-Some-place_of-clause-there c = there_from c.in-Some.tag c.args.self.now.packets (Some c.in-Some-place_of.i) c.in-Some-place_of.ensures.place ∙ ap (λ (a : Option Tag). stands same_tag a c.args.self.now.packets) (sym c.in-Some.is)
+pub returns-in-Some-find-clause-there : goal.returns-in-Some-find-clause-there
+returns-in-Some-find-clause-there c = there_from c.in-Some.tag c.args.self.now.packets (Some c.in-Some-find.place.index) c.in-Some-find.ensures.place ∙ ap (λ (a : Option Tag). stands same_tag a c.args.self.now.packets) (sym c.in-Some.is)
 
-pub returns-in-Some-place_of-clause-put : goal.returns-in-Some-place_of-clause-put
-returns-in-Some-place_of-clause-put c = λ z.
-    ap (λ (k : ℕ). insert c.args.self.now.packets k z) (add-one c.in-Some-place_of.i)
-    ∙ put_after_from c.in-Some.tag c.args.self.now.packets c.in-Some-place_of.i c.in-Some-place_of.ensures.place z
+pub returns-in-Some-find-clause-put : goal.returns-in-Some-find-clause-put
+returns-in-Some-find-clause-put c = λ z.
+    ap (λ (k : ℕ). insert c.args.self.now.packets k z) (c.after.ensures.index ∙ add-one c.in-Some-find.place.index)
+    ∙ put_after_from c.in-Some.tag c.args.self.now.packets c.in-Some-find.place.index c.in-Some-find.ensures.place z
     ∙ ap (λ (a : Option Tag). put same_tag a z c.args.self.now.packets) (sym c.in-Some.is)
 
 pub returns-in-None-clause-there : goal.returns-in-None-clause-there

@@ -1,29 +1,70 @@
-use Rattle.std.proofs.Common.{ap, sym, refl}
+-- The refusals in their order, and the value put where the occurrence stands.
+use Rattle.std.proofs.Common.{◌≡◌, ◌∙◌, ◌<◌, ◌≤◌, ◌^◌, ℕ, Some, false, refl, ap, sym, subst, arith}
+use Rattle.balise_rules.specs.Bits.{num, part}
+use Rattle.balise_rules.specs.Variables.{width_of, steers}
 use Rattle.balise_rules.specs.Telegram.{Telegram}
-use Rattle.balise_telegram.proofs.Tagging.{StandsAt, stands_in, not_found}
-use Rattle.balise_telegram.proofs.Settings.{no_packet, field_set, field_not_set, held_set}
+use Rattle.balise_layout.proofs.Values.{accepted, nothing_left, refused_missing, refused_steering, refused_wide, shifted_out}
+use Rattle.balise_telegram.proofs.PackedPlaces.{not_located}
+use Rattle.balise_telegram.proofs.PackedFields.{found_there, none_stands, value_there}
+use Rattle.balise_telegram.proofs.FieldPlaces.{field_there}
+use Rattle.balise_telegram.proofs.Settings.{no_packet, refused_as}
+use Rattle.balise_telegram.specs.Shown.{IsShown}
 use Rattle.balise_telegram.proofs.telegram.Telegram.set_field.Goals as goal
 
 pub returns-in_default : goal.returns-in_default
-returns-in_default c = (no_packet c.args.tag c.args.var c.args.k c.args.value c.args.self.now (not_found c.args.tag c.args.self.now.packets c.in_default.ensures.place), refl)
+returns-in_default c = (no_packet c.args.tag c.args.var c.args.k c.args.value c.args.self.now (not_located c.args.tag 50 c.args.self.now.packets (sym c.in_default.ensures.place)), refl)
 
-pub returns-in_err-old : goal.returns-in_err-old
-returns-in_err-old c =
-    let y = c.self.inside in
-    let x = c.index_mut.result.now in
-    let stands : StandsAt c.args.tag y.packets.items c.in-Some.i x = stands_in c.args.tag c.args.self.now.packets y.packets.items c.in-Some.i x (ap (λ (t : Telegram). t.packets) (sym c.self.view_is)) c.in-Some.ensures.place c.index_mut.ensures.value in
-    field_not_set y.header y.packets.items y.padding c.args.self.now c.args.tag c.args.var c.args.k c.args.value c.in-Some.i x c.in_err-old.field-0.0 c.set_field.new.self c.from_residual.result c.self.view_is stands c.in_err-old.ensures.sets c.from_residual.ensures
+pub returns-in_default-place_in : goal.returns-in_default-place_in
+returns-in_default-place_in c =
+    let y = c.args.self.now in
+    let e = sym c.in-Some.ensures.place in
+    let p = found_there c.args.tag 50 c.in-Some.packet y.packets e in
+    let none = none_stands c.args.tag c.args.var c.args.k c.in-Some.packet y.packets p.0 e p.1 (sym (c.in_default-place_in.ensures c.args.tag e)) in
+    (refused_as c.args.tag c.args.var c.args.k c.args.value y p.0 p.1 ∙ refused_missing c.args.var c.args.k c.args.value p.0 none, refl)
 
-pub invariant_of-self-2 : goal.invariant_of-self-2
-invariant_of-self-2 c =
-    let y = c.self.inside in
-    let x = c.index_mut.result.now in
-    let stands : StandsAt c.args.tag y.packets.items c.in-Some.i x = stands_in c.args.tag c.args.self.now.packets y.packets.items c.in-Some.i x (ap (λ (t : Telegram). t.packets) (sym c.self.view_is)) c.in-Some.ensures.place c.index_mut.ensures.value in
-    held_set y.packets.items y.padding c.args.tag c.args.var c.args.k c.args.value c.in-Some.i x c.set_field.new.self c.self.invariant stands c.in_ok-old.ensures.sets.2
+pub returns-then-steers : goal.returns-then-steers
+returns-then-steers c =
+    let b = c.self.inside.packed in
+    let y = c.args.self.now in
+    let e = sym c.in-Some.ensures.place in
+    let r : IsShown b y = subst (λ (x : Telegram). IsShown b x) c.self.view_is (c.self.invariant.shown) in
+    let f = field_there b y c.args.tag c.args.var c.args.k c.in-Some.packet c.in-Some-place_in.at r e (sym (c.in-Some-place_in.ensures c.args.tag e)) in
+    (refused_as c.args.tag c.args.var c.args.k c.args.value y f.packet f.is ∙ refused_steering c.args.var c.args.k c.args.value f.from f.packet f.stands (sym c.steers.ensures ∙ c.if-steers.true), refl)
+
+pub returns-then-value-width-ne0 : goal.returns-then-value-width-ne0
+returns-then-value-width-ne0 c =
+    let b = c.self.inside.packed in
+    let y = c.args.self.now in
+    let e = sym c.in-Some.ensures.place in
+    let r : IsShown b y = subst (λ (x : Telegram). IsShown b x) c.self.view_is (c.self.invariant.shown) in
+    let f = field_there b y c.args.tag c.args.var c.args.k c.in-Some.packet c.in-Some-place_in.at r e (sym (c.in-Some-place_in.ensures c.args.tag e)) in
+    let wide : 2 ^ width_of c.args.var ≤ c.args.value = omega (arith, shifted_out c.args.value c.width-width.result c.if-value-width-ne0.true, ap (λ (k : ℕ). 2 ^ k) c.width-width.ensures.width) in
+    (refused_as c.args.tag c.args.var c.args.k c.args.value y f.packet f.is ∙ refused_wide c.args.var c.args.k c.args.value f.from f.packet f.stands (sym c.steers.ensures ∙ c.if-steers.false) wide, refl)
+
+pub number-old-requires-clause-within : goal.number-old-requires-clause-within
+number-old-requires-clause-within c =
+    let b = c.self.inside.packed in
+    let y = c.args.self.now in
+    let e = sym c.in-Some.ensures.place in
+    let r : IsShown b y = subst (λ (x : Telegram). IsShown b x) c.self.view_is (c.self.invariant.shown) in
+    let f = field_there b y c.args.tag c.args.var c.args.k c.in-Some.packet c.in-Some-place_in.at r e (sym (c.in-Some-place_in.ensures c.args.tag e)) in
+    omega (arith, f.within, c.width-width.ensures.width)
+
+pub put_field-requires-clause-stands : goal.put_field-requires-clause-stands
+put_field-requires-clause-stands c = (c.args.tag, c.args.k, sym (c.in-Some-place_in.ensures c.args.tag (sym c.in-Some.ensures.place)))
 
 pub returns : goal.returns
 returns c =
-    let y = c.self.inside in
-    let x = c.index_mut.result.now in
-    let stands : StandsAt c.args.tag y.packets.items c.in-Some.i x = stands_in c.args.tag c.args.self.now.packets y.packets.items c.in-Some.i x (ap (λ (t : Telegram). t.packets) (sym c.self.view_is)) c.in-Some.ensures.place c.index_mut.ensures.value in
-    field_set y.header y.packets.items y.padding c.args.self.now c.args.tag c.args.var c.args.k c.args.value c.in_ok-old.old c.in-Some.i x c.set_field.new.self c.self.view_is c.self.invariant.tags stands c.in_ok-old.ensures.sets
+    let b = c.self.inside.packed in
+    let y = c.args.self.now in
+    let e = sym c.in-Some.ensures.place in
+    let place = sym (c.in-Some-place_in.ensures c.args.tag e) in
+    let r : IsShown b y = subst (λ (x : Telegram). IsShown b x) c.self.view_is (c.self.invariant.shown) in
+    let f = field_there b y c.args.tag c.args.var c.args.k c.in-Some.packet c.in-Some-place_in.at r e place in
+    let free : steers c.args.var ≡ false = sym c.steers.ensures ∙ c.if-steers.false in
+    let fit : c.args.value < 2 ^ width_of c.args.var = omega (arith, nothing_left c.args.value c.width-width.result c.if-value-width-ne0.false, ap (λ (k : ℕ). 2 ^ k) c.width-width.ensures.width) in
+    let old : num (part c.in-Some-place_in.at (width_of c.args.var) b) ≡ c.number-old.result = sym (c.number-old.ensures ∙ ap (λ (w : ℕ). num (part c.in-Some-place_in.at w b)) c.width-width.ensures.width) in (
+      refused_as c.args.tag c.args.var c.args.k c.args.value y f.packet f.is ∙ accepted c.args.var c.args.k c.args.value f.from f.packet f.stands free fit,
+      value_there b y c.args.tag c.args.var c.args.k c.in-Some-place_in.at f ∙ ap Some old,
+      c.put_field.ensures c.args.tag c.args.k place,
+    )

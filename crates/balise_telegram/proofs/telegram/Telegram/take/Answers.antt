@@ -1,27 +1,61 @@
-use Rattle.std.proofs.Common.{◌∙◌, ℕ, ap, sym, subst, refl, add-one}
-use Rattle.std.specs.List.{slice_get}
-use Rattle.std.specs.Option.{option_map}
+use Rattle.std.proofs.Common.{◌≡◌, ◌∙◌, ◌+◌, ℕ, inr, Some, slice_get, option_map, refl, ap, sym, subst, add-one, arith}
+use Rattle.std.specs.Box.{with_value}
 use Rattle.balise_rules.specs.declared.tag.Tag.{Tag}
 use Rattle.balise_rules.specs.Packet.{Packet}
+use Rattle.balise_rules.specs.Tagged.{without}
+use Rattle.balise_rules.specs.Tags.{same_tag}
 use Rattle.balise_rules.specs.Telegram.{Telegram}
-use Rattle.balise_telegram.specs.Reading.{IsHeld}
-use Rattle.balise_telegram.proofs.Tagging.{Packets, StandsAt, stands_in, not_found}
-use Rattle.balise_telegram.proofs.Placing.{taken, held_without, removed}
+use Rattle.balise_rules.specs.Back.{with_packets}
+use Rattle.balise_telegram.specs.declared.telegram.edited.Edited.{Edited}
+use Rattle.balise_telegram.specs.Shown.{Kept, StandsFor, IsOver, IsShown}
+use Rattle.balise_telegram.proofs.Tagging.{found, not_found}
+use Rattle.balise_telegram.proofs.Placing.{neighbour}
+use Rattle.balise_telegram.proofs.Seen.{is_again}
+use Rattle.balise_telegram.proofs.InAndOut.{standing, taken_one}
 use Rattle.balise_telegram.proofs.telegram.Telegram.take.Goals as goal
 
 pub returns-in_default : goal.returns-in_default
-returns-in_default c = (not_found c.args.tag c.args.self.now.packets c.in_default.ensures.place, refl, refl)
+returns-in_default c = inr (not_found c.args.tag c.args.self.now.packets c.in_default.ensures.place, refl, refl)
 
-pub invariant_of-self : goal.invariant_of-self
-invariant_of-self c =
-    let y = c.self.inside in
-    let x = c.remove-packet.result in
-    let stands : StandsAt c.args.tag y.packets.items c.in-Some.i x = stands_in c.args.tag c.args.self.now.packets y.packets.items c.in-Some.i x (ap (λ (t : Telegram). t.packets) (sym c.self.view_is)) c.in-Some.ensures.place c.remove-packet.ensures.value in
-    subst (λ (l : Packets). IsHeld l y.padding) (removed c.args.tag y.packets.items c.in-Some.i x c.self.invariant.tags stands ∙ sym c.remove-packet.ensures.items) (held_without c.args.tag y.packets.items y.padding c.self.invariant)
+pub overflow_sub-after : goal.overflow_sub-after
+overflow_sub-after c =
+    let y = c.args.self.now in
+    let s : IsShown c.self.inside.packed y = subst (λ (z : Telegram). IsShown c.self.inside.packed z) c.self.view_is c.self.invariant.shown in
+    let t = standing c.self.inside.packed y c.args.tag c.in-Some.place c.after-after.result (c.end-used.result.at + 8) s c.in-Some.ensures.place c.in-Some.ensures.stands.0 c.after-after.ensures.index c.after-after.ensures.place c.end-used.ensures.at in
+    let wide = t.wide in
+    omega (arith, wide)
+
+pub cut_out-requires : goal.cut_out-requires
+cut_out-requires c =
+    let b = c.self.inside.packed in
+    let y = c.args.self.now in
+    let o : StandsFor b c.self.inside.edited y = subst (λ (z : Telegram). StandsFor b c.self.inside.edited z) c.self.view_is c.self.invariant in
+    let kept : StandsFor b c.take-kept.result y = subst (λ (k : Kept). StandsFor b k y) (sym c.take-kept.ensures.value) o in
+    let over : IsOver c.deref_mut.result.now y = subst (λ (e : Edited). IsOver e y) (sym c.deref_mut.ensures.value) (c.in_ok-edited.ensures.ok y kept) in
+    let t = standing b y c.args.tag c.in-Some.place c.after-after.result (c.end-used.result.at + 8) o.shown c.in-Some.ensures.place c.in-Some.ensures.stands.0 c.after-after.ensures.index c.after-after.ensures.place c.end-used.ensures.at in
+    (y, o.shown, over, t.spot)
+
+pub invariant_of-self-2 : goal.invariant_of-self-2
+invariant_of-self-2 c =
+    let b = c.self.inside.packed in
+    let y = c.args.self.now in
+    let o : StandsFor b c.self.inside.edited y = subst (λ (z : Telegram). StandsFor b c.self.inside.edited z) c.self.view_is c.self.invariant in
+    let kept : StandsFor b c.take-kept.result y = subst (λ (k : Kept). StandsFor b k y) (sym c.take-kept.ensures.value) o in
+    let over : IsOver c.deref_mut.result.now y = subst (λ (e : Edited). IsOver e y) (sym c.deref_mut.ensures.value) (c.in_ok-edited.ensures.ok y kept) in
+    let t = standing b y c.args.tag c.in-Some.place c.after-after.result (c.end-used.result.at + 8) o.shown c.in-Some.ensures.place c.in-Some.ensures.stands.0 c.after-after.ensures.index c.after-after.ensures.place c.end-used.ensures.at in
+    (is_again c.cut_out.new.bits (Some (with_value c.in_ok-edited.edited c.cut_out.new.edited)) (with_packets y (without same_tag c.args.tag y.packets))
+    (taken_one b c.cut_out.new.bits (Some (with_value c.in_ok-edited.edited c.cut_out.new.edited)) y c.args.tag c.in-Some.place.index t.item o.shown t.stands (c.cut_out.ensures.shown y o.shown over t.spot) (c.cut_out.ensures.over y o.shown over t.spot))).0
 
 pub returns : goal.returns
 returns c =
-    let y = c.self.inside in
-    let x = c.remove-packet.result in
-    let stands : StandsAt c.args.tag y.packets.items c.in-Some.i x = stands_in c.args.tag c.args.self.now.packets y.packets.items c.in-Some.i x (ap (λ (t : Telegram). t.packets) (sym c.self.view_is)) c.in-Some.ensures.place c.remove-packet.ensures.value in
-    taken y.header y.packets.items c.remove-packet.new.self.items y.padding c.args.self.now c.args.tag c.in-Some.i x c.tag_at-next.result c.self.view_is c.self.invariant.tags stands (c.tag_at-next.ensures ∙ ap (λ (k : ℕ). option_map (λ (q : Tag × Packet). q.0) (slice_get c.args.self.now.packets k)) (add-one c.in-Some.i)) c.remove-packet.ensures.items
+    let b = c.self.inside.packed in
+    let y = c.args.self.now in
+    let o : StandsFor b c.self.inside.edited y = subst (λ (z : Telegram). StandsFor b c.self.inside.edited z) c.self.view_is c.self.invariant in
+    let kept : StandsFor b c.take-kept.result y = subst (λ (k : Kept). StandsFor b k y) (sym c.take-kept.ensures.value) o in
+    let over : IsOver c.deref_mut.result.now y = subst (λ (e : Edited). IsOver e y) (sym c.deref_mut.ensures.value) (c.in_ok-edited.ensures.ok y kept) in
+    let t = standing b y c.args.tag c.in-Some.place c.after-after.result (c.end-used.result.at + 8) o.shown c.in-Some.ensures.place c.in-Some.ensures.stands.0 c.after-after.ensures.index c.after-after.ensures.place c.end-used.ensures.at in (
+      found c.args.tag y.packets c.in-Some.place.index t.item t.stands ∙ ap Some (sym (c.in_ok-packet.ensures.ok ∙ c.lent.ensures t.item t.there)),
+      neighbour c.args.tag y.packets c.in-Some.place.index t.item t.stands ∙ sym (c.tag_at-next.ensures ∙ ap (λ (k : ℕ). option_map (λ (q : Tag × Packet). q.0) (slice_get y.packets k)) (c.after-after.ensures.index ∙ add-one c.in-Some.place.index)),
+      (is_again c.cut_out.new.bits (Some (with_value c.in_ok-edited.edited c.cut_out.new.edited)) (with_packets y (without same_tag c.args.tag y.packets))
+          (taken_one b c.cut_out.new.bits (Some (with_value c.in_ok-edited.edited c.cut_out.new.edited)) y c.args.tag c.in-Some.place.index t.item o.shown t.stands (c.cut_out.ensures.shown y o.shown over t.spot) (c.cut_out.ensures.over y o.shown over t.spot))).1,
+    )

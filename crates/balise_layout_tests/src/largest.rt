@@ -1,0 +1,135 @@
+//! The largest packets that there are, longer than any telegram: a packet 5 of 32 elements, and the most fields.
+
+ghost use Rattle.std.specs.Prelude.{◌<◌};
+
+use crate::lent::check_lent;
+use balise_bits::Bits;
+use balise_layout::{Id, Packet, Var};
+use std::alloc::Global;
+use std::process::Abort;
+
+fn push(rt: &impl Abort, bits: &mut Bits, fields: &[(Var, u32)]) {
+    for (var, value) in fields.iter() {
+        assert!(rt; *value >> var.width() == 0);
+        bits.push(var.width(), *value).expect(rt, "memory");
+    }
+}
+
+fn push_front(rt: &impl Abort, bits: &mut Bits, number: u32, width: u32) {
+    push(
+        rt,
+        bits,
+        &[
+            (Var::NidPacket, number),
+            (Var::QDir, 1),
+            (Var::LPacket, width),
+            (Var::QScale, 1),
+        ],
+    );
+}
+
+// Element k names 500 k + 1.
+fn push_element(rt: &impl Abort, bits: &mut Bits, k: u32)
+    requires { k < 32 }
+{
+    push(
+        rt,
+        bits,
+        &[
+            (Var::DLink, 1000 * k),
+            (Var::QNewcountry, 0),
+            (Var::NidBg, 500 * k + 1),
+            (Var::QLinkorientation, k % 2),
+            (Var::QLinkreaction, k % 3),
+            (Var::QLocacc, k),
+        ],
+    );
+}
+
+// A packet 5 with N_ITER 31.
+fn linking(rt: &impl Abort, alloc: Global) -> Bits {
+    let mut bits = Bits::new(alloc);
+    push_front(rt, &mut bits, 5, 1278);
+    push_element(rt, &mut bits, 0);
+    push(rt, &mut bits, &[(Var::NIter, 31)]);
+    for k in 1..32 {
+        push_element(rt, &mut bits, k);
+    }
+    bits
+}
+
+fn check_named(rt: &impl Abort, links: &[Id]) {
+    assert!(rt; links.len() == 32);
+    for (k, id) in links.iter().enumerate() {
+        assert!(rt; id.country == 7 && id.number == 500 * k as u32 + 1);
+    }
+}
+
+fn check_all_named(rt: &impl Abort, packet: &Packet) {
+    check_named(rt, packet.links(7).expect(rt, "memory").as_slice());
+    check_named(rt, packet.lend().links(7).expect(rt, "memory").as_slice());
+}
+
+// That the packet is read with so many fields, and lent with the same.
+fn check_count(rt: &impl Abort, packet: &Packet, count: usize) {
+    assert!(rt; packet.fields().expect(rt, "memory").len() == count);
+    assert!(rt; packet.lend().fields().expect(rt, "memory").len() == count);
+}
+
+fn read(rt: &impl Abort, bits: &Bits) -> Packet {
+    let (packet, end) = Packet::read(bits, 0, 33).expect(rt, "a packet");
+    assert!(rt; end == bits.len());
+    packet
+}
+
+fn check_large(rt: &impl Abort, bits: &Bits, count: usize) {
+    check_count(rt, &read(rt, bits), count);
+    let digits = bits.to_hex().expect(rt, "memory");
+    check_lent(rt, bits, 0, 33, digits.as_str());
+}
+
+#[test]
+fn a_packet_5_of_32_elements_is_read(rt: HostRuntime) {
+    let bits = linking(&rt, rt.alloc());
+    check_all_named(&rt, &read(&rt, &bits));
+    check_large(&rt, &bits, 197);
+}
+
+// A section with so many differences.
+fn push_section(rt: &impl Abort, bits: &mut Bits, differences: u32) {
+    push(
+        rt,
+        bits,
+        &[
+            (Var::DStatic, 900),
+            (Var::VStatic, 24),
+            (Var::QFront, 0),
+            (Var::NIter, differences),
+        ],
+    );
+    for k in 0..differences {
+        push(
+            rt,
+            bits,
+            &[(Var::QDiff, 1), (Var::NcDiff, k % 16), (Var::VDiff, k)],
+        );
+    }
+}
+
+// A packet 27 of 19 sections, all but the last with 31 differences: 8180 of the 8191 bits that L_PACKET can say.
+fn speeds(rt: &impl Abort, alloc: Global) -> Bits {
+    let mut bits = Bits::new(alloc);
+    push_front(rt, &mut bits, 27, 8180);
+    push_section(rt, &mut bits, 31);
+    push(rt, &mut bits, &[(Var::NIter, 18)]);
+    for _ in 0..17 {
+        push_section(rt, &mut bits, 31);
+    }
+    push_section(rt, &mut bits, 28);
+    bits
+}
+
+#[test]
+fn a_packet_27_of_1839_fields_is_read(rt: HostRuntime) {
+    check_large(&rt, &speeds(&rt, rt.alloc()), 1839);
+}

@@ -1,5 +1,0 @@
-use Rattle.std.proofs.Common.{rules}
-use Rattle.balise_telegram.proofs.balise.Balise.flip_dir.Goals as goal
-
-pub returns : goal.returns
-returns c = search rules

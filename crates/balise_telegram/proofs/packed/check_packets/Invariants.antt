@@ -1,9 +1,0 @@
-use Rattle.std.proofs.Common.{length, ◌-◌}
-use Rattle.balise_telegram.proofs.PacketsRead.{SomeStand}
-use Rattle.balise_telegram.proofs.packed.check_packets.Given as goal
-
-abbrev pub invariant-packets : goal.invariant-packets
-invariant-packets l = SomeStand l.bits l.version l.at
-
-abbrev pub decreases-packets : goal.decreases-packets
-decreases-packets l = length l.bits - l.at

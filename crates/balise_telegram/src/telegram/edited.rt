@@ -1,0 +1,118 @@
+//! What a telegram keeps besides its bits once its packets were edited.
+
+ghost use Rattle.std.specs.Prelude.{◌≡◌, ◌<◌, ◌+◌, ◌^◌, IfOk, IfSome, IsOkUnless, OnErr, length, option_map, slice_get, Option, None};
+ghost use Rattle.std.specs.List.{position};
+ghost use Rattle.balise_rules.specs.Tags.{same_tag};
+ghost use Rattle.balise_rules.specs.Telegram.{TaggedFrom, Telegram};
+ghost use Rattle.balise_telegram.specs.Shown.{IsOver, IsPlace, IsShown, StandsFor};
+ghost use Rattle.balise_telegram.specs.declared.telegram.walking.Place.{Place};
+
+use crate::PacketTag;
+use crate::fault::TelegramFault;
+use crate::telegram::walking::{Place, ends, walk};
+use balise_bits::Bits;
+use std::alloc::Global;
+
+/// The tags of a telegram's packets in order, its ground, which are the bits that it shows where no packet stands, and
+/// how many bits header, packets and packet 255 take.
+#[derive(Drop)]
+pub(crate) struct Edited {
+    pub(crate) tags: Vec<PacketTag>,
+    pub(crate) ground: Bits,
+    pub(crate) used: usize,
+}
+
+impl Edited {
+    /// The place of a tag.
+    pub(crate) fn place_of(&self, tag: PacketTag) -> Option<usize>
+        ensures place { result ≡ position (λ t. same_tag tag t) self.now.tags.items }
+        ensures small { IfSome result (λ i. i + 1 < 2 ^ 64) }
+    {
+        self.tags.iter().position(|t| tag == *t)
+    }
+
+    /// The tag at a place.
+    pub(crate) fn tag_at(&self, i: usize) -> Option<PacketTag>
+        ensures { result ≡ slice_get self.now.tags.items i }
+    {
+        match self.tags.get(i) {
+            Some(tag) => Some(*tag),
+            None => None,
+        }
+    }
+
+    /// The same once more.
+    pub(crate) fn copy(&self, alloc: Global) -> Result<Box<Edited>, TelegramFault>
+        ensures ok { IfOk result (λ e. (e.value.tags.items ≡ self.now.tags.items) × (e.value.ground ≡ self.now.ground) × (e.value.used ≡ self.now.used)) }
+        ensures fault { IsOkUnless result TelegramFault.OutOfMemory }
+    {
+        let tags = Vec::from_slice(alloc, self.tags.as_slice())?;
+        let ground = self.ground.copy()?;
+        let used = self.used;
+        Ok(Box::new(alloc, Edited { tags, ground, used })?)
+    }
+}
+
+/// The place of a tag among packets as they were read.
+pub(crate) fn place_read(bits: &Bits, tag: PacketTag) -> Option<Place>
+    requires { (y : Telegram) × IsShown bits.now y }
+    ensures place { (y : Telegram) → IsShown bits.now y → TaggedFrom 0 y.packets → option_map (λ (p : Place). p.index) result ≡ position (λ q. same_tag tag q.0) y.packets }
+    ensures stands { (y : Telegram) → IsShown bits.now y → IfSome result (λ p. IsPlace y p × (p.index < length y.packets)) }
+{
+    let PacketTag::Base(number) = tag else {
+        return None;
+    };
+    let place = walk(bits, number as usize);
+    if place.index < number as usize {
+        return None;
+    }
+    if bits.number(place.at, 8) == 255 {
+        return None;
+    }
+    Some(place)
+}
+
+/// The tag at a place of packets as they were read.
+pub(crate) fn tag_read(bits: &Bits, place: Place) -> Option<PacketTag>
+    requires { (y : Telegram) × IsShown bits.now y × IsPlace y place }
+    ensures { (y : Telegram) → IsShown bits.now y → IsPlace y place → TaggedFrom 0 y.packets → result ≡ option_map (λ q. q.0) (slice_get y.packets place.index) }
+{
+    if bits.number(place.at, 8) == 255 {
+        return None;
+    }
+    Some(PacketTag::Base(place.index as u32))
+}
+
+/// Tags and ground of bits: those that are kept, or as the bits are read.
+pub(crate) fn edited_or_read(
+    kept: Option<Box<Edited>>,
+    bits: &Bits,
+) -> Result<Box<Edited>, TelegramFault>
+    requires { (y : Telegram) × StandsFor bits.now kept y }
+    ensures ok { IfOk result (λ e. (y : Telegram) → StandsFor bits.now kept y → IsOver e.value y) }
+    ensures none { OnErr result (kept ≡ None) }
+    ensures fault { IsOkUnless result TelegramFault.OutOfMemory }
+{
+    match kept {
+        Some(edited) => Ok(edited),
+        None => edited_read(bits),
+    }
+}
+
+// Tags and ground of bits as they are read.
+fn edited_read(bits: &Bits) -> Result<Box<Edited>, TelegramFault>
+    requires { (y : Telegram) × StandsFor bits.now None y }
+    ensures ok { IfOk result (λ e. (y : Telegram) → StandsFor bits.now None y → IsOver e.value y) }
+    ensures fault { IsOkUnless result TelegramFault.OutOfMemory }
+{
+    let alloc = bits.allocator();
+    let end = ends(bits);
+    let mut tags = Vec::with_capacity(alloc, end.index + 1)?;
+    for i in 0..end.index {
+        tags.push(PacketTag::Base(i as u32))?;
+    }
+    let mut ground = bits.copy()?;
+    let used = end.at + 8;
+    ground.put_ones(0, used);
+    Ok(Box::new(alloc, Edited { tags, ground, used })?)
+}

@@ -1,0 +1,63 @@
+//! The packets of a telegram, one after another.
+
+ghost use Rattle.std.specs.Iterator.{YieldsFirst, item_count};
+ghost use Rattle.std.specs.Prelude.{◌≡◌};
+
+use crate::PacketTag;
+use crate::telegram::Telegram;
+use crate::telegram::walking::{Place, first};
+use balise_layout::PacketRef;
+use std::iter::FusedIterator;
+use std::marker::Model;
+
+/// The packets of a telegram that are left, each with its tag, lent.
+#[derive(Drop)]
+pub struct Packets<'a> {
+    telegram: &'a Telegram,
+    place: Place,
+}
+
+impl<'a> Model for Packets<'a> {
+    ghost use Rattle.std.specs.Prelude.{List, drop};
+    ghost use Rattle.balise_rules.specs.declared.tag.Tag.{Tag};
+    ghost use Rattle.balise_rules.specs.Packet as rules;
+    ghost use Rattle.balise_telegram.specs.Shown.{IsPlace};
+
+    ghost Value = { List (Tag × rules.Packet) };
+
+    ghost view = { λ p. drop p.place.index p.telegram.now.packets };
+
+    ghost invariant = { λ p. IsPlace p.telegram.now p.place };
+}
+
+impl<'a> Iterator for Packets<'a> {
+    type Item = (PacketTag, PacketRef<'a>);
+
+    ghost next_gives = { YieldsFirst (λ rest. rest) };
+
+    ghost remaining = { item_count (λ rest. rest) };
+
+    fn next(&mut self) -> Option<(PacketTag, PacketRef<'a>)> {
+        let place = self.place;
+        let telegram = self.telegram;
+        let Some(tag) = telegram.tag_at(place) else {
+            return None;
+        };
+        self.place = telegram.after(place);
+        Some((tag, telegram.lent(place)))
+    }
+}
+
+impl<'a> FusedIterator for Packets<'a> {}
+
+impl Telegram {
+    /// Its packets in order, each with its tag, lent.
+    pub fn packets(&self) -> Packets<'_>
+        ensures { result ≡ self.now.packets }
+    {
+        Packets {
+            telegram: self,
+            place: first(),
+        }
+    }
+}

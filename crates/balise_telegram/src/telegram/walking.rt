@@ -1,0 +1,69 @@
+//! Walks over the packets of a telegram's bits.
+
+ghost use Rattle.std.specs.Prelude.{◌≡◌, ◌≤◌, ◌<◌, ◌+◌, length};
+ghost use Rattle.balise_rules.specs.Telegram.{used, Telegram};
+ghost use Rattle.balise_telegram.specs.Shown.{IsPlace, IsShown, Passes};
+
+use balise_bits::Bits;
+
+/// A place before a packet, or before packet 255: how many packets stand before it, and the bit at which it is.
+#[derive(Clone, Copy)]
+pub(crate) struct Place {
+    pub(crate) index: usize,
+    pub(crate) at: usize,
+}
+
+/// The place before the first packet.
+pub(crate) fn first() -> Place
+    ensures index { result.index ≡ 0 }
+    ensures at { result.at ≡ 50 }
+{
+    Place { index: 0, at: 50 }
+}
+
+/// The place after so many packets, or after the last where there are fewer.
+pub(crate) fn walk(bits: &Bits, most: usize) -> Place
+    requires { (y : Telegram) × IsShown bits.now y }
+    ensures { (y : Telegram) → IsShown bits.now y → Passes y.packets most result.index result.at }
+{
+    let mut at = 50;
+    let mut count = 0;
+    'packets: loop {
+        if count == most {
+            return Place { index: count, at };
+        }
+        let number = bits.number(at, 8);
+        if number == 255 {
+            return Place { index: count, at };
+        }
+        // L_PACKET
+        let width = bits.number(at + 10, 13);
+        at += width as usize;
+        count += 1;
+    }
+}
+
+/// The place after the last packet.
+pub(crate) fn ends(bits: &Bits) -> Place
+    requires { (y : Telegram) × IsShown bits.now y }
+    ensures ends { (y : Telegram) → IsShown bits.now y → (result.index ≡ length y.packets) × (result.at + 8 ≡ used y.packets) }
+    ensures few { result.index ≤ 33 }
+    ensures most { result.at + 8 ≤ length bits.now }
+{
+    walk(bits, usize::MAX)
+}
+
+/// The place after the packet at a place.
+pub(crate) fn after(bits: &Bits, place: Place) -> Place
+    requires { (y : Telegram) × IsShown bits.now y × IsPlace y place × (place.index < length y.packets) }
+    ensures index { result.index ≡ place.index + 1 }
+    ensures place { (y : Telegram) → IsShown bits.now y → IsPlace y place → place.index < length y.packets → IsPlace y result }
+{
+    let _len = bits.len();
+    // L_PACKET
+    let width = bits.number(place.at + 10, 13);
+    Place {
+        index: place.index + 1,
+        at: place.at + width as usize,
+    }
+}

@@ -1,21 +1,23 @@
 -- What a command is answered, from what its session answers.
-use Rattle.std.proofs.Common.{◌≡◌, ◌≢◌, ◌⊎◌, ◌∙◌, inl, inr, ◌<◌, List, [], Bool, true, false, ◌&&◌, ◌||◌, IsTrue, nat_lt, Option, Some, None, Result, Ok, Err, option_map, refl, sym, ap}
-use Rattle.std.proofs.lemmas.Bool.{lt-ltb}
+use Rattle.std.proofs.Common.{◌≡◌, ◌≢◌, ◌⊎◌, ◌∙◌, inl, inr, ◌<◌, ◌≤◌, List, [], Bool, true, false, ◌&&◌, ◌||◌, IsTrue, IfErr, cond, nat_le, nat_lt, Option, Some, None, Result, Ok, Err, option_map, refl, sym, ap}
+use Rattle.std.proofs.lemmas.Bool.{cases_lt, le-leb, lt-ltb, true≢false}
 use Rattle.balise_rules.specs.declared.identity.Id.{Id}
 use Rattle.balise_rules.specs.declared.refusal.Refusal.{Refusal}
-use Rattle.balise_rules.specs.declared.refusal.Refusal.TheVariants.{OutOfMemory}
+use Rattle.balise_rules.specs.declared.refusal.Refusal.TheVariants.{OutOfMemory, Worn}
 use Rattle.balise_rules.specs.declared.review.ReviewLine.{ReviewLine}
 use Rattle.balise_rules.specs.declared.tag.Tag.{Tag}
 use Rattle.balise_rules.specs.Addresses.{AskSet, AskSetHead, AskInsert, AskDelete, AskMove, AskAdd, AskDrop, AskRenumber, AskTurn}
 use Rattle.balise_rules.specs.Plan.{Group, Plan}
 use Rattle.balise_rules.specs.Review.{review}
-use Rattle.balise_rules.specs.Session.{State, Call, Ask, Undo, Redo, Strike, Reply, Refused, most_commands, takes_memory}
+use Rattle.balise_rules.specs.Session.{State, Call, Ask, Undo, Redo, Strike, Reply, Refused, answer_in_time, most_commands, takes_memory}
 use Rattle.balise_rules.proofs.Cases.{unsome}
+use Rattle.balise_text.specs.Checks.{checked}
 use Rattle.balise_text.specs.Commands.{call_of, reads_digits}
+use Rattle.balise_text.specs.declared.request.Request.{Request}
 use Rattle.balise_text.specs.Answers.{reply_of}
 use Rattle.balise_text.specs.Texts.{Text}
-use Rattle.balise_cli.specs.Output.{MayAnswer, answer_line, group_review, reviewed, may_run_out}
-use Rattle.balise_cli.specs.Private.{DidAnswer, DidDo, TurnsWith, turned_by}
+use Rattle.balise_cli.specs.Output.{MayAnswer, answer_line, does_take_memory, group_review, may_run_out, reviewed}
+use Rattle.balise_cli.specs.Private.{DidAnswer, DidDo, IsRefused, TurnsWith, at_limit, turned_by}
 use Rattle.balise_cli.specs.declared.answers.Answer.{Answer}
 
 -- the review of a group that was found by its identity
@@ -27,14 +29,16 @@ or_true : (b : Bool) → (b || true) ≡ true
 or_true true = refl
 or_true false = refl
 
-wanted : (c : Call) (s : State) → IsTrue (takes_memory c s) → s.count < most_commands → (nat_lt s.count most_commands && takes_memory c s) ≡ true
-wanted c s takes time = ap (λ b. b && takes_memory c s) (lt-ltb s.count most_commands time) ∙ takes
+-- a command that takes memory to be done
+done_out : (line : Text) (s : State) (c : Call) → call_of line ≡ Ok c → IsTrue (takes_memory c s) → s.count < most_commands → may_run_out line s ≡ true
+done_out line s c h takes time =
+    ap (λ b. b && (reads_digits line || does_take_memory (call_of line) s)) (lt-ltb s.count most_commands time)
+    ∙ ap (λ (x : Result Call Refusal). reads_digits line || does_take_memory x s) h ∙ ap (λ b. reads_digits line || b) takes ∙ or_true (reads_digits line)
 
 -- the line of a command that was read
 pub line_answered : (line : Text) (s t : State) (r : Reply) (c : Call) → call_of line ≡ Ok c → DidDo c s r t → MayAnswer true line s r t
 line_answered line s t r c h (inl e) = inl (e ∙ sym (ap (λ (x : Result Call Refusal). answer_line x s) h))
-line_answered line s t r c h (inr w) =
-    inr (refl, ap (λ (x : Result Call Refusal). reads_digits line || may_run_out x s) h ∙ ap (λ b. reads_digits line || b) (wanted c s w.0 w.1) ∙ or_true (reads_digits line), w.2, w.3)
+line_answered line s t r c h (inr w) = inr (refl, done_out line s c h w.0 w.1, w.2, w.3)
 
 is_turn : (c : Call) (i : Id) → turned_by c ≡ Some i → c ≡ Ask (AskTurn i)
 is_turn (Ask (AskTurn j)) i h = ap (λ (k : Id). Ask (AskTurn k)) (unsome h)
@@ -79,7 +83,7 @@ pub not_some : (o : Option Id) → ((i : Id) → o ≡ Some i → ⊥) → o ≡
 not_some None h = refl
 not_some (Some i) h = absurd (h i refl)
 
--- of a line that is none
+-- of a line that is refused
 
 wanted_or : (r : Refusal) → (r ≡ OutOfMemory) ⊎ (r ≢ OutOfMemory)
 wanted_or OutOfMemory = inl refl
@@ -90,9 +94,32 @@ none_reviewed (Err f) r s = refl
 none_reviewed (Ok (Ask (AskTurn i))) r s = refl
 none_reviewed c r s = refl
 
-pub refused_answered : (line : Text) (s : State) (r : Refusal) (ls : List ReviewLine) → (r ≢ OutOfMemory → call_of line ≡ Err r) → (r ≡ OutOfMemory → reads_digits line ≡ true) → ls ≡ [] → MayAnswer true line s (Refused r) s × (ls ≡ reviewed (call_of line) (Refused r) s)
-refused_answered line s r ls fault memory none = (by (wanted_or r), none ∙ none_reviewed (call_of line) r s)
+pub refused_answered : (line : Text) (s : State) (r : Refusal) (ls : List ReviewLine) → IsRefused line s r → ls ≡ [] → MayAnswer true line s (Refused r) s × (ls ≡ reviewed (call_of line) (Refused r) s)
+refused_answered line s r ls may none = (may, none ∙ none_reviewed (call_of line) r s)
+
+-- below the limit
+before_limit : (s : State) → nat_le most_commands s.count ≡ false → nat_lt s.count most_commands ≡ true
+before_limit s h = by (cases_lt s.count most_commands)
   where
-    by : (r ≡ OutOfMemory) ⊎ (r ≢ OutOfMemory) → MayAnswer true line s (Refused r) s
-    by (inl e) = inr (refl, ap (λ b. b || may_run_out (call_of line) s) (memory e), ap Refused e, refl)
+    by : (s.count < most_commands) ⊎ (most_commands ≤ s.count) → nat_lt s.count most_commands ≡ true
+    by (inl time) = lt-ltb s.count most_commands time
+    by (inr worn) = absurd (true≢false (sym (le-leb most_commands s.count worn) ∙ h))
+
+pub read_refused : (line : Text) (s : State) (q : Result Request Refusal) → nat_le most_commands s.count ≡ false → IfErr q (λ e. e ≢ OutOfMemory → call_of line ≡ Err e) → IfErr q (λ e. e ≡ OutOfMemory → reads_digits line ≡ true)
+    → IfErr q (λ e. IsRefused line s e)
+read_refused line s (Ok x) time fault memory = tt
+read_refused line s (Err r) time fault memory = by (wanted_or r)
+  where
+    by : (r ≡ OutOfMemory) ⊎ (r ≢ OutOfMemory) → IsRefused line s r
+    by (inl e) =
+        let out : may_run_out line s ≡ true = ap (λ b. b && (reads_digits line || does_take_memory (call_of line) s)) (before_limit s time) ∙ ap (λ b. b || does_take_memory (call_of line) s) (memory e) in
+        inr (refl, out, ap Refused e, refl)
     by (inr n) = inl (sym (ap (λ (x : Result Call Refusal). answer_line x s) (fault n)))
+
+-- at the limit
+pub limit_refused : (line : Text) (s : State) (r : Refusal) → nat_le most_commands s.count ≡ true → r ≡ at_limit (checked (call_of line)) → IsRefused line s r
+limit_refused line s r worn h = by (call_of line) refl h
+  where
+    by : (c : Result Call Refusal) → call_of line ≡ c → r ≡ at_limit (checked c) → IsRefused line s r
+    by (Err q) k e = inl (ap (λ (x : Refusal). (Refused x, s)) e ∙ sym (ap (λ (x : Result Call Refusal). answer_line x s) k))
+    by (Ok c) k e = inl (ap (λ (x : Refusal). (Refused x, s)) e ∙ sym (ap (λ (x : Result Call Refusal). answer_line x s) k ∙ ap (λ b. cond b (Refused Worn, s) (answer_in_time c s)) worn))

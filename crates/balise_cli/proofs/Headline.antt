@@ -17,7 +17,7 @@ use Rattle.balise_lines.specs.Lines.{Fits, Line, end_of, lines_of, whole}
 use Rattle.balise_plan.specs.GroupReading.{WereRead, group_of, with_read}
 use Rattle.balise_plan.proofs.Reading.{group_pushed, none_read}
 use Rattle.balise_arguments.specs.declared.options.Flags.{Flags}
-use Rattle.balise_text.specs.Commands.{call_of, reads_digits}
+use Rattle.balise_text.specs.Commands.{call_of}
 use Rattle.balise_text.specs.Heads.{read_head}
 use Rattle.balise_text.specs.JournalLines.{JournalLine, EntryLine, UndoneLine, EditsLine as EndLine, journal_line_of}
 use Rattle.balise_text.specs.PlanLines.{plan_line_of}
@@ -151,7 +151,7 @@ answer_kept scarce line s t r h may = by (call_of line) may
     same : t ≡ s → IsSession t × (t.base ≡ s.base)
     same e = (subst IsSession (sym e) h, ap (λ (u : State). u.base) e)
 
-    by : (c : Result Call Refusal) → (◌≡◌ {A = Reply × State} (r, t) (answer_line c s)) ⊎ ((scarce ≡ true) × IsTrue (reads_digits line || may_run_out c s) × (r ≡ Refused OutOfMemory) × (t ≡ s)) → IsSession t × (t.base ≡ s.base)
+    by : (c : Result Call Refusal) → (◌≡◌ {A = Reply × State} (r, t) (answer_line c s)) ⊎ ((scarce ≡ true) × IsTrue (may_run_out line s) × (r ≡ Refused OutOfMemory) × (t ≡ s)) → IsSession t × (t.base ≡ s.base)
     by (Err f) (inl e) = same (ap (λ (a : Reply × State). a.1) e)
     by (Ok c) (inl e) = sessions_kept c r s t h (inl e)
     by c (inr w) = same w.3

@@ -5,7 +5,7 @@ use Rattle.std.proofs.KnownBytes.{Appends-nil, Appends-trans}
 use Rattle.balise_rules.specs.Plan.{Plan}
 use Rattle.balise_rules.specs.Session.{State}
 use Rattle.balise_lines.specs.Writing.{AppendsSome}
-use Rattle.balise_lines.proofs.WrittenTexts.{some_after, some_front, some_nothing}
+use Rattle.balise_lines.proofs.WrittenTexts.{some_after, some_all, some_front, some_nothing}
 use Rattle.balise_arguments.specs.declared.options.Flags.{Flags}
 use Rattle.balise_text.specs.Answers.{reply_of}
 use Rattle.balise_text.specs.Replies.{is_refused}
@@ -42,6 +42,10 @@ module _ (flags : Flags) (s t : State) (refused : Bool) (n : ℕ) (line : Text) 
   -- a beginning of its answer was written
   pub command_some : (old new : Option Text) → AppendsSome old new (answer_text flags.quiet a) → DidSome flags (Commands s refused) n line old new
   command_some old new w = (answer_text flags.quiet a, (after_command flags (reply_of a.reply) t refused, (is_step _ refl, some_front old new (answer_text flags.quiet a) _ w)))
+
+  -- all of its answer was written
+  pub command_all : (old new : Option Text) → Appends old new (answer_text flags.quiet a) → DidSome flags (Commands s refused) n line old new
+  command_all old new w = command_some old new (some_all old new (answer_text flags.quiet a) w)
 
   -- its answer was, and a beginning of the end
   pub command_end_some : (old now new : Option Text) → (flags.stop && is_refused (reply_of a.reply)) ≡ true → Appends old now (answer_text flags.quiet a) → AppendsSome now new (end_text flags t)

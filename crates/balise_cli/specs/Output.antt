@@ -109,16 +109,20 @@ abbrev pub answer_line : Result Call Refusal → State → Reply × State
 answer_line (Err r) s = (Refused r, s)
 answer_line (Ok c) s = answer c s
 
--- whether a command may run out of memory; at the limit of a session none does
-abbrev pub may_run_out : Result Call Refusal → State → Bool
-may_run_out (Err r) s = false
-may_run_out (Ok c) s = nat_lt s.count most_commands && takes_memory c s
+-- whether a command takes memory to be done
+abbrev pub does_take_memory : Result Call Refusal → State → Bool
+does_take_memory (Err r) s = false
+does_take_memory (Ok c) s = takes_memory c s
 
--- A command has its reply; where memory is scarce, one that takes memory to be read or done may be refused for it and leave the state as it was.
+-- whether the line of a command may run out of memory, as it is read or done; at the limit of a session none does
+abbrev pub may_run_out : Text → State → Bool
+may_run_out line s = nat_lt s.count most_commands && (reads_digits line || does_take_memory (call_of line) s)
+
+-- A command has its reply; where memory is scarce, one that may run out of it may be refused so and leave the state as it was.
 abbrev pub MayAnswer : Bool → Text → State → Reply → State → Type 0
 MayAnswer scarce line s r s' =
     (◌≡◌ {A = Reply × State} (r, s') (answer_line (call_of line) s))
-    ⊎ ((scarce ≡ true) × IsTrue (reads_digits line || may_run_out (call_of line) s) × (r ≡ Refused OutOfMemory) × (s' ≡ s))
+    ⊎ ((scarce ≡ true) × IsTrue (may_run_out line s) × (r ≡ Refused OutOfMemory) × (s' ≡ s))
 
 -- the review of a turn of the group of an identity, on the plan before it
 abbrev pub group_review : Option (Tag × Group) → Plan → List ReviewLine

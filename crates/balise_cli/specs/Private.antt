@@ -1,7 +1,8 @@
 -- What a command is answered, and the review after it, as this crate has them.
-use Rattle.std.specs.Prelude.{◌≡◌, ◌⊎◌, ◌<◌, Bool, true, IsTrue, Option, Some, None, Ok}
+use Rattle.std.specs.Prelude.{◌≡◌, ◌⊎◌, ◌<◌, Bool, true, IsTrue, Option, Some, None, Result, Ok, Err}
 use Rattle.balise_rules.specs.declared.identity.Id.{Id}
-use Rattle.balise_rules.specs.declared.refusal.Refusal.TheVariants.{OutOfMemory}
+use Rattle.balise_rules.specs.declared.refusal.Refusal.{Refusal}
+use Rattle.balise_rules.specs.declared.refusal.Refusal.TheVariants.{OutOfMemory, Worn}
 use Rattle.balise_rules.specs.Addresses.{AskTurn}
 use Rattle.balise_rules.specs.Journal.{line_of}
 use Rattle.balise_rules.specs.Paths.{Entry}
@@ -21,6 +22,15 @@ DidDo c s r t = (◌≡◌ {A = Reply × State} (r, t) (answer c s)) ⊎ (IsTrue
 abbrev pub turned_by : Call → Option Id
 turned_by (Ask (AskTurn i)) = Some i
 turned_by c = None
+
+-- a line may be refused so before anything is done
+abbrev pub IsRefused : Text → State → Refusal → Type 0
+IsRefused line s r = MayAnswer true line s (Refused r) s
+
+-- why a line is refused at the limit of a session: for its own fault, or as worn
+abbrev pub at_limit : {A : Type 0} → Result A Refusal → Refusal
+at_limit (Err r) = r
+at_limit (Ok x) = Worn
 
 -- a turn has its reply, and after it its review
 abbrev pub TurnsWith : Id → State → Answer → State → Type 0

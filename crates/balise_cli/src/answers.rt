@@ -1,13 +1,15 @@
 //! The commands.
 
-ghost use Rattle.std.specs.Prelude.{◌≡◌, IfOk, IsOkUnless, map};
+ghost use Rattle.std.specs.Prelude.{◌≡◌, IfErr, IfOk, IsOkUnless, map, Ok};
 ghost use Rattle.balise_cli.specs.Output.{group_review};
-ghost use Rattle.balise_cli.specs.Private.{answer_text, turned_by, DidAnswer, DidDo, TurnsWith};
+ghost use Rattle.balise_cli.specs.Private.{answer_text, at_limit, turned_by, DidAnswer, DidDo, IsRefused, TurnsWith};
 ghost use Rattle.balise_commands.specs.Commands.{command_of};
 ghost use Rattle.balise_lines.specs.Writing.{Writes};
 ghost use Rattle.balise_rules.specs.Plan.{group_named};
 ghost use Rattle.balise_rules.specs.Session as rules;
 ghost use Rattle.balise_text.specs.Answers.{reply_of};
+ghost use Rattle.balise_text.specs.Checks.{checked};
+ghost use Rattle.balise_text.specs.Commands.{call_of};
 ghost use Rattle.balise_text.specs.Requests.{call};
 ghost use Rattle.balise_text.specs.Reviews.{review_line};
 ghost use Rattle.balise_text.specs.Texts.{text_of};
@@ -16,7 +18,7 @@ use balise_edits::review;
 use balise_history::{Command, Id, Plan, Refusal, Session};
 use balise_lines::{Counted, WriteFault};
 use balise_rules::ReviewLine;
-use balise_text::{Reply, Request, put_reply, put_review, read_request};
+use balise_text::{Reply, Request, check_request, put_reply, put_review, read_request};
 use std::alloc::Global;
 use std::io::Write;
 
@@ -107,11 +109,33 @@ fn turned(request: &Request) -> Option<Id>
     }
 }
 
+// Why a line is refused at the limit of a session: for its own fault, or as worn. No memory is taken, so it is never
+// `OutOfMemory`.
+fn refusal_at_limit(line: &[u8]) -> Refusal
+    ensures { result ≡ at_limit (checked (call_of line.now)) }
+{
+    match check_request(line) {
+        Ok(()) => Refusal::Worn,
+        Err(refusal) => refusal,
+    }
+}
+
+// The command that a line is, or why it is refused before anything is done.
+fn request_of(alloc: Global, session: &Session, line: &[u8]) -> Result<Request, Refusal>
+    ensures ok { IfOk result (λ r. call_of line.now ≡ Ok (call r)) }
+    ensures fault { IfErr result (λ e. IsRefused line.now session.now.state e) }
+{
+    if session.is_worn() {
+        return Err(refusal_at_limit(line));
+    }
+    read_request(alloc, line)
+}
+
 /// Does what a line asks for.
 pub(crate) fn answer_line(alloc: Global, session: &mut Session, line: &[u8]) -> Answer
     ensures { DidAnswer line.now session.old.state result session.new.state }
 {
-    let request = match read_request(alloc, line) {
+    let request = match request_of(alloc, session, line) {
         Ok(request) => request,
         Err(refusal) => {
             return Answer {

@@ -37,6 +37,7 @@ impl Commands {
 
     /// Does the command of a line and writes its answer. After a refusal that stops the run it writes the end too, and
     /// answers the status.
+    #[tactic(auto, using(crate::proofs::OneLine::command_all))]
     pub(crate) fn answer<W: Write>(
         &mut self,
         alloc: Global,

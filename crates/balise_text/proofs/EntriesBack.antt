@@ -17,9 +17,8 @@ use Rattle.balise_text.specs.JournalLines.{entry, entry_words, entry_in}
 use Rattle.balise_text.specs.Laws.{IsNumber, AreTelegrams, ArePrintable, IsPrintable}
 use Rattle.balise_text.proofs.Decimals.{number_of_decimal}
 use Rattle.balise_text.proofs.Marked.{parts_marked}
-use Rattle.balise_text.proofs.High.{AllHigh, all_high-append, all_high_lack, decimal_high, tag_high, anchor_high, neighbour_high, telegram_path_high, packet_path_high}
+use Rattle.balise_text.proofs.High.{AllHigh, all_high-append, all_high_lack, decimal_high, name_high, tag_high, anchor_high, neighbour_high, telegram_path_high, packet_path_high}
 use Rattle.balise_rules.proofs.VariableNames.{name_read}
-use Rattle.balise_text.proofs.Names.{name_high}
 use Rattle.balise_text.proofs.Spelt.{tag_read, anchor_read, neighbour_read, telegram_path_read, packet_path_read}
 use Rattle.balise_text.proofs.HexDigits.{digits_high, hex_count, bytes_read, due_read}
 

@@ -4,6 +4,9 @@ use Rattle.std.specs.Prelude.{◌≢◌, nat_le}
 use Rattle.std.proofs.lemmas.Grind.{common_steps}
 use Rattle.balise_rules.specs.declared.tag.Tag.{Tag}
 use Rattle.balise_rules.specs.declared.tag.Tag.TheVariants.{Base, Fresh}
+use Rattle.balise_rules.specs.declared.variable.Var.{Var}
+use Rattle.balise_rules.specs.Variables.{name_of}
+use Rattle.balise_rules.proofs.EachVariable.{each_variable}
 use Rattle.balise_text.specs.Texts.{behind_marks, with_marks}
 use Rattle.balise_text.specs.Words.{Word, is_digit, all_digits}
 use Rattle.balise_text.specs.Places.{tag_text, anchor_text, neighbour_text, telegram_path, packet_path}
@@ -50,6 +53,10 @@ digits_high (b ∷ bs) h =
 
 pub decimal_high : (n : ℕ) → IsNumber n → is_high (decimal n) ≡ true
 decimal_high n h = digits_high (decimal n) (digits_of_decimal n h)
+
+pub name_high : (v : Var) → is_high (name_of v) ≡ true
+unfolding name_of
+name_high v = each_variable (λ w. is_high (name_of w)) refl v
 
 pub tag_high : (g : Tag) → IsTagNumber g → is_high (tag_text g) ≡ true
 tag_high (Base n) h = decimal_high n h

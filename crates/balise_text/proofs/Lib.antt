@@ -2,13 +2,13 @@ pub mod Numbers
 pub mod Parts
 pub mod Taking
 pub mod DigitWords
+pub mod DigitChecks
 pub mod Lists
 pub mod Bytes
 pub mod Decimals
 pub mod Marked
 pub mod Spelt
 pub mod High
-pub mod Names
 pub mod HexDigits
 pub mod EntriesBack
 pub mod LinesBack

@@ -5,9 +5,11 @@ use Rattle.balise_rules.specs.declared.refusal.Refusal.{Refusal}
 use Rattle.balise_rules.specs.Session.{Ask}
 use Rattle.balise_rules.proofs.Cases.{unsome}
 use Rattle.balise_text.specs.Words.{Word, and_then, number_of, or_bad, read_as, taken, with_words}
+use Rattle.balise_text.specs.Checks.{checked}
 use Rattle.balise_text.specs.Kinds.{kind_of}
 use Rattle.balise_text.specs.Commands.{command_words, has_digits, is_digits_kind, named_words}
 use Rattle.balise_text.specs.JournalLines.{entry_in, entry_words}
+use Rattle.balise_text.proofs.DigitChecks.{checked_as}
 
 pub or_bad_as : {A B : Type 0} (f : A → B) (x : Option (Result A Refusal)) → or_bad (option_map (read_as f) x) ≡ read_as f (or_bad x)
 or_bad_as f None = refl
@@ -17,6 +19,11 @@ or_bad_as f (Some r) = refl
 pub named_fault : (name : Word) (ws : List Word) (r : Refusal) → bytes_eq name (codes "undo") ≡ false → bytes_eq name (codes "redo") ≡ false → bytes_eq name (codes "strike") ≡ false
     → or_bad (command_words (kind_of name) ws) ≡ Err r → or_bad (named_words name ws) ≡ Err r
 named_fault name ws r a b c e = rw (a, b, c) (or_bad_as Ask (command_words (kind_of name) ws) ∙ ap (read_as Ask) e)
+
+-- one that is judged
+pub named_checked : (name : Word) (ws : List Word) → bytes_eq name (codes "undo") ≡ false → bytes_eq name (codes "redo") ≡ false → bytes_eq name (codes "strike") ≡ false
+    → checked (or_bad (named_words name ws)) ≡ checked (or_bad (command_words (kind_of name) ws))
+named_checked name ws a b c = rw (a, b, c) (ap checked (or_bad_as Ask (command_words (kind_of name) ws)) ∙ checked_as Ask (or_bad (command_words (kind_of name) ws)))
 
 -- ---- whether memory may be wanted
 

@@ -1,6 +1,7 @@
 pub mod Texts
 pub mod Words
 pub mod DigitWords
+pub mod Checks
 pub mod Kinds
 pub mod Commands
 pub mod Requests

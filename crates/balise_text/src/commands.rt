@@ -1,17 +1,20 @@
 //! What the words of an edit's command ask for.
 
-ghost use Rattle.std.specs.Prelude.{◌≡◌, ◌≢◌, ◌&&◌, is_some, Err, IfErr, IfOk, Ok, option_map, true};
+ghost use Rattle.std.specs.Prelude.{◌≡◌, ◌≢◌, ◌&&◌, is_some, Err, false, IfErr, IfOk, MatchOption, None, Ok, option_map, Some, true};
+ghost use Rattle.balise_rules.specs.Addresses.{AskAdd, AskInsert};
+ghost use Rattle.balise_rules.specs.Digits.{read_digits};
 ghost use Rattle.balise_commands.specs.Commands.{command_of};
 ghost use Rattle.balise_text.specs.Commands.{add_words, command_words, delete_words, drop_words, insert_words, is_digits_kind, move_words, renumber_words, set_head_words, set_words, turn_words};
+ghost use Rattle.balise_text.specs.DigitWords.{telegrams_in};
 ghost use Rattle.balise_text.specs.Left.{left};
-ghost use Rattle.balise_text.specs.Words.{or_bad};
+ghost use Rattle.balise_text.specs.Words.{or_bad, read_as};
 
 use crate::digit_words::read_telegrams;
 use crate::kind::Kind;
 use crate::words::Parts;
 use balise_bits::Bits;
 use balise_commands::Command;
-use balise_rules::Refusal;
+use balise_rules::{Id, Refusal};
 use std::alloc::Global;
 
 fn read_set(words: Parts) -> Option<Command>
@@ -152,26 +155,58 @@ fn read_turn(words: Parts) -> Option<Command>
     None
 }
 
+/// What an insert names before its digits are looked at.
+#[derive(Clone, Copy)]
+pub(crate) struct Insert<'a> {
+    id: Id,
+    pig: u32,
+    at: u32,
+    pub(crate) word: &'a [u8],
+}
+
+/// The words of an insert.
+pub(crate) fn insert_parts<'a>(words: Parts<'a>) -> Option<Insert<'a>>
+    ensures { MatchOption result (insert_words (left words.entry) ≡ None) (λ p. insert_words (left words.entry) ≡ Some (read_as (AskInsert p.id p.pig p.at) (read_digits p.word.now))) }
+{
+    let Some((id, words)) = words.id() else {
+        return None;
+    };
+    let Some((pig, words)) = words.number() else {
+        return None;
+    };
+    let Some((at, words)) = words.number() else {
+        return None;
+    };
+    let Some((word, words)) = words.some_word() else {
+        return None;
+    };
+    if !words.is_over() {
+        return None;
+    }
+    Some(Insert { id, pig, at, word })
+}
+
+/// The words of an add: its place, and the words of digits.
+pub(crate) fn add_parts<'a>(words: Parts<'a>) -> Option<(u32, Parts<'a>)>
+    ensures { MatchOption result (add_words (left words.entry) ≡ None) (λ p. add_words (left words.entry) ≡ Some (read_as (AskAdd p.0) (telegrams_in (left p.1)))) }
+{
+    let Some((at, words)) = words.number() else {
+        return None;
+    };
+    if !words.have_digits() {
+        return None;
+    }
+    Some((at, words))
+}
+
 fn read_insert(alloc: Global, words: Parts) -> Result<Command, Refusal>
     ensures ok { IfOk result (λ c. or_bad (insert_words (left words.entry)) ≡ Ok (command_of c)) }
     ensures fault { IfErr result (λ e. e ≢ Refusal.OutOfMemory → or_bad (insert_words (left words.entry)) ≡ Err e) }
     ensures memory { IfErr result (λ e. e ≡ Refusal.OutOfMemory → is_some (insert_words (left words.entry)) ≡ true) }
 {
-    let Some((id, words)) = words.id() else {
+    let Some(Insert { id, pig, at, word }) = insert_parts(words) else {
         return Err(Refusal::BadLine);
     };
-    let Some((pig, words)) = words.number() else {
-        return Err(Refusal::BadLine);
-    };
-    let Some((at, words)) = words.number() else {
-        return Err(Refusal::BadLine);
-    };
-    let Some((word, words)) = words.some_word() else {
-        return Err(Refusal::BadLine);
-    };
-    if !words.is_over() {
-        return Err(Refusal::BadLine);
-    }
     match Bits::digits_in_bytes(alloc, word) {
         Ok(digits) => Ok(Command::InsertPacket {
             id,
@@ -188,12 +223,9 @@ fn read_add(alloc: Global, words: Parts) -> Result<Command, Refusal>
     ensures fault { IfErr result (λ e. e ≢ Refusal.OutOfMemory → or_bad (add_words (left words.entry)) ≡ Err e) }
     ensures memory { IfErr result (λ e. e ≡ Refusal.OutOfMemory → is_some (add_words (left words.entry)) ≡ true) }
 {
-    let Some((at, words)) = words.number() else {
+    let Some((at, words)) = add_parts(words) else {
         return Err(Refusal::BadLine);
     };
-    if !words.have_digits() {
-        return Err(Refusal::BadLine);
-    }
     match read_telegrams(alloc, words) {
         Ok(telegrams) => Ok(Command::AddGroup { at, telegrams }),
         Err(fault) => Err(fault.refusal()),
@@ -212,6 +244,24 @@ fn plainly(command: Option<Command>) -> Result<Command, Refusal>
     }
 }
 
+/// The command of an edit whose words hold no digits.
+pub(crate) fn read_plain(kind: Option<Kind>, words: Parts) -> Option<Command>
+    ensures { is_digits_kind kind ≡ false → option_map Ok (option_map command_of result) ≡ command_words kind (left words.entry) }
+{
+    match kind {
+        None => None,
+        Some(Kind::Set) => read_set(words),
+        Some(Kind::SetHead) => read_set_head(words),
+        Some(Kind::Insert) => None,
+        Some(Kind::Delete) => read_delete(words),
+        Some(Kind::Move) => read_move(words),
+        Some(Kind::Add) => None,
+        Some(Kind::Drop) => read_drop(words),
+        Some(Kind::Renumber) => read_renumber(words),
+        Some(Kind::Turn) => read_turn(words),
+    }
+}
+
 /// What the words after the name of an edit ask for.
 pub(crate) fn read_command(
     alloc: Global,
@@ -223,15 +273,8 @@ pub(crate) fn read_command(
     ensures memory { IfErr result (λ e. e ≡ Refusal.OutOfMemory → (is_some (command_words kind (left words.entry)) && is_digits_kind kind) ≡ true) }
 {
     match kind {
-        None => Err(Refusal::BadLine),
-        Some(Kind::Set) => plainly(read_set(words)),
-        Some(Kind::SetHead) => plainly(read_set_head(words)),
         Some(Kind::Insert) => read_insert(alloc, words),
-        Some(Kind::Delete) => plainly(read_delete(words)),
-        Some(Kind::Move) => plainly(read_move(words)),
         Some(Kind::Add) => read_add(alloc, words),
-        Some(Kind::Drop) => plainly(read_drop(words)),
-        Some(Kind::Renumber) => plainly(read_renumber(words)),
-        Some(Kind::Turn) => plainly(read_turn(words)),
+        _ => plainly(read_plain(kind, words)),
     }
 }

@@ -3,12 +3,14 @@
 #![tactic(auto)]
 
 // What a line says, word by word.
+mod digit_checks;
 mod digit_words;
 mod kind;
 mod places;
 mod words;
 
 // Lines that are read.
+mod checks;
 mod commands;
 mod entries;
 mod head;
@@ -30,6 +32,7 @@ mod reviews;
 pub use balise_commands::{Bits, Command, Id, Line, LineEdit, Noted, Tag, Var};
 pub use balise_lines::{Counted, WriteFault};
 pub use balise_rules::{Refusal, ReviewLine, Reviewed};
+pub use checks::check_request;
 pub use digits::put_digits;
 pub use head::{Head, Version, read_head};
 pub use journal_line::{JournalLine, read_journal_line};

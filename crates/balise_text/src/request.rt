@@ -27,7 +27,7 @@ pub enum Request {
     Strike(u32),
 }
 
-fn read_undo(words: Parts) -> Option<Request>
+pub(crate) fn read_undo(words: Parts) -> Option<Request>
     ensures { option_map call result ≡ no_more (left words.entry) session.Undo }
 {
     if words.is_over() {
@@ -36,7 +36,7 @@ fn read_undo(words: Parts) -> Option<Request>
     None
 }
 
-fn read_redo(words: Parts) -> Option<Request>
+pub(crate) fn read_redo(words: Parts) -> Option<Request>
     ensures { option_map call result ≡ no_more (left words.entry) session.Redo }
 {
     if words.is_over() {
@@ -45,7 +45,7 @@ fn read_redo(words: Parts) -> Option<Request>
     None
 }
 
-fn read_strike(words: Parts) -> Option<Request>
+pub(crate) fn read_strike(words: Parts) -> Option<Request>
     ensures { option_map call result ≡ strike_words (left words.entry) }
 {
     let Some((serial, words)) = words.number() else {

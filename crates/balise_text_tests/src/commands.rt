@@ -1,7 +1,7 @@
 //! Lines of commands and of plans.
 
 use balise_text::{
-    Bits, Command, Id, PlanLine, Refusal, Request, Var, read_plan_line, read_request,
+    Bits, Command, Id, PlanLine, Refusal, Request, Var, check_request, read_plan_line, read_request,
 };
 use std::alloc::Global;
 use std::process::Abort;
@@ -140,6 +140,7 @@ fn is_refused(answer: &Answer, refusal: Refusal) -> bool {
 
 fn check_refused(rt: &impl Abort, alloc: Global, line: &[u8], refusal: Refusal) {
     assert!(rt; is_refused(&read_request(alloc, line), refusal));
+    assert!(rt; check_request(line).err() == Some(refusal));
 }
 
 /// Lines outside the grammar, and one that is no text.
@@ -174,6 +175,13 @@ fn lines_outside_the_grammar_and_bytes_that_are_no_text(rt: HostRuntime) {
     }
 }
 
+/// The digits of 830 bits, and the same with the second of the two bits after the last one set.
+const LONG: &str =
+    "add 0 0000000000000000000000000000000000000000000000000000000000000000000000000000000000000000000000000000000000000000000000000000000000000000000000000000000000000000000000000000000000000000000000000000000000000004";
+
+const LONG_SPARE: &str =
+    "add 0 0000000000000000000000000000000000000000000000000000000000000000000000000000000000000000000000000000000000000000000000000000000000000000000000000000000000000000000000000000000000000000000000000000000000000005";
+
 const DIGITS: &[(&str, Refusal)] = &[
     ("insert 5.100 0 0", Refusal::BadLine),
     ("insert 5.100 0 0 ", Refusal::BadLine),
@@ -190,12 +198,54 @@ const DIGITS: &[(&str, Refusal)] = &[
         "add 0 a1007f80a0327fffffffffffffffffffffffffffffffffffffffc1",
         Refusal::SpareBits,
     ),
+    (
+        "add 0 a1007f80a0327fffffffffffffffffffffffffffffffffffffffe0",
+        Refusal::SpareBits,
+    ),
+    (LONG_SPARE, Refusal::SpareBits),
+    (
+        "add 0 a1007f80a0327fffffffffffffffffffffffffffffffffffffffc",
+        Refusal::BadHex,
+    ),
+    (
+        "add 0 a1007f80a0327fffffffffffffffffffffffffffffffffffffffc0 0G",
+        Refusal::BadHex,
+    ),
+    (
+        "add 0 a1007f80a0327fffffffffffffffffffffffffffffffffffffffc0 00",
+        Refusal::BadLength,
+    ),
 ];
 
 #[test]
 fn digits_are_judged_after_the_grammar(rt: HostRuntime) {
     for (line, refusal) in DIGITS.iter() {
         check_refused(&rt, rt.alloc(), line.as_bytes(), *refusal);
+    }
+}
+
+/// A line of each kind, and digits of either case and of both lengths.
+const GOOD: &[&str] = &[
+    "set 5.100 0 1 NID_TSR 2 9",
+    "seth 5.100 7 M_MCOUNT 4294967295",
+    "insert 5.100 0 1 0a9fAF",
+    "delete 5.100 0 1",
+    "move 5.100 0 1 2",
+    "add 0 A1007f80a0327fffffffffffffffffffffffffffffffffffffffC0",
+    LONG,
+    "drop 5.100",
+    "renumber 5.100 7",
+    "turn 5.100",
+    "undo",
+    "redo",
+    "strike 4294967295",
+];
+
+#[test]
+fn lines_are_judged_good_where_they_are_read(rt: HostRuntime) {
+    for line in GOOD.iter() {
+        assert!(rt; read_request(rt.alloc(), line.as_bytes()).is_ok());
+        assert!(rt; check_request(line.as_bytes()).is_ok());
     }
 }
 

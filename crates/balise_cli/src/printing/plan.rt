@@ -6,7 +6,7 @@ ghost use Rattle.balise_cli.specs.PlanTexts.{group_lines, plan_text, telegram_li
 use crate::fault::RunFault;
 use balise_history::{Group, Plan, Tag};
 use balise_lines::{Counted, put};
-use balise_telegram::Balise;
+use balise_telegram::Telegram;
 use std::alloc::Global;
 use std::io::Write;
 
@@ -15,11 +15,11 @@ fn put_telegram<W: Write>(
     writer: &mut Counted<W>,
     digits: &mut Vec<u8>,
     tag: u32,
-    balise: &Balise,
+    telegram: &Telegram,
 ) -> Result<(), RunFault>
-    ensures { Prints W.contents writer.old writer.new result (telegram_line (tag, balise.now)) }
+    ensures { Prints W.contents writer.old writer.new result (telegram_line (tag, telegram.now)) }
 {
-    if balise.hex_into(digits).is_err() {
+    if telegram.hex_into(digits).is_err() {
         return Err(RunFault::OutOfMemory);
     }
     if digits.push(b'\n').is_err() {
@@ -44,10 +44,10 @@ fn put_group<W: Write>(
         return Err(RunFault::from(fault));
     }
     for pig in 0..group.count() {
-        let Some((tag, balise)) = group.at(pig) else {
+        let Some((tag, telegram)) = group.at(pig) else {
             break;
         };
-        if let Err(fault) = put_telegram(writer, digits, tag, balise) {
+        if let Err(fault) = put_telegram(writer, digits, tag, telegram) {
             return Err(fault);
         }
     }

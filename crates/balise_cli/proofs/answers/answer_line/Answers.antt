@@ -13,4 +13,4 @@ returns c =
     (sym c.turned.ensures ∙ not_some c.turned.result c.in_default.not-Some) c.reply_to.ensures c.new-2.ensures.items
 
 pub returns-in-Err : goal.returns-in-Err
-returns-in-Err c = refused_answered c.args.line.now c.args.session.now.state c.in-Err.refusal c.new.result.items c.in-Err.ensures.fault c.in-Err.ensures.memory c.new.ensures.items
+returns-in-Err c = refused_answered c.args.line.now c.args.session.now.state c.in-Err.refusal c.new.result.items c.in-Err.ensures.fault c.new.ensures.items

@@ -19,11 +19,11 @@ loop-pig-init g c =
 
 pub returns-in-Err-put_telegram : goal.returns-in-Err-put_telegram
 returns-in-Err-put_telegram g c =
-    wrote_some (Cause c.in-Err-put_telegram.fault) _ _ _ _ _ _ _ _ (text_at telegram_line c.args.group.now c.loop-pig.pig (c.in-Some.tag, c.in-Some.balise.now) c.in-Some.ensures) c.loop-pig.invariant c.in-Err-put_telegram.ensures
+    wrote_some (Cause c.in-Err-put_telegram.fault) _ _ _ _ _ _ _ _ (text_at telegram_line c.args.group.now c.loop-pig.pig (c.in-Some.tag, c.in-Some.telegram.now) c.in-Some.ensures) c.loop-pig.invariant c.in-Err-put_telegram.ensures
 
 pub loop-pig-preserved : goal.loop-pig-preserved
 loop-pig-preserved g c =
-    wrote_more _ _ _ _ _ _ _ _ (text_at telegram_line c.args.group.now c.loop-pig.pig (c.in-Some.tag, c.in-Some.balise.now) c.in-Some.ensures) c.loop-pig.invariant c.in_default-put_telegram.ensures
+    wrote_more _ _ _ _ _ _ _ _ (text_at telegram_line c.args.group.now c.loop-pig.pig (c.in-Some.tag, c.in-Some.telegram.now) c.in-Some.ensures) c.loop-pig.invariant c.in_default-put_telegram.ensures
 
 pub returns-after-loop-pig : goal.returns-after-loop-pig
 returns-after-loop-pig g c =

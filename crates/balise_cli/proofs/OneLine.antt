@@ -1,11 +1,11 @@
 -- What one line does.
-use Rattle.std.proofs.Common.{◌≡◌, ℕ, [], Bool, true, false, cond, ◌||◌, ◌&&◌, Option, Some, None, ◌++◌, refl, sym, ap}
+use Rattle.std.proofs.Common.{◌≡◌, ℕ, [], Bool, true, false, cond, ◌||◌, ◌&&◌, Option, Some, None, ◌++◌, refl, sym, ap, ◌∙◌, append_assoc}
 use Rattle.std.specs.Io.KnownBytes.{Appends}
 use Rattle.std.proofs.KnownBytes.{Appends-nil, Appends-trans}
 use Rattle.balise_rules.specs.Plan.{Plan}
 use Rattle.balise_rules.specs.Session.{State}
 use Rattle.balise_lines.specs.Writing.{AppendsSome}
-use Rattle.balise_lines.proofs.WrittenTexts.{some_after, some_all, some_front, some_nothing}
+use Rattle.balise_lines.proofs.WrittenTexts.{some_after, some_front, some_nothing}
 use Rattle.balise_arguments.specs.declared.options.Flags.{Flags}
 use Rattle.balise_text.specs.Answers.{reply_of}
 use Rattle.balise_text.specs.Replies.{is_refused}
@@ -18,6 +18,8 @@ use Rattle.balise_cli.specs.Phases.{DidSome, DidStep, IsInGroup, WrittenOfEnd, W
 use Rattle.balise_cli.specs.declared.answers.Answer.{Answer}
 use Rattle.balise_cli.specs.declared.plan_reader.Place.{Place}
 use Rattle.balise_cli.specs.declared.plan_reader.Place.TheVariants.{Between, First, InGroup}
+use Rattle.balise_cli.specs.declared.fault.RunFault.{RunFault}
+use Rattle.balise_cli.specs.declared.fault.RunFault.TheVariants.{InputTooLong, OutOfMemory, ReadFault, WriteFault}
 use Rattle.balise_cli.specs.declared.status.Status.TheVariants.{SomeRefused}
 
 -- A command.
@@ -43,10 +45,6 @@ module _ (flags : Flags) (s t : State) (refused : Bool) (n : ℕ) (line : Text) 
   pub command_some : (old new : Option Text) → AppendsSome old new (answer_text flags.quiet a) → DidSome flags (Commands s refused) n line old new
   command_some old new w = (answer_text flags.quiet a, (after_command flags (reply_of a.reply) t refused, (is_step _ refl, some_front old new (answer_text flags.quiet a) _ w)))
 
-  -- all of its answer was written
-  pub command_all : (old new : Option Text) → Appends old new (answer_text flags.quiet a) → DidSome flags (Commands s refused) n line old new
-  command_all old new w = command_some old new (some_all old new (answer_text flags.quiet a) w)
-
   -- its answer was, and a beginning of the end
   pub command_end_some : (old now new : Option Text) → (flags.stop && is_refused (reply_of a.reply)) ≡ true → Appends old now (answer_text flags.quiet a) → AppendsSome now new (end_text flags t)
       → DidSome flags (Commands s refused) n line old new
@@ -57,6 +55,36 @@ module _ (flags : Flags) (s t : State) (refused : Bool) (n : ℕ) (line : Text) 
       → WroteSuch (WrittenOfLine flags (Commands s refused) n line) old new
   command_ran_out old now new e w v =
       (answer_text flags.quiet a ++ v.done, ((answer_text flags.quiet a, (end_text flags t, (v.done, (is_step _ (stops e), v.begins, refl)))), Appends-trans old now new _ _ w v.appended))
+
+-- where memory ran out for the rest of the end, a beginning of what the line gives was written
+some_of_line : (flags : Flags) (s : State) (refused : Bool) (n : ℕ) (line : Text) (old new : Option Text) → WroteSuch (WrittenOfLine flags (Commands s refused) n line) old new → DidSome flags (Commands s refused) n line old new
+some_of_line flags s refused n line old new w =
+    let p = w.1.0 in
+    let now = p.0 in
+    let text = p.1.0 in
+    let begun = p.1.1.0 in
+    let parts = p.1.1.1 in
+    let rest = parts.1.0 in (
+      now,
+      (
+        Over text SomeRefused,
+        (
+          parts.0,
+          record {
+            done = w.0;
+            begins = (rest, ap (λ (l : Text). l ++ rest) parts.2 ∙ append_assoc now begun rest ∙ ap (λ (l : Text). now ++ l) parts.1.1);
+            appended = w.1.1;
+          },
+        ),
+      ),
+    )
+
+-- whatever the fault is
+pub did_some : (flags : Flags) (s : State) (refused : Bool) (n : ℕ) (line : Text) (old new : Option Text) (e : RunFault) → ((e ≡ OutOfMemory → ⊥) → DidSome flags (Commands s refused) n line old new) → (e ≡ OutOfMemory → WroteSuch (WrittenOfLine flags (Commands s refused) n line) old new) → DidSome flags (Commands s refused) n line old new
+did_some flags s refused n line old new OutOfMemory f m = some_of_line flags s refused n line old new (m refl)
+did_some flags s refused n line old new InputTooLong f m = f (λ e. cc)
+did_some flags s refused n line old new ReadFault f m = f (λ e. cc)
+did_some flags s refused n line old new WriteFault f m = f (λ e. cc)
 
 -- A line of the plan or the journal.
 

@@ -1,6 +1,6 @@
 //! The commands, one after another.
 
-ghost use Rattle.std.specs.Prelude.{◌≡◌, IfErr, IfOk, IsErrOf, OnErr, OnOk, false};
+ghost use Rattle.std.specs.Prelude.{◌≡◌, ◌≢◌, IfErr, IfOk, IsErrOf, OnOk, false};
 ghost use Rattle.balise_cli.specs.Faults.{IsCause, Prints};
 ghost use Rattle.balise_cli.specs.Output as output;
 ghost use Rattle.balise_cli.specs.PlanTexts.{end_text};
@@ -37,7 +37,6 @@ impl Commands {
 
     /// Does the command of a line and writes its answer. After a refusal that stops the run it writes the end too, and
     /// answers the status.
-    #[tactic(auto, using(crate::proofs::OneLine::command_all))]
     pub(crate) fn answer<W: Write>(
         &mut self,
         alloc: Global,
@@ -48,7 +47,7 @@ impl Commands {
         ensures ok { IfOk result (DidStep flags (commands_phase self.old) 0 line.now (W.contents writer.old.inner) (W.contents writer.new.inner) (commands_phase self.new)) }
         ensures unfailed { OnOk result (writer.new.failed ≡ writer.old.failed) }
         ensures cause { IfErr result (IsCause writer.old.failed writer.new.failed) }
-        ensures written { OnErr result (DidSome flags (commands_phase self.old) 0 line.now (W.contents writer.old.inner) (W.contents writer.new.inner)) }
+        ensures written { IfErr result (λ e. e ≢ RunFault.OutOfMemory → DidSome flags (commands_phase self.old) 0 line.now (W.contents writer.old.inner) (W.contents writer.new.inner)) }
         ensures memory { IsErrOf result RunFault.OutOfMemory → WroteSuch (WrittenOfLine flags (commands_phase self.old) 0 line.now) (W.contents writer.old.inner) (W.contents writer.new.inner) }
     {
         let answer = answer_line(alloc, &mut self.session, line);

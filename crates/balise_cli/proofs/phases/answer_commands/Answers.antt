@@ -1,11 +1,13 @@
-use Rattle.std.proofs.Common.{◌∙◌, ℕ, Err, None, Some, ap, subst}
+use Rattle.std.proofs.Common.{◌≡◌, ◌∙◌, ℕ, Err, None, Some, ap, subst}
 use Rattle.balise_lines.specs.Lines.{Line}
 use Rattle.balise_lines.specs.Reading.{Took, TookLine, TookNone, line_of, number_of}
 use Rattle.balise_text.specs.Texts.{Text}
 use Rattle.balise_cli.specs.Faults.{IsCause}
+use Rattle.balise_cli.specs.declared.fault.RunFault.TheVariants.{OutOfMemory}
 use Rattle.balise_cli.specs.Phases.{DidSome, DidStep, WrittenOfLine, WroteSuch, commands_phase}
 use Rattle.balise_cli.specs.Progress.{RanToFault}
 use Rattle.balise_cli.proofs.Endings.{commands_ended, line_fails, line_over, went_on}
+use Rattle.balise_cli.proofs.OneLine.{did_some}
 use Rattle.balise_cli.proofs.phases.answer_commands.Goals as goal
 
 pub returns-in-Err : goal.returns-in-Err
@@ -41,10 +43,10 @@ returns-in-Err-answer g c = λ had old go.
     let n = number_of c.lines.lines in
     let line : Line = record { bytes = line_of c.next.new.lines; is_ended = c.in-Ok-Line.field-0-0 } in
     let took : TookLine c.lines.lines was line c.next.new.lines has = subst (λ x. Took x c.lines.lines was c.next.new.lines has) c.in-Ok-Line.field-0-is c.in-Ok-Line.ensures.took in
-    let did : DidSome c.args.flags p n line.bytes now new = subst (λ (t : Text). DidSome c.args.flags p n t now new) c.line.ensures c.in-Err-answer.ensures.written in
+    let such : c.in-Err-answer.fault ≡ OutOfMemory → WroteSuch (WrittenOfLine c.args.flags p n line.bytes) now new = λ e. subst (λ (t : Text). WroteSuch (WrittenOfLine c.args.flags p n t) now new) c.line.ensures (c.in-Err-answer.ensures.memory (ap Err e)) in
+    let did : DidSome c.args.flags p n line.bytes now new = did_some c.args.flags c.lines.commands.session.state c.lines.commands.refused n line.bytes now new c.in-Err-answer.fault (λ e. subst (λ (t : Text). DidSome c.args.flags p n t now new) c.line.ensures (c.in-Err-answer.ensures.written e)) such in
     line_fails c.args.flags had old now p c.lines.lines c.next.new.lines was has (inv.3 had old go) line took c.in-Ok-Line.ensures.over new c.in-Err-answer.fault
-    c.args.reader.now.failed c.next.new.reader.failed c.args.writer.now.failed c.answer.new.writer.failed did
-    (λ e. subst (λ (t : Text). WroteSuch (WrittenOfLine c.args.flags p n t) now new) c.line.ensures (c.in-Err-answer.ensures.memory (ap Err e)))
+    c.args.reader.now.failed c.next.new.reader.failed c.args.writer.now.failed c.answer.new.writer.failed did such
     (c.in-Ok-Line.ensures.unfailed ∙ inv.0) (subst (λ (k : ℕ). IsCause k c.answer.new.writer.failed c.in-Err-answer.fault) inv.1 c.in-Err-answer.ensures.cause)
 
 pub returns-in-Ok-Some : goal.returns-in-Ok-Some

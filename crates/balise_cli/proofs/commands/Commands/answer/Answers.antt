@@ -4,11 +4,11 @@ use Rattle.balise_cli.proofs.OneLine.{command_end_some, command_over, command_so
 use Rattle.balise_cli.proofs.commands.Commands.answer.Goals as goal
 
 pub returns-in-Err-clause-written : goal.returns-in-Err-clause-written
-returns-in-Err-clause-written g c =
+returns-in-Err-clause-written g c = λ _.
     command_some c.args.flags c.args.self.now.session.state c.answer_line-answer.new.session.state c.args.self.now.refused 0 c.args.line.now c.answer_line-answer.result c.answer_line-answer.ensures _ _ c.in-Err.ensures.begun
 
 pub returns-in-Err-put_end-clause-written : goal.returns-in-Err-put_end-clause-written
-returns-in-Err-put_end-clause-written g c =
+returns-in-Err-put_end-clause-written g c = λ _.
     command_end_some c.args.flags c.args.self.now.session.state c.answer_line-answer.new.session.state c.args.self.now.refused 0 c.args.line.now c.answer_line-answer.result c.answer_line-answer.ensures _ _ _
     (ap (λ b. c.args.flags.stop && b) (sym c.is_refused-is_refused.ensures) ∙ c.if-flags-is_refused.true) c.in_default.ensures.appended c.in-Err-put_end.ensures.begun
 

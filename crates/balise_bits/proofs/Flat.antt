@@ -66,7 +66,7 @@ num-flat_more bs i h lt =
     let b = get_or bs i 0 in
     rw (take_more bs i 0 h, flat-append (take i bs) (b ∷ []), flat_one b, num-append (flat (take i bs)) (bits 8 b), length-bits 8 b, num-bits_fit 8 b lt) refl
 
--- the number of four bytes, and of five
+-- the number of four bytes, and of eight
 first_four : (bs : List ℕ) → 4 ≤ length bs → ((i : ℕ) → get_or bs i 0 < 256) → num (flat (take 4 bs)) ≡ get_or bs 0 0 * 16777216 + get_or bs 1 0 * 65536 + get_or bs 2 0 * 256 + get_or bs 3 0
 first_four bs long byte =
     let n0 : num (flat (take 0 bs)) ≡ 0 = num-flat_nil in
@@ -81,8 +81,11 @@ num-flat_four bs four byte =
     let all : take 4 bs ≡ bs = take_all 4 bs (omega (arith, four)) in
     sym (ap (λ (x : List ℕ). num (flat x)) all) ∙ first_four bs (omega (arith, four)) byte
 
-pub num-flat_five : (bs : List ℕ) → length bs ≡ 5 → ((i : ℕ) → get_or bs i 0 < 256) → num (flat bs) ≡ (get_or bs 0 0 * 16777216 + get_or bs 1 0 * 65536 + get_or bs 2 0 * 256 + get_or bs 3 0) * 256 + get_or bs 4 0
-num-flat_five bs five byte =
-    let all : take 5 bs ≡ bs = take_all 5 bs (omega (arith, five)) in
-    let n5 : num (flat (take 5 bs)) ≡ num (flat (take 4 bs)) * 256 + get_or bs 4 0 = num-flat_more bs 4 (omega (arith, five)) (byte 4) in
-    sym (ap (λ (x : List ℕ). num (flat x)) all) ∙ n5 ∙ ap (λ (x : ℕ). x * 256 + get_or bs 4 0) (first_four bs (omega (arith, five)) byte)
+pub num-flat_eight : (bs : List ℕ) → length bs ≡ 8 → ((i : ℕ) → get_or bs i 0 < 256) → num (flat bs) ≡ (get_or bs 0 0 * 16777216 + get_or bs 1 0 * 65536 + get_or bs 2 0 * 256 + get_or bs 3 0) * 4294967296 + (get_or bs 4 0 * 16777216 + get_or bs 5 0 * 65536 + get_or bs 6 0 * 256 + get_or bs 7 0)
+num-flat_eight bs eight byte =
+    let all : take 8 bs ≡ bs = take_all 8 bs (omega (arith, eight)) in
+    let n5 : num (flat (take 5 bs)) ≡ num (flat (take 4 bs)) * 256 + get_or bs 4 0 = num-flat_more bs 4 (omega (arith, eight)) (byte 4) in
+    let n6 : num (flat (take 6 bs)) ≡ num (flat (take 5 bs)) * 256 + get_or bs 5 0 = num-flat_more bs 5 (omega (arith, eight)) (byte 5) in
+    let n7 : num (flat (take 7 bs)) ≡ num (flat (take 6 bs)) * 256 + get_or bs 6 0 = num-flat_more bs 6 (omega (arith, eight)) (byte 6) in
+    let n8 : num (flat (take 8 bs)) ≡ num (flat (take 7 bs)) * 256 + get_or bs 7 0 = num-flat_more bs 7 (omega (arith, eight)) (byte 7) in
+    sym (ap (λ (x : List ℕ). num (flat x)) all) ∙ omega (arith, n5, n6, n7, n8, first_four bs (omega (arith, eight)) byte)

@@ -9,6 +9,7 @@ pub mod Digits
 pub mod Spare
 pub mod Ones
 pub mod Same
+pub mod Short
 pub mod Judging
 mod CellsMemory
 mod Refilled

@@ -1,7 +1,7 @@
 -- Numbers and their pieces: a number's bits in two parts, the number of a part, and a part replaced.
 use Rattle.std.proofs.Common.{◌≡◌, ℕ, ◌+◌, ◌-◌, ◌*◌, ◌/◌, ◌%◌, ◌^◌, ◌<◌, ◌≤◌, Bool, List, [], ◌++◌, length, take, drop, refl, sym, ap, subst, ◌∙◌, append_assoc, arith, length-append, lit<}
-use Rattle.std.proofs.Math.Nat.{pow-le-pow_right, mod-eq_of_lt, le-mul_of_pos_right}
-use Rattle.std.proofs.lemmas.Nat.{pow_pos, one_shl, shr_high, mod_low, mod-pow-add}
+use Rattle.std.proofs.Math.Nat.{pow-le-pow_right, mod-eq_of_lt}
+use Rattle.std.proofs.lemmas.Nat.{one_shl, shr_high, mod_low, mod-pow-add}
 use Rattle.std.proofs.lemmas.List.{take-append-drop, length-take, length-drop, drop-drop}
 use Rattle.balise_rules.specs.Bits.{num, bits, part, put_at}
 use Rattle.balise_rules.proofs.Numbers.{length-bits, num_below, num-bits, num-bits_fit, num_injective, bits-num, num-append}
@@ -123,29 +123,46 @@ replaced_below b o w s v e fits =
     let p : 2 ^ length x ≡ 2 ^ length b = ap (λ (k : ℕ). 2 ^ k) (length-put b o w s v e) in
     omega (arith, num-put_at b o w s v e fits, num_below x, p)
 
--- the same in numbers of 64 bits
+-- the same in numbers of 64 bits: the part is taken off, and the other number is added
 abbrev pub replaced_word : ℕ → ℕ → ℕ → ℕ → ℕ
-replaced_word s w v n = (n / 2 ^ s / 2 ^ w * 2 ^ w % 2 ^ 64 + v) * 2 ^ s % 2 ^ 64 + n % (1 * 2 ^ s % 2 ^ 64)
+replaced_word s w v n = n - n / 2 ^ s % (1 * 2 ^ w % 2 ^ 64) * 2 ^ s % 2 ^ 64 + v * 2 ^ s % 2 ^ 64
 
-pub above_small : (b : List Bool) (w s v : ℕ) → w + s ≤ length b → length b ≤ 40 → v < 2 ^ w → num b / 2 ^ s / 2 ^ w * 2 ^ w + v < 2 ^ 40
-above_small b w s v h small fits =
-    let a = num b / 2 ^ s / 2 ^ w * 2 ^ w + v in
-    let whole = replaced_below b (length b - (w + s)) w s v (omega arith) fits in
-    let most : 2 ^ length b ≤ 2 ^ 40 = pow-le-pow_right {n = 2} (lit< tt) small in
-    let once : a ≤ a * 2 ^ s = le-mul_of_pos_right a (pow_pos s) in
-    omega (arith, whole, most, once)
+-- a number as those of its three parts
+by_parts : (b : List Bool) (o w s : ℕ) → o + w + s ≡ length b → num b ≡ (num (take o b) * 2 ^ w + num (part o w b)) * 2 ^ s + num (drop (o + w) b)
+by_parts b o w s e =
+    let m = take w (drop o b) in
+    let c = drop (o + w) b in
+    let lm : length m ≡ w = omega (arith, length-take w (drop o b), length-drop o b) in
+    let lc : length c ≡ s = omega (arith, length-drop (o + w) b) in
+    ap num (three_parts b o w) ∙ num-three (take o b) m c
+    ∙ ap (λ (k : ℕ). (num (take o b) * 2 ^ k + num m) * 2 ^ length c + num c) lm
+    ∙ ap (λ (k : ℕ). (num (take o b) * 2 ^ w + num m) * 2 ^ k + num c) lc
 
-pub replaced-word : (b : List Bool) (w s v : ℕ) → w + s ≤ length b → length b ≤ 40 → v < 2 ^ w → replaced_word s w v (num b) ≡ replaced s w v (num b)
-replaced-word b w s v h small fits =
-    let f = num b / 2 ^ s / 2 ^ w * 2 ^ w in
-    let above = above_small b w s v h small fits in
-    let whole = replaced_below b (length b - (w + s)) w s v (omega arith) fits in
-    let most : 2 ^ length b ≤ 2 ^ 40 = pow-le-pow_right {n = 2} (lit< tt) small in
-    let first : f % 2 ^ 64 ≡ f = mod-eq_of_lt (omega (arith, above)) in
-    let second : (f + v) * 2 ^ s % 2 ^ 64 ≡ (f + v) * 2 ^ s = mod-eq_of_lt (omega (arith, whole, most)) in
-    let mask : 1 * 2 ^ s % 2 ^ 64 ≡ 2 ^ s = one_shl s 64 (omega arith) in
-    ap (λ (x : ℕ). (x + v) * 2 ^ s % 2 ^ 64 + num b % (1 * 2 ^ s % 2 ^ 64)) first
-    ∙ ap (λ (x : ℕ). x + num b % (1 * 2 ^ s % 2 ^ 64)) second ∙ ap (λ (x : ℕ). (f + v) * 2 ^ s + num b % x) mask
+-- what is taken off
+pub taken_off : (b : List Bool) (o w s : ℕ) → o + w + s ≡ length b → length b ≤ 64 → s < 64 → w < 64 → num b / 2 ^ s % (1 * 2 ^ w % 2 ^ 64) * 2 ^ s % 2 ^ 64 ≡ num (part o w b) * 2 ^ s
+taken_off b o w s e small low narrow =
+    let mask : 1 * 2 ^ w % 2 ^ 64 ≡ 2 ^ w = one_shl w 64 narrow in
+    let whole = by_parts b o w s e in
+    let below : num b < 2 ^ 64 = num_small b 64 small in
+    let held : num (part o w b) * 2 ^ s % 2 ^ 64 ≡ num (part o w b) * 2 ^ s = mod-eq_of_lt (omega (arith, whole, below)) in
+    ap (λ (x : ℕ). num b / 2 ^ s % x * 2 ^ s % 2 ^ 64) mask
+    ∙ ap (λ (x : ℕ). x * 2 ^ s % 2 ^ 64) (num-part b o w s e) ∙ held
+
+pub taken_off_below : (b : List Bool) (o w s : ℕ) → o + w + s ≡ length b → length b ≤ 64 → s < 64 → w < 64 → num b / 2 ^ s % (1 * 2 ^ w % 2 ^ 64) * 2 ^ s % 2 ^ 64 ≤ num b
+taken_off_below b o w s e small low narrow = omega (arith, taken_off b o w s e small low narrow, by_parts b o w s e)
+
+pub replaced-word : (b : List Bool) (o w s v : ℕ) → o + w + s ≡ length b → length b ≤ 64 → s < 64 → w < 64 → v < 2 ^ w → replaced_word s w v (num b) ≡ replaced s w v (num b)
+replaced-word b o w s v e small low narrow fits =
+    let m = num (part o w b) in
+    let whole = by_parts b o w s e in
+    let other : replaced s w v (num b) ≡ (num (take o b) * 2 ^ w + v) * 2 ^ s + num (drop (o + w) b) =
+    ap (λ (x : ℕ). (x * 2 ^ w + v) * 2 ^ s + num b % 2 ^ s) (num-above b o w s e)
+    ∙ ap (λ (x : ℕ). (num (take o b) * 2 ^ w + v) * 2 ^ s + x) (num-after b o w s e) in
+    let most : 2 ^ length b ≤ 2 ^ 64 = pow-le-pow_right {n = 2} (lit< tt) small in
+    let added : v * 2 ^ s % 2 ^ 64 ≡ v * 2 ^ s = mod-eq_of_lt (omega (arith, other, replaced_below b o w s v e fits, most)) in
+    ap (λ (x : ℕ). num b - x + v * 2 ^ s % 2 ^ 64) (taken_off b o w s e small low narrow)
+    ∙ ap (λ (x : ℕ). num b - m * 2 ^ s + x) added
+    ∙ omega (arith, whole, other)
 
 -- ---- the number of a part, and its bits
 
@@ -156,3 +173,7 @@ pub bits-num_part : (b : List Bool) (at w : ℕ) → at + w ≤ length b → bit
 bits-num_part b at w h =
     let p = part at w b in
     subst (λ (k : ℕ). bits k (num p) ≡ p) (length-part at w b h) (bits-num p)
+
+-- a number of up to 32 bits fits a word of 32
+pub fits_word : (n w : ℕ) → n < 2 ^ w → w ≤ 32 → n < 2 ^ 32
+fits_word n w h narrow = omega (arith, h, pow-le-pow_right {n = 2} (lit< tt) narrow)

@@ -12,15 +12,18 @@ use Rattle.balise_bits.proofs.Flat.{flat-nil, flat-cons, flat_one, flat-append, 
 
 -- ---- the bytes of a number
 
--- five writes to five bytes
-pub set_five : (w : List ℕ) (a b c d e : ℕ) → length w ≡ 5 → set (set (set (set (set w 0 a) 1 b) 2 c) 3 d) 4 e ≡ a ∷ b ∷ c ∷ d ∷ e ∷ []
-set_five [] a b c d e h = absurd (omega (arith, h))
-set_five (v ∷ []) a b c d e h = absurd (omega (arith, h))
-set_five (v ∷ w ∷ []) a b c d e h = absurd (omega (arith, h))
-set_five (v ∷ w ∷ x ∷ []) a b c d e h = absurd (omega (arith, h))
-set_five (v ∷ w ∷ x ∷ y ∷ []) a b c d e h = absurd (omega (arith, h))
-set_five (v ∷ w ∷ x ∷ y ∷ z ∷ []) a b c d e h = refl
-set_five (v ∷ w ∷ x ∷ y ∷ z ∷ q ∷ r) a b c d e h = absurd (omega (arith, h))
+-- eight writes to eight bytes
+pub set_eight : (w : List ℕ) (a b c d e f g h : ℕ) → length w ≡ 8 → set (set (set (set (set (set (set (set w 0 a) 1 b) 2 c) 3 d) 4 e) 5 f) 6 g) 7 h ≡ a ∷ b ∷ c ∷ d ∷ e ∷ f ∷ g ∷ h ∷ []
+set_eight [] a b c d e f g h long = absurd (omega (arith, long))
+set_eight (j ∷ []) a b c d e f g h long = absurd (omega (arith, long))
+set_eight (j ∷ k ∷ []) a b c d e f g h long = absurd (omega (arith, long))
+set_eight (j ∷ k ∷ l ∷ []) a b c d e f g h long = absurd (omega (arith, long))
+set_eight (j ∷ k ∷ l ∷ m ∷ []) a b c d e f g h long = absurd (omega (arith, long))
+set_eight (j ∷ k ∷ l ∷ m ∷ n ∷ []) a b c d e f g h long = absurd (omega (arith, long))
+set_eight (j ∷ k ∷ l ∷ m ∷ n ∷ o ∷ []) a b c d e f g h long = absurd (omega (arith, long))
+set_eight (j ∷ k ∷ l ∷ m ∷ n ∷ o ∷ p ∷ []) a b c d e f g h long = absurd (omega (arith, long))
+set_eight (j ∷ k ∷ l ∷ m ∷ n ∷ o ∷ p ∷ q ∷ []) a b c d e f g h long = refl
+set_eight (j ∷ k ∷ l ∷ m ∷ n ∷ o ∷ p ∷ q ∷ t ∷ r) a b c d e f g h long = absurd (omega (arith, long))
 
 -- four writes to four bytes
 pub set_four : (w : List ℕ) (a b c d : ℕ) → length w ≡ 4 → set (set (set (set w 0 a) 1 b) 2 c) 3 d ≡ a ∷ b ∷ c ∷ d ∷ []
@@ -43,8 +46,12 @@ flat-four n =
     let e3 : flat (n / 2 ^ 16 % 256 ∷ n / 2 ^ 8 % 256 ∷ n % 256 ∷ []) ≡ bits 24 n = byte_more 16 n (n / 2 ^ 8 % 256 ∷ n % 256 ∷ []) e2 in
     byte_more 24 n (n / 2 ^ 16 % 256 ∷ n / 2 ^ 8 % 256 ∷ n % 256 ∷ []) e3
 
-pub flat-five : (n : ℕ) → flat (n / 2 ^ 32 % 256 ∷ n / 2 ^ 24 % 256 ∷ n / 2 ^ 16 % 256 ∷ n / 2 ^ 8 % 256 ∷ n % 256 ∷ []) ≡ bits 40 n
-flat-five n = byte_more 32 n (n / 2 ^ 24 % 256 ∷ n / 2 ^ 16 % 256 ∷ n / 2 ^ 8 % 256 ∷ n % 256 ∷ []) (flat-four n)
+pub flat-eight : (n : ℕ) → flat (n / 2 ^ 56 % 256 ∷ n / 2 ^ 48 % 256 ∷ n / 2 ^ 40 % 256 ∷ n / 2 ^ 32 % 256 ∷ n / 2 ^ 24 % 256 ∷ n / 2 ^ 16 % 256 ∷ n / 2 ^ 8 % 256 ∷ n % 256 ∷ []) ≡ bits 64 n
+flat-eight n =
+    let e5 : flat (n / 2 ^ 32 % 256 ∷ n / 2 ^ 24 % 256 ∷ n / 2 ^ 16 % 256 ∷ n / 2 ^ 8 % 256 ∷ n % 256 ∷ []) ≡ bits 40 n = byte_more 32 n (n / 2 ^ 24 % 256 ∷ n / 2 ^ 16 % 256 ∷ n / 2 ^ 8 % 256 ∷ n % 256 ∷ []) (flat-four n) in
+    let e6 : flat (n / 2 ^ 40 % 256 ∷ n / 2 ^ 32 % 256 ∷ n / 2 ^ 24 % 256 ∷ n / 2 ^ 16 % 256 ∷ n / 2 ^ 8 % 256 ∷ n % 256 ∷ []) ≡ bits 48 n = byte_more 40 n (n / 2 ^ 32 % 256 ∷ n / 2 ^ 24 % 256 ∷ n / 2 ^ 16 % 256 ∷ n / 2 ^ 8 % 256 ∷ n % 256 ∷ []) e5 in
+    let e7 : flat (n / 2 ^ 48 % 256 ∷ n / 2 ^ 40 % 256 ∷ n / 2 ^ 32 % 256 ∷ n / 2 ^ 24 % 256 ∷ n / 2 ^ 16 % 256 ∷ n / 2 ^ 8 % 256 ∷ n % 256 ∷ []) ≡ bits 56 n = byte_more 48 n (n / 2 ^ 40 % 256 ∷ n / 2 ^ 32 % 256 ∷ n / 2 ^ 24 % 256 ∷ n / 2 ^ 16 % 256 ∷ n / 2 ^ 8 % 256 ∷ n % 256 ∷ []) e6 in
+    byte_more 56 n (n / 2 ^ 48 % 256 ∷ n / 2 ^ 40 % 256 ∷ n / 2 ^ 32 % 256 ∷ n / 2 ^ 24 % 256 ∷ n / 2 ^ 16 % 256 ∷ n / 2 ^ 8 % 256 ∷ n % 256 ∷ []) e7
 
 -- no byte yet
 pub flat_none : (n : ℕ) → flat [] ≡ bits 0 n

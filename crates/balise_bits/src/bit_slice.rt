@@ -41,6 +41,6 @@ impl<'a> BitSlice<'a> {
         requires within { at + width ≤ length self.now }
         ensures { result ≡ num (part at width self.now) }
     {
-        number_at(self.bytes, at, width)
+        number_at(self.bytes, at, width) as u32
     }
 }

@@ -1,7 +1,7 @@
 //! A list of bits in packed bytes.
 
-ghost use Rattle.std.specs.Prelude.{◌≡◌, ◌≤◌, ◌==◌, [], length, IfOk, IsOkUnless};
-ghost use Rattle.balise_rules.specs.Bits.{zeros};
+ghost use Rattle.std.specs.Prelude.{◌≡◌, ◌≤◌, ◌<◌, ◌^◌, ◌==◌, [], length, IfOk, IsOkUnless};
+ghost use Rattle.balise_rules.specs.Bits.{bits, zeros};
 
 mod digits;
 mod equal;
@@ -61,6 +61,21 @@ impl Bits {
         }
         let bytes = Store::zeros(alloc, count, (8 * count - len) as u8)?;
         Ok(Bits { bytes })
+    }
+
+    // The `len` bits of a number, at most 57. Takes no memory.
+    #[inline(always)]
+    fn of_number(alloc: Global, len: usize, number: u64) -> Bits
+        requires few { len ≤ 57 }
+        requires fits { number < 2 ^ len }
+        ensures { result ≡ bits len number }
+    {
+        if len == 0 {
+            return Bits::new(alloc);
+        }
+        Bits {
+            bytes: Store::of_number(alloc, number << (64 - len), len),
+        }
     }
 
     /// How many bits there are.

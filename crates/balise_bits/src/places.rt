@@ -6,29 +6,33 @@ ghost use Rattle.balise_bits.specs.Bytes.{flat};
 
 use crate::window::{WINDOW, fill_shifted, number_before, put_over};
 
+/// The widest number that is read or put at once.
+pub(crate) const WIDEST: usize = 57;
+
 /// The number in the `width` bits from the place `at` on.
 #[inline(always)]
-pub(crate) fn number_at(bytes: &[u8], at: usize, width: u32) -> u32
-    requires width { width ≤ 32 }
+pub(crate) fn number_at(bytes: &[u8], at: usize, width: u32) -> u64
+    requires width { width ≤ 57 }
     requires within { at + width ≤ 8 * length bytes.now }
-    ensures { result ≡ num (part at width (flat bytes.now)) }
+    ensures value { result ≡ num (part at width (flat bytes.now)) }
+    ensures fits { result < 2 ^ width }
 {
+    if width == 0 {
+        return 0;
+    }
     let count = bytes.len();
-    let first = at / 8;
-    if first + WINDOW <= count {
-        let after = 8 * WINDOW - at % 8 - width as usize;
+    if count >= WINDOW {
+        let first = (at / 8).min(count - WINDOW);
+        let after = 8 * WINDOW - (at - 8 * first) - width as usize;
         return number_before(&bytes[first..first + WINDOW], after, width);
     }
-    let size = count.min(WINDOW);
-    let first = count - size;
-    let after = 8 * size - (at - 8 * first) - width as usize;
-    number_before(&bytes[first..], after, width)
+    number_before(bytes, 8 * count - at - width as usize, width)
 }
 
 /// Puts a number over the `width` bits from the place `at` on. All other bits stay.
 #[inline(always)]
-pub(crate) fn put_number_at(bytes: &mut [u8], at: usize, width: u32, value: u32)
-    requires width { width ≤ 32 }
+pub(crate) fn put_number_at(bytes: &mut [u8], at: usize, width: u32, value: u64)
+    requires width { width ≤ 57 }
     requires within { at + width ≤ 8 * length bytes.old }
     requires fits { value < 2 ^ width }
     ensures { flat bytes.new ≡ put_at at (bits width value) (flat bytes.old) }
@@ -37,19 +41,17 @@ pub(crate) fn put_number_at(bytes: &mut [u8], at: usize, width: u32, value: u32)
         return;
     }
     let count = bytes.len();
-    let first = at / 8;
-    if first + WINDOW <= count {
-        let after = 8 * WINDOW - at % 8 - width as usize;
+    if count >= WINDOW {
+        let first = (at / 8).min(count - WINDOW);
+        let after = 8 * WINDOW - (at - 8 * first) - width as usize;
         put_over(&mut bytes[first..first + WINDOW], after, width, value);
         return;
     }
-    let size = count.min(WINDOW);
-    let first = count - size;
-    let after = 8 * size - (at - 8 * first) - width as usize;
-    put_over(&mut bytes[first..], after, width, value);
+    put_over(bytes, 8 * count - at - width as usize, width, value);
 }
 
 /// Puts the `len` bits of other bytes from the place `at` on over those from the place `to` on. All other bits stay.
+#[inline(always)]
 pub(crate) fn put_part_at(bytes: &mut [u8], to: usize, from: &[u8], at: usize, len: usize)
     requires within { at + len ≤ 8 * length from.now }
     requires room { to + len ≤ 8 * length bytes.old }
@@ -57,10 +59,22 @@ pub(crate) fn put_part_at(bytes: &mut [u8], to: usize, from: &[u8], at: usize, l
     requires far { to + len < 2 ^ 64 }
     ensures { flat bytes.new ≡ put_at to (part at len (flat from.now)) (flat bytes.old) }
 {
-    if len <= 32 {
+    if len <= WIDEST {
         put_number_at(bytes, to, len as u32, number_at(from, at, len as u32));
         return;
     }
+    put_long_part_at(bytes, to, from, at, len);
+}
+
+// The same, by whole bytes.
+#[inline(never)]
+fn put_long_part_at(bytes: &mut [u8], to: usize, from: &[u8], at: usize, len: usize)
+    requires within { at + len ≤ 8 * length from.now }
+    requires room { to + len ≤ 8 * length bytes.old }
+    requires near { at + len < 2 ^ 64 }
+    requires far { to + len < 2 ^ 64 }
+    ensures { flat bytes.new ≡ put_at to (part at len (flat from.now)) (flat bytes.old) }
+{
     let head = ((8 - to % 8) % 8).min(len);
     put_in_byte(bytes, to, head as u32, number_at(from, at, head as u32));
     let whole = (len - head) / 8;
@@ -72,7 +86,7 @@ pub(crate) fn put_part_at(bytes: &mut [u8], to: usize, from: &[u8], at: usize, l
 
 // Puts a number over the `width` bits from the place `at` on, which lie in one byte. All other bits stay.
 #[inline(always)]
-fn put_in_byte(bytes: &mut [u8], at: usize, width: u32, value: u32)
+fn put_in_byte(bytes: &mut [u8], at: usize, width: u32, value: u64)
     requires byte { at % 8 + width ≤ 8 }
     requires within { at + width ≤ 8 * length bytes.old }
     requires fits { value < 2 ^ width }

@@ -1,11 +1,15 @@
 //! Bytes, stored inline while they are few.
 
-ghost use Rattle.std.specs.Prelude.{◌≡◌, ◌≤◌, ◌<◌, ◌+◌, ◌-◌, ◌*◌, ◌^◌, ◌++◌, [], length, replicate, IfOk, OnErr, OnOk};
+ghost use Rattle.std.specs.Prelude.{◌≡◌, ◌≤◌, ◌<◌, ◌+◌, ◌-◌, ◌*◌, ◌^◌, ◌++◌, [], length, replicate, take, IfOk, OnErr, OnOk};
+ghost use Rattle.balise_rules.specs.Bits.{bits};
+ghost use Rattle.balise_rules.specs.Digits.{fill};
+ghost use Rattle.balise_bits.specs.Bytes.{flat};
 ghost use Rattle.std.specs.Borrow.{sem};
 ghost use Rattle.balise_bits.specs.Data.{data_items};
 ghost use Rattle.balise_bits.specs.StoreLends.{small_lends, data_lends, store_lends};
 
 use crate::cells::Cells;
+use crate::window::put_in;
 use std::alloc::{AllocError, Global};
 use std::marker::Model;
 
@@ -41,6 +45,20 @@ impl Small {
     {
         Small {
             cells: Cells { xs: [0; 29] },
+            count: count as u8,
+        }
+    }
+
+    // The first `count` of the eight bytes of a number, the first one highest.
+    #[inline(always)]
+    fn of_number(number: u64, count: usize) -> Small
+        requires { count ≤ 8 }
+        ensures { flat result.items ≡ take (8 * count) (bits 64 number) }
+    {
+        let mut xs = [0; 29];
+        put_in(&mut xs[..8], number);
+        Small {
+            cells: Cells { xs },
             count: count as u8,
         }
     }
@@ -164,6 +182,21 @@ impl Store {
             data: Data::Heap(spare, heap),
             alloc,
         })
+    }
+
+    /// The first `len` of the 64 bits of a number, in whole bytes. Takes no memory.
+    #[inline(always)]
+    pub(crate) fn of_number(alloc: Global, number: u64, len: usize) -> Store
+        requires { len ≤ 64 }
+        ensures items { flat result.items ≡ take (len + fill len) (bits 64 number) }
+        ensures len { result.len ≡ len }
+    {
+        let count = len.div_ceil(8);
+        let spare = (8 * count - len) as u8;
+        Store {
+            data: Data::Inline(spare, Small::of_number(number, count)),
+            alloc,
+        }
     }
 
     /// How many bits count.

@@ -4,8 +4,8 @@ ghost use Rattle.std.specs.Prelude.{◌≡◌, ◌+◌, ◌-◌, ◌*◌, ◌^�
 ghost use Rattle.balise_rules.specs.Bits.{bits, num, part, put_at};
 ghost use Rattle.balise_bits.specs.Bytes.{flat};
 
-/// How many bytes hold any number of up to 32 bits, wherever in a byte it begins.
-pub(crate) const WINDOW: usize = 5;
+/// How many bytes hold any number of up to 57 bits, wherever in a byte it begins.
+pub(crate) const WINDOW: usize = 8;
 
 // The number of four bytes, the first one highest.
 fn joined(a: u8, b: u8, c: u8, d: u8) -> u32
@@ -20,12 +20,21 @@ pub(crate) fn number_in(window: &[u8]) -> u64
     requires { length window.now ≤ 8 }
     ensures { result ≡ num (flat window.now) }
 {
-    if let [a, b, c, d, e] = window {
-        return u64::from(joined(*a, *b, *c, *d)) * 256 + u64::from(*e);
+    if let [a, b, c, d, e, f, g, h] = window {
+        return u64::from(joined(*a, *b, *c, *d)) * 4294967296 + u64::from(joined(*e, *f, *g, *h));
     }
     if let [a, b, c, d] = window {
         return u64::from(joined(*a, *b, *c, *d));
     }
+    number_by_byte(window)
+}
+
+// The same, for any number of bytes up to eight.
+#[inline(never)]
+fn number_by_byte(window: &[u8]) -> u64
+    requires { length window.now ≤ 8 }
+    ensures { result ≡ num (flat window.now) }
+{
     let mut number: u64 = 0;
     for byte in window {
         number = number * 256 + u64::from(*byte);
@@ -42,11 +51,14 @@ pub(crate) fn put_in(window: &mut [u8], number: u64)
 {
     let count = window.len();
     if count == WINDOW {
-        window[0] = ((number >> 32) % 256) as u8;
-        window[1] = ((number >> 24) % 256) as u8;
-        window[2] = ((number >> 16) % 256) as u8;
-        window[3] = ((number >> 8) % 256) as u8;
-        window[4] = (number % 256) as u8;
+        window[0] = ((number >> 56) % 256) as u8;
+        window[1] = ((number >> 48) % 256) as u8;
+        window[2] = ((number >> 40) % 256) as u8;
+        window[3] = ((number >> 32) % 256) as u8;
+        window[4] = ((number >> 24) % 256) as u8;
+        window[5] = ((number >> 16) % 256) as u8;
+        window[6] = ((number >> 8) % 256) as u8;
+        window[7] = (number % 256) as u8;
         return;
     }
     // Packets of 32 bits are among the shortest, and the loop below is slow for them.
@@ -57,6 +69,17 @@ pub(crate) fn put_in(window: &mut [u8], number: u64)
         window[3] = (number % 256) as u8;
         return;
     }
+    put_by_byte(window, number);
+}
+
+// The same, for any number of bytes up to eight.
+#[inline(never)]
+fn put_by_byte(window: &mut [u8], number: u64)
+    requires few { length window.old ≤ 8 }
+    requires fits { number < 2 ^ (8 * length window.old) }
+    ensures { flat window.new ≡ bits (8 * length window.old) number }
+{
+    let count = window.len();
     for i in 0..count {
         window[i] = ((number >> (8 * (count - 1 - i))) % 256) as u8;
     }
@@ -64,31 +87,30 @@ pub(crate) fn put_in(window: &mut [u8], number: u64)
 
 /// The number in the `width` bits that `after` more bits follow.
 #[inline(always)]
-pub(crate) fn number_before(window: &[u8], after: usize, width: u32) -> u32
-    requires few { length window.now ≤ 5 }
+pub(crate) fn number_before(window: &[u8], after: usize, width: u32) -> u64
+    requires few { length window.now ≤ 8 }
     requires within { after + width ≤ 8 * length window.now }
-    requires width { width ≤ 32 }
-    ensures { result ≡ num (part (8 * length window.now - (after + width)) width (flat window.now)) }
+    requires some { 0 < width }
+    requires width { width ≤ 57 }
+    ensures value { result ≡ num (part (8 * length window.now - (after + width)) width (flat window.now)) }
+    ensures fits { result < 2 ^ width }
 {
-    ((number_in(window) >> after) % (1 << width)) as u32
+    (number_in(window) >> after) % (1 << width)
 }
 
 /// Puts a number over the `width` bits that `after` more bits follow. All other bits stay.
 #[inline(always)]
-pub(crate) fn put_over(window: &mut [u8], after: usize, width: u32, value: u32)
-    requires few { length window.old ≤ 5 }
+pub(crate) fn put_over(window: &mut [u8], after: usize, width: u32, value: u64)
+    requires few { length window.old ≤ 8 }
     requires within { after + width ≤ 8 * length window.old }
-    requires width { width ≤ 32 }
+    requires some { 0 < width }
+    requires width { width ≤ 57 }
     requires fits { value < 2 ^ width }
     ensures { flat window.new ≡ put_at (8 * length window.old - (after + width)) (bits width value) (flat window.old) }
 {
     let old = number_in(window);
-    let front = old >> after >> width;
-    let back = old % (1 << after);
-    put_in(
-        window,
-        (((front << width) + u64::from(value)) << after) + back,
-    );
+    let cut = (old >> after) % (1 << width);
+    put_in(window, old - (cut << after) + (value << after));
 }
 
 /// Fills bytes with the bits of others from the place `shift` of their first byte on.

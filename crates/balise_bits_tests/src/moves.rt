@@ -5,7 +5,7 @@ use std::alloc::Global;
 use std::process::Abort;
 
 // Bits of no pattern, so that a wrong shift shows.
-fn mixed(rt: &impl Abort, alloc: Global, len: usize) -> Bits {
+pub(crate) fn mixed(rt: &impl Abort, alloc: Global, len: usize) -> Bits {
     let mut bits = Bits::new(alloc);
     let mut number: u32 = 1;
     for _ in 0..len {
@@ -52,7 +52,7 @@ fn check_all_places(rt: &impl Abort, bits: &Bits, at: usize, len: usize) {
     }
 }
 
-fn bit_at(rt: &impl Abort, bits: &Bits, place: usize) -> u32 {
+pub(crate) fn bit_at(rt: &impl Abort, bits: &Bits, place: usize) -> u32 {
     assert!(rt; place < bits.len());
     bits.number(place, 1)
 }
@@ -66,7 +66,7 @@ fn place_before(rt: &impl Abort, place: usize, to: usize, at: usize, len: usize)
     at + (place - to)
 }
 
-fn check_each_bit(rt: &impl Abort, bits: &Bits, to: usize, at: usize, len: usize) {
+pub(crate) fn check_each_bit(rt: &impl Abort, bits: &Bits, to: usize, at: usize, len: usize) {
     let moved = moved(rt, bits, to, at, len);
     assert!(rt; moved.len() == bits.len());
     for place in 0..bits.len() {

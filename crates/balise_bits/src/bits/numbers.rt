@@ -16,6 +16,17 @@ impl Bits {
         requires within { at + width ≤ length self.now }
         ensures { result ≡ num (part at width self.now) }
     {
+        self.wide_number(at, width) as u32
+    }
+
+    // The number in the `width` bits from the place `at` on, at most 57.
+    #[inline(always)]
+    pub(super) fn wide_number(&self, at: usize, width: u32) -> u64
+        requires width { width ≤ 57 }
+        requires within { at + width ≤ length self.now }
+        ensures value { result ≡ num (part at width self.now) }
+        ensures fits { result < 2 ^ width }
+    {
         number_at(self.bytes.as_slice(), at, width)
     }
 
@@ -27,7 +38,7 @@ impl Bits {
         requires fits { value < 2 ^ width }
         ensures { self.new ≡ put_at at (bits width value) self.old }
     {
-        put_number_at(self.bytes.as_mut_slice(), at, width, value);
+        put_number_at(self.bytes.as_mut_slice(), at, width, u64::from(value));
     }
 
     /// Adds the `width` bits of a number at the end. If memory runs out, the bits stay.

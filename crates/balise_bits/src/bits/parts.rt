@@ -6,7 +6,7 @@ ghost use Rattle.balise_rules.specs.Bits.{part, put_at};
 use crate::bits::Bits;
 use crate::fault::BitsFault;
 use crate::moving::move_part_at;
-use crate::places::put_part_at;
+use crate::places::{WIDEST, put_part_at};
 use crate::store::MOST;
 
 impl Bits {
@@ -16,6 +16,10 @@ impl Bits {
         ensures ok { IfOk result (λ b. b ≡ part at len self.now) }
         ensures fault { IsOkUnless result BitsFault.OutOfMemory }
     {
+        if len <= WIDEST {
+            let number = self.wide_number(at, len as u32);
+            return Ok(Bits::of_number(self.bytes.allocator(), len, number));
+        }
         let mut slice = Bits::zeros(self.bytes.allocator(), len)?;
         slice.put_part(0, self, at, len);
         Ok(slice)
@@ -51,6 +55,7 @@ impl Bits {
     }
 
     /// Puts the `len` bits of another from the place `at` on over those from the place `to` on. All other bits stay.
+    #[inline(always)]
     pub fn put_part(&mut self, to: usize, other: &Bits, at: usize, len: usize)
         requires within { at + len ≤ length other.now }
         requires room { to + len ≤ length self.old }
@@ -68,6 +73,7 @@ impl Bits {
     }
 
     /// Moves the `len` bits from the place `at` on to the place `to`. The two may overlap. All other bits stay.
+    #[inline(always)]
     pub fn move_part(&mut self, to: usize, at: usize, len: usize)
         requires within { at + len ≤ length self.old }
         requires room { to + len ≤ length self.old }

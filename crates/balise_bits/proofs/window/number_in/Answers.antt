@@ -1,41 +1,13 @@
-use Rattle.std.proofs.Common.{◌^◌, ◌<◌, take, get_or, ℕ, List, sym, ap, ◌∙◌, arith}
-use Rattle.std.proofs.lemmas.List.{length-take, take_all}
-use Rattle.balise_rules.specs.Bits.{num}
-use Rattle.balise_bits.specs.Bytes.{flat}
-use Rattle.balise_bits.proofs.Pieces.{num_small}
-use Rattle.balise_bits.proofs.Flat.{length-flat, num-flat_nil, num-flat_more, num-flat_four, num-flat_five}
+use Rattle.std.proofs.Common.{arith}
+use Rattle.balise_bits.proofs.Flat.{num-flat_four, num-flat_eight}
 use Rattle.balise_bits.proofs.window.number_in.Goals as goal
 
-pub returns-in-len5 : goal.returns-in-len5
-returns-in-len5 c =
+pub returns-in-len8 : goal.returns-in-len8
+returns-in-len8 c =
     let bytes = c.args.window.now in
-    omega (arith, c.joined.ensures, c.from.ensures, c.from-in-len5.ensures, num-flat_five bytes (omega arith) (λ i. omega (arith, c.type_inv.window i)))
+    omega (arith, c.joined.ensures, c.joined-in-len8.ensures, c.from.ensures, c.from-in-len8.ensures, num-flat_eight bytes (omega arith) (λ i. omega (arith, c.type_inv.window i)))
 
 pub returns-in-len4 : goal.returns-in-len4
 returns-in-len4 c =
     let bytes = c.args.window.now in
     omega (arith, c.joined-in-len4.ensures, c.from-in-len4.ensures, num-flat_four bytes (omega arith) (λ i. omega (arith, c.type_inv.window i)))
-
-pub loop-byte-init : goal.loop-byte-init
-loop-byte-init c = sym num-flat_nil
-
-pub overflow_mul-number : goal.overflow_mul-number
-overflow_mul-number c =
-    let front = take c.loop-byte.byte-index c.args.window.now in
-    let small : num (flat front) < 2 ^ 56 = num_small (flat front) 56 (omega (arith, length-flat front, length-take c.loop-byte.byte-index c.args.window.now)) in
-    omega (arith, small, c.loop-byte.invariant)
-
-pub overflow_add-number : goal.overflow_add-number
-overflow_add-number c =
-    let front = take c.loop-byte.byte-index c.args.window.now in
-    let small : num (flat front) < 2 ^ 56 = num_small (flat front) 56 (omega (arith, length-flat front, length-take c.loop-byte.byte-index c.args.window.now)) in
-    let byte : get_or c.args.window.now c.loop-byte.byte-index 0 < 256 = omega (arith, c.type_inv.window c.loop-byte.byte-index) in
-    omega (arith, small, byte, c.loop-byte.invariant, c.from-in-loop-byte.ensures)
-
-pub loop-byte-preserved : goal.loop-byte-preserved
-loop-byte-preserved c =
-    let byte : get_or c.args.window.now c.loop-byte.byte-index 0 < 256 = omega (arith, c.type_inv.window c.loop-byte.byte-index) in
-    omega (arith, c.loop-byte.invariant, c.from-in-loop-byte.ensures, num-flat_more c.args.window.now c.loop-byte.byte-index c.loop-byte-test.true byte)
-
-pub returns : goal.returns
-returns c = c.loop-byte.invariant ∙ ap (λ (x : List ℕ). num (flat x)) (take_all c.loop-byte.byte-index c.args.window.now c.loop-byte-test.false)

@@ -1,15 +1,6 @@
-use Rattle.std.proofs.Common.{ap, ◌∙◌, length, arith, ℕ, List}
-use Rattle.balise_rules.specs.Bits.{num, part}
-use Rattle.balise_bits.specs.Bytes.{flat}
-use Rattle.balise_bits.proofs.Packing.{part-held}
-use Rattle.balise_bits.proofs.Laid.{len_held}
+use Rattle.std.proofs.Common.{arith}
+use Rattle.balise_bits.proofs.Pieces.{fits_word}
 use Rattle.balise_bits.proofs.bits.Bits.number.Goals as goal
 
-pub number_at-requires-clause-within : goal.number_at-requires-clause-within
-number_at-requires-clause-within c =
-    omega (arith, len_held c.self.inside.bytes c.args.self.now c.self.invariant c.self.view_is, c.self.invariant.whole, ap length c.as_slice.ensures.value)
-
-pub returns : goal.returns
-returns c =
-    c.number_at.ensures ∙ ap (λ (l : List ℕ). num (part c.args.at c.args.width (flat l))) c.as_slice.ensures.value
-    ∙ ap num (part-held c.self.inside.bytes.items c.args.self.now c.self.inside.bytes.len c.args.at c.args.width c.self.invariant c.self.view_is c.requires.within)
+pub overflow_cast-result : goal.overflow_cast-result
+overflow_cast-result c = omega (arith, fits_word c.wide_number.result c.args.width c.wide_number.ensures.fits c.requires.width)

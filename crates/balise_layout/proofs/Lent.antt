@@ -1,5 +1,5 @@
 -- A packet that lies between two places of longer bits: what is read of it there is read of the packet.
-use Rattle.std.proofs.Common.{◌≡◌, ℕ, ◌+◌, ◌-◌, ◌≤◌, Bool, List, length, take, drop, Option, Some, Ok, refl, sym, ap, subst, ◌∙◌, arith, length-append}
+use Rattle.std.proofs.Common.{◌≡◌, ℕ, ◌+◌, ◌-◌, ◌/◌, ◌%◌, ◌^◌, ◌<◌, ◌≤◌, Bool, List, length, take, drop, Option, Some, Ok, refl, sym, ap, subst, ◌∙◌, arith, length-append}
 use Rattle.std.proofs.lemmas.List.{take-take, drop-take, drop-drop, take_at, length-take, length-drop}
 use Rattle.balise_rules.specs.declared.variable.Var.{Var}
 use Rattle.balise_rules.specs.declared.variable.Var.TheVariants.{NidPacket, QDir}
@@ -9,6 +9,8 @@ use Rattle.balise_rules.specs.Forms.{Form, Fields, Matches}
 use Rattle.balise_rules.specs.Packets.{body}
 use Rattle.balise_rules.specs.Packet.{Packet, bits_of, field_of, value, width, length_said, read_first}
 use Rattle.balise_rules.proofs.PacketAgain.{said_again}
+use Rattle.balise_bits.proofs.Pieces.{num-part, num-part_below}
+use Rattle.balise_bits.proofs.Putting.{length-part}
 use Rattle.balise_layout.specs.Held.{before, headed, held, Holds, IsHeld}
 use Rattle.balise_layout.specs.Layouts.{next_of, layout_in}
 use Rattle.balise_layout.proofs.First.{reads_begins, spells_holds}
@@ -46,6 +48,19 @@ part_in w d at n b h =
     ∙ ap (take w) (drop-take d (n - d) (drop at b))
     ∙ take-take w (n - d) (drop d (drop at b)) (omega (arith, h))
     ∙ ap (take w) (drop-drop d at b)
+
+-- the number and the length of a packet, from its first 23 bits
+pub head_parts : (b : List Bool) (at h : ℕ) → at + 23 ≤ length b → h ≡ num (part at 23 b) → (h / 2 ^ 15 ≡ num (part at 8 b)) × (h % 8192 ≡ num (part (at + 10) 13 b))
+head_parts b at h within e =
+    let x = part at 23 b in
+    let size : length x ≡ 23 = length-part at 23 b within in
+    let small : num x < 2 ^ 23 = num-part_below b at 23 within in
+    let front : num x / 2 ^ 15 % 2 ^ 8 ≡ num (part 0 8 x) = num-part x 0 8 15 (omega (arith, size)) in
+    let back : num x / 2 ^ 0 % 2 ^ 13 ≡ num (part 10 13 x) = num-part x 10 13 0 (omega (arith, size)) in
+    let here : at + 0 ≡ at = omega arith in
+    let number : num (part 0 8 x) ≡ num (part at 8 b) = ap num (part_in 8 0 at 23 b (omega arith)) ∙ ap (λ (k : ℕ). num (part k 8 b)) here in
+    let long : num (part 10 13 x) ≡ num (part (at + 10) 13 b) = ap num (part_in 13 10 at 23 b (omega arith)) in
+    (omega (arith, e, small, front, number), omega (arith, e, back, long))
 
 -- a field that stands in it
 pub record FieldLies (b : List Bool) (v : Var) (k : ℕ) (p : Packet) (place end : ℕ) : Type 0 where

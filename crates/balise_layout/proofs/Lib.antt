@@ -7,9 +7,10 @@ pub mod Layouts
 pub mod Held
 pub mod Counts
 pub mod Searches
-pub mod Elements
+pub mod ElementsFound
 pub mod Refused
 pub mod Nameless
+pub mod FewElements
 pub mod GoingOver
 pub mod Lent
 pub mod Values

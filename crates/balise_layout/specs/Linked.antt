@@ -1,13 +1,17 @@
 -- The identities of a packet's elements, found along the way.
-use Rattle.std.specs.Prelude.{ℕ, List, [], ◌∷◌, ◌++◌, if◌then◌else◌}
+use Rattle.std.specs.Prelude.{ℕ, List, [], ◌∷◌, ◌++◌, take, if◌then◌else◌}
 use Rattle.balise_rules.specs.declared.variable.Var.{Var}
 use Rattle.balise_rules.specs.declared.variable.Var.TheVariants.{NidC, NidBg}
 use Rattle.balise_rules.specs.declared.identity.Id.{Id}
 use Rattle.balise_rules.specs.Tags.{same_var}
 
+-- how many elements a packet has at most (SUBSET-026, chapter 7: one, and those that N_ITER counts in 5 bits)
+abbrev pub most_elements : ℕ
+most_elements = 32
+
 -- the country in force and the identities so far, after one field more
 abbrev pub link : ℕ × List Id → ℕ → Var → ℕ → ℕ × List Id
 link s left v n =
     if same_var v NidC then (n, s.1)
-    else if same_var v NidBg then (s.0, s.1 ++ record { country = s.0; number = n } ∷ [])
+    else if same_var v NidBg then (s.0, take most_elements (s.1 ++ record { country = s.0; number = n } ∷ []))
     else s

@@ -4,11 +4,11 @@
 
 mod bounds;
 mod collect;
+mod elements;
 mod fault;
 mod kind;
 pub mod laws;
 mod layout;
-mod links;
 mod packet;
 mod packet_ref;
 mod parts;
@@ -19,6 +19,7 @@ mod walker;
 
 pub use balise_bits::{Bits, BitsFault};
 pub use balise_rules::{Id, Refusal, Tag, Var};
+pub use elements::{Elements, MOST_ELEMENTS};
 pub use fault::LayoutFault;
 pub use kind::{PacketKind, is_known};
 pub use layout::Layout;

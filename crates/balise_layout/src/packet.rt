@@ -15,6 +15,7 @@ ghost use Rattle.balise_layout.specs.Kinds.{number_of, Finds};
 ghost use Rattle.balise_layout.specs.Setting.{flipped, renamed, turned, Sets};
 
 use crate::bounds::bounds;
+use crate::elements::Elements;
 use crate::fault::LayoutFault;
 use crate::kind::PacketKind;
 use crate::packet_ref::PacketRef;
@@ -160,6 +161,13 @@ impl Packet {
         ensures fault { IsOkUnless result LayoutFault.OutOfMemory }
     {
         self.lend().links(country)
+    }
+
+    /// The same identities as `links`, in place. Takes no memory.
+    pub fn elements(&self, country: u32) -> Elements
+        ensures { result ≡ links_of country self.now }
+    {
+        self.lend().elements(country)
     }
 
     /// The value of the occurrence `k`, from 0, of a variable.

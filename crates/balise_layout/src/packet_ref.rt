@@ -1,8 +1,8 @@
 //! A packet that is lent.
 
-ghost use Rattle.std.specs.Prelude.{◌≡◌, ◌↔◌, List, Bool, Ok, drop, IfOk, IsOkUnless, IsTrue, MatchResult};
-ghost use Rattle.balise_rules.specs.declared.variable.Var.TheVariants.{NidPacket, QDir};
-ghost use Rattle.balise_rules.specs.Forms.{Numbered};
+ghost use Rattle.std.specs.Prelude.{◌≡◌, ◌≤◌, ◌↔◌, ℕ, List, Bool, false, [], Ok, drop, IfOk, IsOkUnless, IsTrue, MatchResult};
+ghost use Rattle.balise_rules.specs.declared.variable.Var.TheVariants.{NidBg, NidPacket, QDir};
+ghost use Rattle.balise_rules.specs.Forms.{count_of, Numbered};
 ghost use Rattle.balise_rules.specs.Names.{links_of};
 ghost use Rattle.balise_rules.specs.Packet.{bits_of, field_of, read_first, value, width, IsSpelt};
 ghost use Rattle.balise_layout.specs.Walks.{kept};
@@ -11,11 +11,12 @@ ghost use Rattle.balise_layout.specs.Collected.{all_keyed};
 ghost use Rattle.balise_layout.specs.Held.{before, held, Holds, IsHeld};
 ghost use Rattle.balise_layout.specs.Layouts.{next_of};
 ghost use Rattle.balise_layout.specs.Kinds.{number_of};
+ghost use Rattle.balise_layout.specs.Linked.{most_elements};
 
 use crate::collect::Collect;
+use crate::elements::{Elements, FindElements};
 use crate::fault::LayoutFault;
 use crate::kind::{PacketKind, is_known};
-use crate::links::Links;
 use crate::packet::Packet;
 use crate::search::Search;
 use crate::visit::Visit;
@@ -56,8 +57,10 @@ impl<'a> PacketRef<'a> {
         ensures { (p : Packet) (after : List Bool) → read_first version (drop at bits.now) ≡ Ok (p, after) → result ≡ p }
     {
         let _len = bits.len();
-        let kind = PacketKind::of(version, bits.number(at, 8));
-        let end = at + bits.number(at + 10, 13) as usize;
+        // NID_PACKET, Q_DIR and L_PACKET
+        let head = bits.number(at, 23);
+        let kind = PacketKind::of(version, head >> 15);
+        let end = at + (head % 8192) as usize;
         PacketRef {
             kind,
             bits,
@@ -130,10 +133,29 @@ impl<'a> PacketRef<'a> {
         ensures fault { IsOkUnless result LayoutFault.OutOfMemory }
     {
         let alloc = self.bits.allocator();
-        if !self.kind().has_elements() {
+        if !self.has_elements() {
             return Ok(Vec::new(alloc));
         }
-        Ok(self.visit(Links::new(alloc, country))?.into_identities())
+        let elements = self.elements(country);
+        Ok(Vec::from_slice(alloc, elements.as_slice())?)
+    }
+
+    /// Whether it may have elements: packets 5 and 136 do.
+    pub fn has_elements(&self) -> bool
+        ensures { result ≡ false → (country : ℕ) → links_of country self.now ≡ [] }
+    {
+        let kind = self.kind();
+        kind.has_elements()
+    }
+
+    /// The same identities as `links`, in place. Takes no memory.
+    pub fn elements(&self, country: u32) -> Elements
+        ensures { result ≡ links_of country self.now }
+    {
+        match self.visit(FindElements::new(country)) {
+            Ok(found) => found.into_elements(),
+            Err(_) => Elements::none(),
+        }
     }
 
     /// The value of the occurrence `k`, from 0, of a variable.
@@ -173,6 +195,7 @@ impl<'a> PacketRef<'a> {
     fn visit<V: Visit + Drop>(&self, visitor: V) -> Result<V, LayoutFault>
         ensures shows { MatchResult result (λ v. v ≡ kept V.step visitor (width self.now) self.now.fields) (λ e. Sure V.allocates e → ⊥) }
         ensures numbered { Numbered self.now.fields }
+        ensures few { count_of NidBg self.now.fields ≤ most_elements }
     {
         let kind = self.kind;
         let mut walker = Walker::new(visitor, self.bits, self.at, self.end);

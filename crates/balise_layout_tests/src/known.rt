@@ -200,6 +200,9 @@ fn check_links_in(rt: &impl Abort, bits: &Bits, at: usize, row: &Named) {
     check_links(rt, &packet, row.2);
     let links = PacketRef::new(bits, at, row.1).links(5);
     assert!(rt; links.expect(rt, "memory").as_slice() == row.2);
+    let lent = PacketRef::new(bits, at, row.1);
+    assert!(rt; lent.elements(5).as_slice() == row.2);
+    assert!(rt; lent.has_elements() == (row.2.len() > 0));
 }
 
 fn check_named(rt: &impl Abort, packet: &Packet, alloc: Global, row: &Named) {

@@ -4,7 +4,7 @@ ghost use Rattle.std.specs.Prelude.{◌<◌};
 
 use crate::lent::check_lent;
 use balise_bits::Bits;
-use balise_layout::{Id, Packet, Var};
+use balise_layout::{Elements, Id, MOST_ELEMENTS, Packet, Var};
 use std::alloc::Global;
 use std::process::Abort;
 
@@ -68,6 +68,19 @@ fn check_named(rt: &impl Abort, links: &[Id]) {
 fn check_all_named(rt: &impl Abort, packet: &Packet) {
     check_named(rt, packet.links(7).expect(rt, "memory").as_slice());
     check_named(rt, packet.lend().links(7).expect(rt, "memory").as_slice());
+    check_elements(rt, &packet.elements(7));
+    check_elements(rt, &packet.lend().elements(7));
+}
+
+// That all are held in place, one by one too.
+fn check_elements(rt: &impl Abort, elements: &Elements) {
+    check_named(rt, elements.as_slice());
+    assert!(rt; elements.len() == MOST_ELEMENTS);
+    assert!(rt;
+        elements.get(0).is_some() & elements.get(31).is_some() & elements.get(32).is_none()
+    );
+    let last = elements.get(31);
+    assert!(rt; last.map(|id| id.number) == Some(15501));
 }
 
 // That the packet is read with so many fields, and lent with the same.

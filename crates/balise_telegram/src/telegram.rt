@@ -200,6 +200,7 @@ impl Telegram {
     }
 
     // The place of the packet with this tag.
+    #[inline]
     fn find(&self, tag: PacketTag) -> Option<Place>
         ensures place { option_map (λ (p : Place). p.index) result ≡ position (λ q. same_tag tag q.0) self.now.packets }
         ensures stands { IfSome result (λ p. IsPlace self.now p × (p.index < length self.now.packets)) }
@@ -251,6 +252,7 @@ impl Telegram {
     }
 
     // The place after the packet at a place.
+    #[inline]
     fn after(&self, place: Place) -> Place
         requires place { IsPlace self.now place }
         requires stands { place.index < length self.now.packets }
@@ -258,6 +260,22 @@ impl Telegram {
         ensures place { IsPlace self.now result }
     {
         after(&self.packed, place)
+    }
+
+    // The place after the packet that is lent from a place.
+    #[inline]
+    fn after_lent(&self, place: Place, packet: &PacketRef<'_>) -> Place
+        requires place { IsPlace self.now place }
+        requires stands { place.index < length self.now.packets }
+        requires lent { (x : Tag × Packet) → slice_get self.now.packets place.index ≡ Some x → packet.now ≡ x.1 }
+        ensures index { result.index ≡ place.index + 1 }
+        ensures place { IsPlace self.now result }
+    {
+        let _packed = &self.packed;
+        Place {
+            index: place.index + 1,
+            at: place.at + packet.width(),
+        }
     }
 
     // Where the packet with this tag stands among the bits.

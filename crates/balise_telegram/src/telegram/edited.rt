@@ -84,6 +84,7 @@ pub(crate) fn tag_read(bits: &Bits, place: Place) -> Option<PacketTag>
 }
 
 /// Tags and ground of bits: those that are kept, or as the bits are read.
+#[inline]
 pub(crate) fn edited_or_read(
     kept: Option<Box<Edited>>,
     bits: &Bits,
@@ -100,6 +101,7 @@ pub(crate) fn edited_or_read(
 }
 
 // Tags and ground of bits as they are read.
+#[inline(never)]
 fn edited_read(bits: &Bits) -> Result<Box<Edited>, TelegramFault>
     requires { (y : Telegram) × StandsFor bits.now None y }
     ensures ok { IfOk result (λ e. (y : Telegram) → StandsFor bits.now None y → IsOver e.value y) }

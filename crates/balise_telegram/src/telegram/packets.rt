@@ -39,9 +39,10 @@ impl Telegram {
         let Some(place) = self.find(tag) else {
             return Err(TelegramFault::NoSuchPacket);
         };
-        let after = self.after(place);
+        let lent = self.lent(place);
+        let after = self.after_lent(place, &lent);
         let next = self.tag_at(after);
-        let packet = self.lent(place).to_packet()?;
+        let packet = lent.to_packet()?;
         let used = self.end().at + 8;
         let kept = self.edited.take();
         let mut edited = edited_or_read(kept, &self.packed)?;

@@ -4,6 +4,7 @@ use Rattle.std.proofs.lemmas.Result.{err_from_is_err_and}
 use Rattle.balise_layout.specs.Layouts.{next_of}
 use Rattle.balise_layout.specs.Kinds.{number_of}
 use Rattle.balise_layout.proofs.Held.{visited, not_stuck}
+use Rattle.balise_layout.proofs.FewElements.{few_elements}
 use Rattle.balise_layout.proofs.Lent.{lies}
 use Rattle.balise_layout.proofs.packet_ref.PacketRef.visit.Goals as goal
 
@@ -22,3 +23,15 @@ returns-clause-shows g c =
     let l = lies next i.bits.now i.at i.end c.args.self.now c.self.invariant c.self.view_is in
     c.into_visitor.ensures
     ∙ visited g.V.Visit.step next c.args.visitor _ c.args.self.now c.new-walker.result c.walk.new.walker l.holds c.new-walker.ensures c.in_ok-walk.ensures
+
+pub returns-in_err-walk-clause-few : goal.returns-in_err-walk-clause-few
+returns-in_err-walk-clause-few g c =
+    let i = c.self.inside in
+    let l = lies (next_of (number_of i.kind)) i.bits.now i.at i.end c.args.self.now c.self.invariant c.self.view_is in
+    few_elements i.kind _ c.args.self.now l.holds
+
+pub returns-clause-few : goal.returns-clause-few
+returns-clause-few g c =
+    let i = c.self.inside in
+    let l = lies (next_of (number_of i.kind)) i.bits.now i.at i.end c.args.self.now c.self.invariant c.self.view_is in
+    few_elements i.kind _ c.args.self.now l.holds

@@ -21,7 +21,7 @@ pub overflow_sub-after : goal.overflow_sub-after
 overflow_sub-after c =
     let y = c.args.self.now in
     let s : IsShown c.self.inside.packed y = subst (λ (z : Telegram). IsShown c.self.inside.packed z) c.self.view_is c.self.invariant.shown in
-    let t = standing c.self.inside.packed y c.args.tag c.in-Some.place c.after-after.result (c.end-used.result.at + 8) s c.in-Some.ensures.place c.in-Some.ensures.stands.0 c.after-after.ensures.index c.after-after.ensures.place c.end-used.ensures.at in
+    let t = standing c.self.inside.packed y c.args.tag c.in-Some.place c.after_lent-after.result (c.end-used.result.at + 8) s c.in-Some.ensures.place c.in-Some.ensures.stands.0 c.after_lent-after.ensures.index c.after_lent-after.ensures.place c.end-used.ensures.at in
     let wide = t.wide in
     omega (arith, wide)
 
@@ -32,7 +32,7 @@ cut_out-requires c =
     let o : StandsFor b c.self.inside.edited y = subst (λ (z : Telegram). StandsFor b c.self.inside.edited z) c.self.view_is c.self.invariant in
     let kept : StandsFor b c.take-kept.result y = subst (λ (k : Kept). StandsFor b k y) (sym c.take-kept.ensures.value) o in
     let over : IsOver c.deref_mut.result.now y = subst (λ (e : Edited). IsOver e y) (sym c.deref_mut.ensures.value) (c.in_ok-edited.ensures.ok y kept) in
-    let t = standing b y c.args.tag c.in-Some.place c.after-after.result (c.end-used.result.at + 8) o.shown c.in-Some.ensures.place c.in-Some.ensures.stands.0 c.after-after.ensures.index c.after-after.ensures.place c.end-used.ensures.at in
+    let t = standing b y c.args.tag c.in-Some.place c.after_lent-after.result (c.end-used.result.at + 8) o.shown c.in-Some.ensures.place c.in-Some.ensures.stands.0 c.after_lent-after.ensures.index c.after_lent-after.ensures.place c.end-used.ensures.at in
     (y, o.shown, over, t.spot)
 
 pub invariant_of-self-2 : goal.invariant_of-self-2
@@ -42,7 +42,7 @@ invariant_of-self-2 c =
     let o : StandsFor b c.self.inside.edited y = subst (λ (z : Telegram). StandsFor b c.self.inside.edited z) c.self.view_is c.self.invariant in
     let kept : StandsFor b c.take-kept.result y = subst (λ (k : Kept). StandsFor b k y) (sym c.take-kept.ensures.value) o in
     let over : IsOver c.deref_mut.result.now y = subst (λ (e : Edited). IsOver e y) (sym c.deref_mut.ensures.value) (c.in_ok-edited.ensures.ok y kept) in
-    let t = standing b y c.args.tag c.in-Some.place c.after-after.result (c.end-used.result.at + 8) o.shown c.in-Some.ensures.place c.in-Some.ensures.stands.0 c.after-after.ensures.index c.after-after.ensures.place c.end-used.ensures.at in
+    let t = standing b y c.args.tag c.in-Some.place c.after_lent-after.result (c.end-used.result.at + 8) o.shown c.in-Some.ensures.place c.in-Some.ensures.stands.0 c.after_lent-after.ensures.index c.after_lent-after.ensures.place c.end-used.ensures.at in
     (is_again c.cut_out.new.bits (Some (with_value c.in_ok-edited.edited c.cut_out.new.edited)) (with_packets y (without same_tag c.args.tag y.packets))
     (taken_one b c.cut_out.new.bits (Some (with_value c.in_ok-edited.edited c.cut_out.new.edited)) y c.args.tag c.in-Some.place.index t.item o.shown t.stands (c.cut_out.ensures.shown y o.shown over t.spot) (c.cut_out.ensures.over y o.shown over t.spot))).0
 
@@ -53,9 +53,9 @@ returns c =
     let o : StandsFor b c.self.inside.edited y = subst (λ (z : Telegram). StandsFor b c.self.inside.edited z) c.self.view_is c.self.invariant in
     let kept : StandsFor b c.take-kept.result y = subst (λ (k : Kept). StandsFor b k y) (sym c.take-kept.ensures.value) o in
     let over : IsOver c.deref_mut.result.now y = subst (λ (e : Edited). IsOver e y) (sym c.deref_mut.ensures.value) (c.in_ok-edited.ensures.ok y kept) in
-    let t = standing b y c.args.tag c.in-Some.place c.after-after.result (c.end-used.result.at + 8) o.shown c.in-Some.ensures.place c.in-Some.ensures.stands.0 c.after-after.ensures.index c.after-after.ensures.place c.end-used.ensures.at in (
-      found c.args.tag y.packets c.in-Some.place.index t.item t.stands ∙ ap Some (sym (c.in_ok-packet.ensures.ok ∙ c.lent.ensures t.item t.there)),
-      neighbour c.args.tag y.packets c.in-Some.place.index t.item t.stands ∙ sym (c.tag_at-next.ensures ∙ ap (λ (k : ℕ). option_map (λ (q : Tag × Packet). q.0) (slice_get y.packets k)) (c.after-after.ensures.index ∙ add-one c.in-Some.place.index)),
+    let t = standing b y c.args.tag c.in-Some.place c.after_lent-after.result (c.end-used.result.at + 8) o.shown c.in-Some.ensures.place c.in-Some.ensures.stands.0 c.after_lent-after.ensures.index c.after_lent-after.ensures.place c.end-used.ensures.at in (
+      found c.args.tag y.packets c.in-Some.place.index t.item t.stands ∙ ap Some (sym (c.in_ok-packet.ensures.ok ∙ c.lent-lent.ensures t.item t.there)),
+      neighbour c.args.tag y.packets c.in-Some.place.index t.item t.stands ∙ sym (c.tag_at-next.ensures ∙ ap (λ (k : ℕ). option_map (λ (q : Tag × Packet). q.0) (slice_get y.packets k)) (c.after_lent-after.ensures.index ∙ add-one c.in-Some.place.index)),
       (is_again c.cut_out.new.bits (Some (with_value c.in_ok-edited.edited c.cut_out.new.edited)) (with_packets y (without same_tag c.args.tag y.packets))
           (taken_one b c.cut_out.new.bits (Some (with_value c.in_ok-edited.edited c.cut_out.new.edited)) y c.args.tag c.in-Some.place.index t.item o.shown t.stands (c.cut_out.ensures.shown y o.shown over t.spot) (c.cut_out.ensures.over y o.shown over t.spot))).1,
     )

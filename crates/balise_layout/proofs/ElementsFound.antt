@@ -1,5 +1,5 @@
 -- The identities found along the fields of a packet are those of its elements.
-use Rattle.std.proofs.Common.{◌≡◌, ℕ, suc, ◌-◌, ◌≤◌, Bool, true, false, cond, List, [], ◌∷◌, ◌++◌, refl, sym, ap, subst, ◌∙◌, append_assoc, arith}
+use Rattle.std.proofs.Common.{◌≡◌, ℕ, suc, ◌+◌, ◌-◌, ◌≤◌, Bool, true, false, cond, List, [], ◌∷◌, ◌++◌, length, take, refl, sym, ap, subst, ◌∙◌, append_assoc, length-append, arith}
 use Rattle.std.proofs.lemmas.List.{append-nil}
 use Rattle.balise_rules.specs.declared.variable.Var.{Var}
 use Rattle.balise_rules.specs.declared.variable.Var.TheVariants.{NidC, NidBg}
@@ -12,9 +12,14 @@ use Rattle.balise_rules.specs.Names.{country_at, links_among, links_of}
 use Rattle.balise_rules.proofs.Tests.{test-sym, var_test, key_test, equal_yes}
 use Rattle.balise_rules.proofs.Keys.{count-more, count_grows}
 use Rattle.balise_layout.specs.Walks.{kept}
-use Rattle.balise_layout.specs.Linked.{link}
+use Rattle.balise_layout.specs.Linked.{link, most_elements}
+use Rattle.std.proofs.lemmas.List.{take_all}
 
--- the country in force behind some fields
+-- the step without a limit
+abbrev link_all : ℕ × List Id → ℕ → Var → ℕ → ℕ × List Id
+link_all s left v n = cond (same_var v NidC) (n, s.1) (cond (same_var v NidBg) (s.0, s.1 ++ record { country = s.0; number = n } ∷ []) s)
+
+-- the country in force after some fields
 abbrev country_after : ℕ → Fields → ℕ
 country_after c [] = c
 country_after c (f ∷ fs) = cond (is_of NidC f.0) (country_after f.1 fs) (country_after c fs)
@@ -63,22 +68,29 @@ later-push seen f m later k h = NoNumber-push k seen f (later k (omega (arith, h
         let more : count_of NidBg (seen ++ f ∷ []) ≡ suc (count_of NidBg seen) = count-more NidBg seen f (equal_yes var_test NidBg f.0.0 (ap (λ (x : Key). x.0) key)) in
         absurd (omega (arith, h, k_is, more))
 
+count-tail : (v : Var) (f : Key × ℕ) (fs : Fields) → count_of v fs ≤ count_of v (f ∷ fs)
+count-tail v f fs = by (is_of v f.0)
+  where
+    by : (b : Bool) → count_of v fs ≤ cond b (suc (count_of v fs)) (count_of v fs)
+    by true = omega arith
+    by false = omega arith
+
 same_var-swap : (a b : Var) (x : Bool) → same_var a b ≡ x → same_var b a ≡ x
 same_var-swap a b x e = test-sym var_test b a ∙ e
 
 abbrev an_id : ℕ → ℕ → Id
 an_id c n = record { country = c; number = n }
 
-links_from : (c n : ℕ) (seen fs : Fields) (ids : List Id) → NumberedFrom seen fs → Later seen → (kept link (country_after c seen, ids) n fs).1 ≡ ids ++ links_among c (seen ++ fs) fs
+links_from : (c n : ℕ) (seen fs : Fields) (ids : List Id) → NumberedFrom seen fs → Later seen → (kept link_all (country_after c seen, ids) n fs).1 ≡ ids ++ links_among c (seen ++ fs) fs
 links_from c n seen [] ids m later = sym (append-nil ids)
 links_from c n seen (f ∷ fs) ids m later = at (same_var f.0.0 NidC) (same_var f.0.0 NidBg) refl refl (λ (more : List Id). links_from c (n - width_of f.0.0) (seen ++ f ∷ []) fs more m.1 (later-push seen f m.0 later) ∙ ap (λ (x : Fields). more ++ links_among c x fs) (append_assoc seen (f ∷ []) fs))
   where
-    at : (a b : Bool) → same_var f.0.0 NidC ≡ a → same_var f.0.0 NidBg ≡ b → ((more : List Id) → (kept link (country_after c (seen ++ f ∷ []), more) (n - width_of f.0.0) fs).1 ≡ more ++ links_among c (seen ++ f ∷ fs) fs) → (kept link (cond a (f.1, ids) (cond b (country_after c seen, ids ++ an_id (country_after c seen) f.1 ∷ []) (country_after c seen, ids))) (n - width_of f.0.0) fs).1 ≡ ids ++ cond (is_of NidBg f.0) (an_id (country_at c f.0.1 (seen ++ f ∷ fs)) f.1 ∷ links_among c (seen ++ f ∷ fs) fs) (links_among c (seen ++ f ∷ fs) fs)
+    at : (a b : Bool) → same_var f.0.0 NidC ≡ a → same_var f.0.0 NidBg ≡ b → ((more : List Id) → (kept link_all (country_after c (seen ++ f ∷ []), more) (n - width_of f.0.0) fs).1 ≡ more ++ links_among c (seen ++ f ∷ fs) fs) → (kept link_all (cond a (f.1, ids) (cond b (country_after c seen, ids ++ an_id (country_after c seen) f.1 ∷ []) (country_after c seen, ids))) (n - width_of f.0.0) fs).1 ≡ ids ++ cond (is_of NidBg f.0) (an_id (country_at c f.0.1 (seen ++ f ∷ fs)) f.1 ∷ links_among c (seen ++ f ∷ fs) fs) (links_among c (seen ++ f ∷ fs) fs)
     at true b is is' rest =
         let v : f.0.0 ≡ NidC = var_test.one f.0.0 NidC is in
         let country : country_after c (seen ++ f ∷ []) ≡ f.1 = country_after-push c seen f ∙ ap (λ (x : Bool). cond x f.1 (country_after c seen)) (same_var-swap f.0.0 NidC true is) in
         let other : is_of NidBg f.0 ≡ false = ap (same_var NidBg) v in
-        let P : ℕ → Type 0 = λ x. (kept link (x, ids) (n - width_of f.0.0) fs).1 ≡ ids ++ links_among c (seen ++ f ∷ fs) fs in
+        let P : ℕ → Type 0 = λ x. (kept link_all (x, ids) (n - width_of f.0.0) fs).1 ≡ ids ++ links_among c (seen ++ f ∷ fs) fs in
         rw other (subst P country (rest ids))
     at false true is is' rest =
         let v : NidBg ≡ f.0.0 = sym (var_test.one f.0.0 NidBg is') in
@@ -87,14 +99,38 @@ links_from c n seen (f ∷ fs) ids m later = at (same_var f.0.0 NidC) (same_var 
         let key : (NidBg, f.0.1) ≡ f.0 = ap (λ (x : Var). (x, f.0.1)) v in
         let count : f.0.1 ≡ count_of NidBg seen = m.0 ∙ ap (λ (x : Var). count_of x seen) (sym v) in
         let force : country_at c f.0.1 (seen ++ f ∷ fs) ≡ country_after c seen = country_before c f.0.1 seen f fs (later f.0.1 (omega (arith, count))) key in
-        let P : ℕ → Type 0 = λ x. (kept link (x, ids ++ an_id (country_after c seen) f.1 ∷ []) (n - width_of f.0.0) fs).1 ≡ ids ++ (an_id (country_after c seen) f.1 ∷ links_among c (seen ++ f ∷ fs) fs) in
+        let P : ℕ → Type 0 = λ x. (kept link_all (x, ids ++ an_id (country_after c seen) f.1 ∷ []) (n - width_of f.0.0) fs).1 ≡ ids ++ (an_id (country_after c seen) f.1 ∷ links_among c (seen ++ f ∷ fs) fs) in
         rw (own, force) (subst P country (rest (ids ++ an_id (country_after c seen) f.1 ∷ []) ∙ append_assoc ids (an_id (country_after c seen) f.1 ∷ []) (links_among c (seen ++ f ∷ fs) fs)))
     at false false is is' rest =
         let country : country_after c (seen ++ f ∷ []) ≡ country_after c seen = country_after-push c seen f ∙ ap (λ (x : Bool). cond x f.1 (country_after c seen)) (same_var-swap f.0.0 NidC false is) in
         let other : is_of NidBg f.0 ≡ false = same_var-swap f.0.0 NidBg false is' in
-        let P : ℕ → Type 0 = λ x. (kept link (x, ids) (n - width_of f.0.0) fs).1 ≡ ids ++ links_among c (seen ++ f ∷ fs) fs in
+        let P : ℕ → Type 0 = λ x. (kept link_all (x, ids) (n - width_of f.0.0) fs).1 ≡ ids ++ links_among c (seen ++ f ∷ fs) fs in
         rw other (subst P country (rest ids))
 
+-- where there are few enough the limit isn't met
+kept_all : (s : ℕ × List Id) (n : ℕ) (fs : Fields) → length s.1 + count_of NidBg fs ≤ most_elements → kept link s n fs ≡ kept link_all s n fs
+kept_all s n [] h = refl
+kept_all s n (f ∷ fs) h = at (same_var f.0.0 NidC) (same_var f.0.0 NidBg) refl refl (λ (x : ℕ × List Id). kept_all x (n - width_of f.0.0) fs)
+  where
+    more : List Id
+    more = s.1 ++ record { country = s.0; number = f.1 } ∷ []
+
+    own : (b : Bool) → same_var f.0.0 NidBg ≡ b → count_of NidBg (f ∷ fs) ≡ cond b (suc (count_of NidBg fs)) (count_of NidBg fs)
+    own b e = ap (λ (x : Bool). cond x (suc (count_of NidBg fs)) (count_of NidBg fs)) (same_var-swap f.0.0 NidBg b e)
+
+    other : length s.1 + count_of NidBg fs ≤ most_elements
+    other = omega (arith, h, count-tail NidBg f fs)
+
+    at : (a b : Bool) → same_var f.0.0 NidC ≡ a → same_var f.0.0 NidBg ≡ b → ((x : ℕ × List Id) → length x.1 + count_of NidBg fs ≤ most_elements → kept link x (n - width_of f.0.0) fs ≡ kept link_all x (n - width_of f.0.0) fs) →
+        kept link (cond a (f.1, s.1) (cond b (s.0, take most_elements more) s)) (n - width_of f.0.0) fs ≡ kept link_all (cond a (f.1, s.1) (cond b (s.0, more) s)) (n - width_of f.0.0) fs
+    at true b is is' rest = rest (f.1, s.1) other
+    at false true is is' rest =
+        let l = length-append s.1 (record { country = s.0; number = f.1 } ∷ []) in
+        let o = own true is' in
+        let all : take most_elements more ≡ more = take_all most_elements more (omega (arith, h, l, o)) in
+        ap (λ (ids : List Id). kept link (s.0, ids) (n - width_of f.0.0) fs) all ∙ rest (s.0, more) (omega (arith, h, l, o))
+    at false false is is' rest = rest s other
+
 -- along a whole packet
-pub links_found : (c n : ℕ) (p : Packet) → Numbered p.fields → (kept link (c, []) n p.fields).1 ≡ links_of c p
-links_found c n p m = links_from c n [] p.fields [] m (λ k h. tt)
+pub links_found : (c n : ℕ) (p : Packet) → Numbered p.fields → count_of NidBg p.fields ≤ most_elements → (kept link (c, []) n p.fields).1 ≡ links_of c p
+links_found c n p m few = ap (λ (x : ℕ × List Id). x.1) (kept_all (c, []) n p.fields (omega (arith, few))) ∙ links_from c n [] p.fields [] m (λ k h. tt)

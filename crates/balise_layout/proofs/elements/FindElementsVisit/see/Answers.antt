@@ -1,5 +1,5 @@
 use Rattle.std.proofs.Common.{rules}
-use Rattle.balise_layout.proofs.links.LinksVisit.see.Goals as goal
+use Rattle.balise_layout.proofs.elements.FindElementsVisit.see.Goals as goal
 
 pub returns-else-eq-2 : goal.returns-else-eq-2
 returns-else-eq-2 c = search rules

@@ -13,7 +13,7 @@ use Rattle.balise_rules.proofs.Accepted.{is_there, stands_from}
 use Rattle.balise_rules.proofs.Cases.{found}
 use Rattle.balise_edit_laws.specs.GoesBack.{HasGap, IsAstray, LacksGroup}
 use Rattle.balise_edit_laws.proofs.Naming.{no_group_to}
-use Rattle.balise_plan.specs.declared.spot.Spot.TheVariants.{Before}
+use Rattle.balise_index.specs.declared.spot.Spot.TheVariants.{Before}
 use Rattle.balise_plan.specs.Spots.{group_refusal, put_refusal, shift_refusal}
 use Rattle.balise_telegram.specs.Moving.{same_place_before}
 

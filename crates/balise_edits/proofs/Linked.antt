@@ -1,5 +1,5 @@
 -- The groups that have a link to an identity: the places that are listed, and what the others give.
-use Rattle.std.proofs.Common.{◌≡◌, ◌∙◌, ◌⊎◌, inl, inr, ℕ, zero, suc, ◌+◌, ◌<◌, Bool, true, false, cond, ◌&&◌, eqb, List, [], ◌∷◌, ◌++◌, Some, None, length, drop, get_or, position, reverse, slice_get, refl, sym, ap, arith}
+use Rattle.std.proofs.Common.{◌≡◌, ◌∙◌, ◌⊎◌, inl, inr, ℕ, zero, suc, ◌+◌, ◌<◌, Bool, true, false, cond, ◌&&◌, eqb, List, [], ◌∷◌, ◌++◌, Some, None, length, position, reverse, slice_get, refl, sym, ap, arith}
 use Rattle.std.specs.BTreeSet as set
 use Rattle.std.specs.List.{list_any, position_or_len}
 use Rattle.std.specs.Map.{keys_of}
@@ -7,7 +7,6 @@ use Rattle.std.specs.Ordering.{nat_cmp, is_eq}
 use Rattle.std.specs.Prelude.{flat_map, nat_lt}
 use Rattle.std.proofs.lemmas.Bool.{true≢false, and_right}
 use Rattle.std.proofs.lemmas.Bool.Decides.{nat_tests}
-use Rattle.std.proofs.lemmas.List.{drop_more}
 use Rattle.std.proofs.lemmas.Option.{slice_get_within}
 use Rattle.balise_rules.specs.declared.identity.Id.{Id}
 use Rattle.balise_rules.specs.declared.tag.Tag.{Tag}
@@ -25,10 +24,10 @@ use Rattle.balise_rules.proofs.Each.{found_later}
 use Rattle.balise_rules.proofs.Found.{group_sound, placed}
 use Rattle.balise_rules.proofs.Reversed.{find-reverse, distinct-reverse}
 use Rattle.balise_rules.proofs.Tests.{IsTest, split_on, equal_yes, tag_test, nat_test}
-use Rattle.balise_plan.specs.Links.{is_place, named_at}
-use Rattle.balise_plan.specs.Walks.{among}
-use Rattle.balise_plan.specs.declared.links.LinkPlace.{LinkPlace}
-use Rattle.balise_plan.proofs.Comparing.{place_one}
+use Rattle.balise_index.specs.Places.{is_place, among}
+use Rattle.balise_plan.specs.Links.{named_at}
+use Rattle.balise_index.specs.declared.link_place.LinkPlace.{LinkPlace}
+use Rattle.balise_index.proofs.places.Equal.{place_one}
 use Rattle.balise_plan.proofs.GroupLists.{found_at}
 use Rattle.balise_edits.specs.Reviews.{given, group_links, packet_links, telegram_links, HasLinking}
 
@@ -114,20 +113,20 @@ nothing_elsewhere g i plan sound real places has k m =
 
 -- ---- one link more of a list
 
-pub step_gone : (w : LinkPlace) (k : ℕ) (keys : List Tag) (items : List LinkPlace) (i : ℕ) (d : LinkPlace) (P : Type 0) → i < length items → None ≡ position (same_tag (get_or items i d).group) keys → position (same_tag w.group) keys ≡ Some k →
-    (among w (drop i items) ≡ true) ⊎ P → (among w (drop (i + 1) items) ≡ true) ⊎ P
-step_gone w k keys items i d P l none at (inr m) = inr m
-step_gone w k keys items i d P l none at (inl e) =
-    elim (first_or_later w (get_or items i d) (drop (i + 1) items) (ap (among w) (sym (drop_more items i d l)) ∙ e)) [
+pub step_gone : (w : LinkPlace) (k : ℕ) (keys : List Tag) (u : LinkPlace) (us : List LinkPlace) (P : Type 0) → None ≡ position (same_tag u.group) keys → position (same_tag w.group) keys ≡ Some k →
+    (among w (u ∷ us) ≡ true) ⊎ P → (among w us ≡ true) ⊎ P
+step_gone w k keys u us P none at (inr m) = inr m
+step_gone w k keys u us P none at (inl e) =
+    elim (first_or_later w u us e) [
       | inl q ↦ (let no : None ≡ Some k = none ∙ ap (λ v. position (same_tag v.group) keys) (sym q) ∙ at in absurd cc)
       | inr m ↦ inl m
     ]
 
-pub step_found : (w : LinkPlace) (k n : ℕ) (keys : List Tag) (items : List LinkPlace) (i : ℕ) (d : LinkPlace) (old new : set.BTreeSet ℕ) → i < length items → Some n ≡ position (same_tag (get_or items i d).group) keys → position (same_tag w.group) keys ≡ Some k → set.Updates nat_cmp old new n true →
-    (among w (drop i items) ≡ true) ⊎ (set.contains nat_cmp old k ≡ true) → (among w (drop (i + 1) items) ≡ true) ⊎ (set.contains nat_cmp new k ≡ true)
-step_found w k n keys items i d old new l some at g (inr m) = inr (g.0 k ∙ stays _ (set.contains nat_cmp old k) m)
-step_found w k n keys items i d old new l some at g (inl e) =
-    elim (first_or_later w (get_or items i d) (drop (i + 1) items) (ap (among w) (sym (drop_more items i d l)) ∙ e)) [
+pub step_found : (w : LinkPlace) (k n : ℕ) (keys : List Tag) (u : LinkPlace) (us : List LinkPlace) (old new : set.BTreeSet ℕ) → Some n ≡ position (same_tag u.group) keys → position (same_tag w.group) keys ≡ Some k → set.Updates nat_cmp old new n true →
+    (among w (u ∷ us) ≡ true) ⊎ (set.contains nat_cmp old k ≡ true) → (among w us ≡ true) ⊎ (set.contains nat_cmp new k ≡ true)
+step_found w k n keys u us old new some at g (inr m) = inr (g.0 k ∙ stays _ (set.contains nat_cmp old k) m)
+step_found w k n keys u us old new some at g (inl e) =
+    elim (first_or_later w u us e) [
       | inl q ↦ (let same : n ≡ k = unsome (some ∙ ap (λ v. position (same_tag v.group) keys) (sym q) ∙ at) in
           inr (ap (set.contains nat_cmp new) (sym same) ∙ g.0 n ∙ (let y = itself n in simp y)))
       | inr m ↦ inl m

@@ -13,7 +13,7 @@ use Rattle.balise_rules.specs.Names.{names_in}
 use Rattle.balise_rules.specs.Notes.{noted, nothing}
 use Rattle.balise_rules.specs.declared.refusal.Refusal.TheVariants.{NoSuchGroup}
 use Rattle.balise_rules.specs.Doing.{done, first_of, group_fault, refusal, when}
-use Rattle.balise_plan.specs.declared.spot.Spot.TheVariants.{After}
+use Rattle.balise_index.specs.declared.spot.Spot.TheVariants.{After}
 use Rattle.balise_plan.specs.Spots.{group_refusal}
 use Rattle.balise_rules.proofs.Each.{each-id}
 use Rattle.balise_plan.proofs.Walking as walking

@@ -17,8 +17,8 @@ use Rattle.balise_rules.specs.Telegram.{Telegram, version_of}
 use Rattle.balise_rules.specs.Plan.{Group, Plan, country_of, identity_of}
 use Rattle.balise_rules.specs.Review.{over, looked_in, lines_at, distance_of, links_looked}
 use Rattle.balise_plan.specs.Links.{named_at}
-use Rattle.balise_plan.specs.Walks.{among}
-use Rattle.balise_plan.specs.declared.links.LinkPlace.{LinkPlace}
+use Rattle.balise_index.specs.Places.{among}
+use Rattle.balise_index.specs.declared.link_place.LinkPlace.{LinkPlace}
 
 -- the distances among fields
 abbrev pub distances : Fields → List Reviewed

@@ -10,7 +10,7 @@ use Rattle.balise_rules.specs.declared.refusal.Refusal.TheVariants.{NoSuchTelegr
 use Rattle.std.specs.BTreeSet as set
 use Rattle.balise_rules.specs.Doing.{refusal, done}
 use Rattle.balise_rules.specs.Edits.{Edit}
-use Rattle.balise_plan.specs.declared.links.LinkPlace.{LinkPlace}
+use Rattle.balise_index.specs.declared.link_place.LinkPlace.{LinkPlace}
 use Rattle.balise_plan.specs.Held.{IsHeld}
 use Rattle.balise_rules.specs.Tagged.{find, each}
 use Rattle.balise_rules.specs.Tags.{same_tag}
@@ -26,7 +26,7 @@ use Rattle.balise_plan.proofs.Walking.{each-same, each-found, cond-each}
 use Rattle.balise_plan.proofs.Spots.{value-each}
 use Rattle.balise_plan.proofs.Placing.{same-item, unerr}
 use Rattle.balise_plan.proofs.Replaced.{with_telegram}
-use Rattle.balise_plan.specs.Links.{IndexOf}
+use Rattle.balise_index.specs.Identities.{IndexOf}
 
 -- An edit done, and the indexes for what it makes.
 pub record Outcome (e : Edit) (ids : IndexOf Tag) (names : IndexOf (set.BTreeSet LinkPlace)) (plan new : Plan) : Type 0 where

@@ -23,6 +23,10 @@ named i plan g e = by (group_named i plan) refl e
     by None h e = absurd cc
     by (Some z) h e = (z, h, unsome e)
 
+-- the tag that the index has is that of a group
+pub group-tagged : (i : Id) (plan : Plan) (g : Tag) → tag_named i plan ≡ Some g → (ys : Group) × (find_group i plan ≡ Ok (g, ys))
+group-tagged i plan g e = let z = named i plan g e in (z.0.1, ap (λ o. ok_or o NoSuchGroup) z.1 ∙ ap (λ (t : Tag). Ok (t, z.0.1)) z.2)
+
 -- the group of the tag that the index has
 pub group_found : (i : Id) (plan : Plan) (g : Tag) (ys : Group) → IsSound plan → tag_named i plan ≡ Some g → find same_tag g plan ≡ Some ys → find_group i plan ≡ Ok (g, ys)
 group_found i plan g ys sound e f =

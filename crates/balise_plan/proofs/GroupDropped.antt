@@ -24,12 +24,13 @@ use Rattle.balise_rules.proofs.AllItems.{all-without}
 use Rattle.balise_rules.proofs.Found.{group_sound}
 use Rattle.balise_edit_laws.proofs.Naming.{no_group_from, no_group_to}
 use Rattle.balise_edit_laws.proofs.Identities.{differ_apart, apart_differ, apart_without}
-use Rattle.balise_plan.specs.declared.links.LinkPlace.{LinkPlace}
-use Rattle.balise_plan.specs.Links.{IndexOf, indexed, is_id, held, named_at, named_in_telegram, AreFull}
+use Rattle.balise_index.specs.declared.link_place.LinkPlace.{LinkPlace}
+use Rattle.balise_index.specs.Identities.{IndexOf, indexed, is_id}
+use Rattle.balise_plan.specs.Links.{held, named_at, named_in_telegram, AreFull}
 use Rattle.balise_plan.specs.GroupLinks.{links_in_group, ForgetsAll}
 use Rattle.balise_plan.specs.Held.{IsHeld, tag_named}
 use Rattle.balise_plan.proofs.Answered.{Outcome}
-use Rattle.balise_plan.proofs.Comparing.{id_is}
+use Rattle.balise_index.proofs.identities.Equal.{id_is}
 use Rattle.balise_plan.proofs.GroupNames.{listed-names}
 use Rattle.balise_plan.proofs.Identified.{tag-named, named-found}
 use Rattle.balise_plan.proofs.KeyPlaces.{removed-without}
@@ -101,7 +102,7 @@ module _ (plan : rules.Plan) (ids : IndexOf Tag) (names : IndexOf (set.BTreeSet 
       no true = refl
       no false = refl
 
-  module _ (ls : List (Id × LinkPlace)) (links : ls ≡ links_in_group g ys) (after : IndexOf (set.BTreeSet LinkPlace)) (full : AreFull after) (forgets : ForgetsAll ls names after) (i : Id) (is_own : i ≡ identity_of ys) (left : IndexOf Tag) (out : (q : Id) → indexed left q ≡ cond (is_id i q) None (indexed ids q)) where
+  module _ (after : IndexOf (set.BTreeSet LinkPlace)) (full : AreFull after) (forgets : ForgetsAll (links_in_group g ys) names after) (i : Id) (is_own : i ≡ identity_of ys) (left : IndexOf Tag) (out : (q : Id) → indexed left q ≡ cond (is_id i q) None (indexed ids q)) where
     -- the group is taken out of the plan and of both indexes
     pub dropped : Outcome (DropGroup g) left after plan (remove_entry (same_tag g) plan)
     dropped =
@@ -113,7 +114,7 @@ module _ (plan : rules.Plan) (ids : IndexOf Tag) (names : IndexOf (set.BTreeSet 
             sound = dropped-sound g plan held_is.sound;
             tags = λ q. out q ∙ ap (λ j. cond (is_id j q) None (indexed ids q)) is_own ∙ ap (λ b. cond b None (indexed ids q)) (id_is (identity_of ys) q)
                 ∙ ap (cond (same_id (identity_of ys) q) None) (held_is.tags q) ∙ sym (tags-dropped q);
-            named = names-dropped after (subst (λ l. ForgetsAll l names after) links forgets);
+            named = names-dropped after forgets;
             full = full;
           });
         }

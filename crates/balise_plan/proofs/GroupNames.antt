@@ -12,11 +12,14 @@ use Rattle.balise_rules.specs.Telegram.{Telegram, version_of}
 use Rattle.balise_rules.specs.Plan.{Group, IsSoundGroup, SoundFrom, identity_of, country_of}
 use Rattle.balise_rules.specs.Names.{is_real, links_of}
 use Rattle.balise_rules.proofs.Tests.{test-sym, tag_test, nat_test, id_test}
-use Rattle.balise_plan.specs.declared.links.LinkPlace.{LinkPlace}
-use Rattle.balise_plan.specs.Links.{is_id, is_place, named_in_packet, named_in_telegram}
+use Rattle.balise_index.specs.declared.link_place.LinkPlace.{LinkPlace}
+use Rattle.balise_index.specs.Identities.{is_id}
+use Rattle.balise_index.specs.Places.{is_place}
+use Rattle.balise_plan.specs.Links.{named_in_packet, named_in_telegram}
 use Rattle.balise_plan.specs.PacketLinks.{is_in, is_item}
 use Rattle.balise_plan.specs.GroupLinks.{listed, links_from, links_in_packets, links_in_group}
-use Rattle.balise_plan.proofs.Comparing.{id_is, place_is}
+use Rattle.balise_index.proofs.identities.Equal.{id_is}
+use Rattle.balise_index.proofs.places.Equal.{place_is}
 use Rattle.balise_plan.proofs.GroupLists.{listed-append}
 use Rattle.balise_plan.proofs.LinksAt.{links-at}
 use Rattle.balise_plan.proofs.Identified.{in-packet}
@@ -122,7 +125,7 @@ module _ (g : Tag) (t : ℕ) (p : Tag) (q : Id) (w : LinkPlace) where
       more : Bool
       more = is_real q && (is_in g t p w && is_item q (at_from (suc k) is w.element))
 
-  of-packet : (c : ℕ) (x : Packet) → Numbered x.fields → listed q w (links_from g t p 0 (links_of c x)) ≡ (is_real q && (is_in g t p w && named_in_packet c q w.element (Some x)))
+  pub of-packet : (c : ℕ) (x : Packet) → Numbered x.fields → listed q w (links_from g t p 0 (links_of c x)) ≡ (is_real q && (is_in g t p w && named_in_packet c q w.element (Some x)))
   of-packet c x u =
       from-k 0 (links_of c x)
       ∙ ap (λ o. is_real q && (is_in g t p w && is_item q o)) (at-get 0 (links_of c x) w.element w.element (omega arith) ∙ links-at c w.element x u)

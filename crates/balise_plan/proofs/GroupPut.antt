@@ -16,11 +16,12 @@ use Rattle.balise_rules.proofs.Tests.{split_on, split_keys, flip_no, test-sym, e
 use Rattle.balise_rules.proofs.Cases.{unsome, parts3}
 use Rattle.balise_edit_laws.proofs.Naming.{no_group_from}
 use Rattle.balise_edit_laws.proofs.Identities.{AllApart, differ_apart, apart_differ}
-use Rattle.balise_plan.specs.declared.links.LinkPlace.{LinkPlace}
-use Rattle.balise_plan.specs.Links.{IndexOf, indexed, is_id, held, named_at, named_in_telegram, AreFull}
+use Rattle.balise_index.specs.declared.link_place.LinkPlace.{LinkPlace}
+use Rattle.balise_index.specs.Identities.{IndexOf, indexed, is_id}
+use Rattle.balise_plan.specs.Links.{held, named_at, named_in_telegram, AreFull}
 use Rattle.balise_plan.specs.GroupLinks.{listed, links_in_group, AddsAll}
 use Rattle.balise_plan.specs.Held.{IsHeld, tag_named}
-use Rattle.balise_plan.proofs.Comparing.{id_is}
+use Rattle.balise_index.proofs.identities.Equal.{id_is}
 use Rattle.balise_plan.proofs.GroupDropped.{no-tag}
 use Rattle.balise_plan.proofs.GroupNames.{listed-names}
 use Rattle.balise_plan.proofs.Identified.{tag-named, named-found}
@@ -38,9 +39,9 @@ module _ (plan : rules.Plan) (ids : IndexOf Tag) (names : IndexOf (set.BTreeSet 
   named w q o = is_real q && named_in_telegram q w (option_and_then (find eqb w.telegram) o)
 
   -- none of its links is noted
-  pub none-noted : (ls : List (Id × LinkPlace)) → ls ≡ links_in_group g ys → (q : Id) (w : LinkPlace) → listed q w ls ≡ true → held names q w ≡ false
-  none-noted ls links q w e =
-      let h = parts3 (is_real q) (same_tag g w.group) (named_in_telegram q w (find eqb w.telegram ys)) (sym (listed-names g ys good q w) ∙ ap (listed q w) (sym links) ∙ e) in
+  pub none-noted : (q : Id) (w : LinkPlace) → listed q w (links_in_group g ys) ≡ true → held names q w ≡ false
+  none-noted q w e =
+      let h = parts3 (is_real q) (same_tag g w.group) (named_in_telegram q w (find eqb w.telegram ys)) (sym (listed-names g ys good q w) ∙ e) in
       held_is.named q w ∙ ap (named w q) (ap (λ u. find same_tag u plan) (sym (tag_test.one g w.group h.1)) ∙ absent) ∙ and-none (is_real q)
 
   module _ (free : group_named (identity_of ys) plan ≡ None) (new : rules.Plan) (b : Between (g, ys) plan new) where
@@ -106,7 +107,7 @@ module _ (plan : rules.Plan) (ids : IndexOf Tag) (names : IndexOf (set.BTreeSet 
         either true false = refl
         either false x = refl
 
-  module _ (free : group_named (identity_of ys) plan ≡ None) (ls : List (Id × LinkPlace)) (links : ls ≡ links_in_group g ys) (after : IndexOf (set.BTreeSet LinkPlace)) (full : AreFull after) (adds : AddsAll ls names after) (i : Id) (is_own : i ≡ identity_of ys) (left : IndexOf Tag) (put : (q : Id) → indexed left q ≡ cond (is_id i q) (Some g) (indexed ids q)) where
+  module _ (free : group_named (identity_of ys) plan ≡ None) (after : IndexOf (set.BTreeSet LinkPlace)) (full : AreFull after) (adds : AddsAll (links_in_group g ys) names after) (i : Id) (is_own : i ≡ identity_of ys) (left : IndexOf Tag) (put : (q : Id) → indexed left q ≡ cond (is_id i q) (Some g) (indexed ids q)) where
     pub held-inserted : (n : ℕ) → IsHeld left after (insert plan n (g, ys))
     held-inserted n =
         let new = insert plan n (g, ys) in
@@ -115,6 +116,6 @@ module _ (plan : rules.Plan) (ids : IndexOf Tag) (names : IndexOf (set.BTreeSet 
           sound = put-sound free new b;
           tags = λ q. put q ∙ ap (λ j. cond (is_id j q) (Some g) (indexed ids q)) is_own ∙ ap (λ x. cond x (Some g) (indexed ids q)) (id_is (identity_of ys) q)
               ∙ ap (cond (same_id (identity_of ys) q) (Some g)) (held_is.tags q) ∙ sym (tags-put free new b q);
-          named = names-put free new b after (subst (λ l. AddsAll l names after) links adds);
+          named = names-put free new b after adds;
           full = full;
         }

@@ -17,13 +17,13 @@ use Rattle.balise_rules.specs.Edits.{SetHead, telegram_after}
 use Rattle.balise_edit_laws.proofs.Refusing.{refused_exactly}
 use Rattle.balise_edit_laws.proofs.GroupsKept.{telegram_kept}
 use Rattle.balise_telegram.specs.Setting.{SetsHead}
-use Rattle.balise_plan.specs.declared.links.LinkPlace.{LinkPlace}
+use Rattle.balise_index.specs.declared.link_place.LinkPlace.{LinkPlace}
 use Rattle.balise_plan.specs.Within.{Within, Passed, no_telegram}
 use Rattle.balise_plan.specs.Held.{IsHeld}
 use Rattle.balise_plan.proofs.Replaced.{Replaces, held-kept}
 use Rattle.balise_plan.proofs.Answered.{Outcome, Refused, well, ill, by-telegram}
 use Rattle.balise_plan.proofs.TelegramEdits.{head-at, head-other, head-refused, head-lacking}
-use Rattle.balise_plan.specs.Links.{IndexOf}
+use Rattle.balise_index.specs.Identities.{IndexOf}
 
 module _ (plan : rules.Plan) (ids : IndexOf Tag) (names : IndexOf (set.BTreeSet LinkPlace)) (held_is : IsHeld ids names plan) (g : Tag) (t : ℕ) (v : Var) (n : ℕ) (ys zs : Group) (here : find same_tag g plan ≡ Some ys) where
   pub refused : (e : Refusal) → Within eqb t no_telegram (Passed (SetsHead v n)) ys (Err e) zs → Refused (SetHead g t v n) plan (set_value (same_tag g) plan zs) e

@@ -18,7 +18,7 @@ use Rattle.balise_rules.proofs.Lists.{find-each}
 use Rattle.balise_rules.proofs.Cases.{unsome}
 use Rattle.balise_edit_laws.proofs.Naming.{no_group_from}
 use Rattle.balise_rules.proofs.Each.{found_later}
-use Rattle.balise_plan.specs.declared.links.LinkPlace.{LinkPlace}
+use Rattle.balise_index.specs.declared.link_place.LinkPlace.{LinkPlace}
 use Rattle.balise_plan.specs.Links.{named_at, named_in_telegram, named_in_packet}
 
 abbrev pub id_in_packet : ℕ → ℕ → Packet → Option Id

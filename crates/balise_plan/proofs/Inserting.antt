@@ -8,9 +8,9 @@ use Rattle.balise_rules.specs.Tags.{same_tag}
 use Rattle.balise_rules.specs.Packet.{Packet, width}
 use Rattle.balise_rules.specs.Telegram.{used}
 use Rattle.balise_rules.proofs.Tests.{split_on, flip_no, tag_test}
-use Rattle.balise_plan.specs.declared.spot.Spot.{Spot}
-use Rattle.balise_plan.specs.declared.spot.Spot.TheVariants.{After, Before}
-use Rattle.balise_plan.specs.Spots.{put_in, spot_stands}
+use Rattle.balise_index.specs.declared.spot.Spot.{Spot}
+use Rattle.balise_index.specs.declared.spot.Spot.TheVariants.{After, Before}
+use Rattle.balise_index.specs.AtSpot.{put_in, spot_stands}
 
 -- z stands between two parts of a list
 pub record Between {A : Type 0} (z : Tag × A) (xs ys : List (Tag × A)) : Type 0 where

@@ -7,9 +7,9 @@ use Rattle.balise_rules.specs.declared.tag.Tag.TheVariants.{Base}
 use Rattle.balise_rules.specs.Tagged.{find}
 use Rattle.balise_rules.specs.Tags.{same_tag}
 use Rattle.balise_rules.specs.Plan.{Group, Plan}
-use Rattle.balise_plan.specs.declared.links.LinkPlace.{LinkPlace}
+use Rattle.balise_index.specs.declared.link_place.LinkPlace.{LinkPlace}
 use Rattle.balise_plan.specs.Held.{IsHeld, IsKept, IsBased}
-use Rattle.balise_plan.specs.Links.{IndexOf}
+use Rattle.balise_index.specs.Identities.{IndexOf}
 
 -- a change is counted
 pub changed : {ids : IndexOf Tag} {names : IndexOf (set.BTreeSet LinkPlace)} {groups : Plan} (n : ℕ) → IsHeld ids names groups → IsKept ids names groups (n + 1)

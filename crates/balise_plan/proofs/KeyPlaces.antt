@@ -8,9 +8,9 @@ use Rattle.balise_rules.proofs.Tests.{IsTest, split_on}
 use Rattle.balise_rules.proofs.Lists.{without-absent}
 use Rattle.balise_rules.specs.declared.tag.Tag.{Tag}
 use Rattle.balise_rules.specs.Tags.{same_tag}
-use Rattle.balise_plan.specs.declared.spot.Spot.{Spot}
-use Rattle.balise_plan.specs.declared.spot.Spot.TheVariants.{After, Before}
-use Rattle.balise_plan.specs.Spots.{put_in}
+use Rattle.balise_index.specs.declared.spot.Spot.{Spot}
+use Rattle.balise_index.specs.declared.spot.Spot.TheVariants.{After, Before}
+use Rattle.balise_index.specs.AtSpot.{put_in}
 use Rattle.balise_plan.proofs.Spots.{At}
 
 first-key : {K A : Type 0} (test : K → Bool) (xs : List (K × A)) (i : ℕ) (d : K) → i < length (keys_of xs) → test (get_or (keys_of xs) i d) ≡ true

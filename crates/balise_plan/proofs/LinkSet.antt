@@ -31,15 +31,16 @@ use Rattle.balise_edit_laws.proofs.GroupsKept.{telegram_kept}
 use Rattle.balise_layout.specs.Held.{with_field as with_packet_field}
 use Rattle.balise_telegram.specs.Packed.{links_at, links_found}
 use Rattle.balise_telegram.specs.Setting.{SetsField, field_at}
-use Rattle.balise_plan.specs.declared.links.LinkPlace.{LinkPlace}
-use Rattle.balise_plan.specs.Links.{IndexOf, held, named_at, named_in_packet, AreFull, Keeps}
-use Rattle.balise_plan.specs.LinksIn.{LinksIn, NoLinks}
+use Rattle.balise_index.specs.declared.link_place.LinkPlace.{LinkPlace}
+use Rattle.balise_index.specs.Identities.{IndexOf}
+use Rattle.balise_plan.specs.Links.{held, named_at, named_in_packet, AreFull, Keeps}
+use Rattle.balise_plan.specs.ElementIn.{NoTelegram}
 use Rattle.balise_plan.specs.PacketLinks.{is_in}
 use Rattle.balise_plan.specs.Relinking.{AddsReal, ForgetsOther, element_at, unnamed}
 use Rattle.balise_plan.specs.Within.{Within, Passed, no_telegram}
 use Rattle.balise_plan.specs.Held.{IsHeld}
 use Rattle.balise_plan.proofs.Answered.{Outcome, well, at-group}
-use Rattle.balise_plan.proofs.Comparing.{place_is}
+use Rattle.balise_index.proofs.places.Equal.{place_is}
 use Rattle.balise_plan.proofs.Identified.{country-each}
 use Rattle.balise_plan.proofs.LinksAll.{named-inside, numbered}
 use Rattle.balise_plan.proofs.LinksAt.{links-at}
@@ -96,10 +97,9 @@ parted true false d e x y z h k = refl
 parted false b d e x y z h k = refl
 
 module _ (plan : rules.Plan) (ids : IndexOf Tag) (names : IndexOf (set.BTreeSet LinkPlace)) (held_is : IsHeld ids names plan) (g : Tag) (t : ℕ) (p : Tag) (k n : ℕ) (ys : Group) (here : find same_tag g plan ≡ Some ys) where
-  -- the links of the packet weren't told
-  pub untold : (e : Refusal) → NoLinks t ys e → (e ≡ refusals.OutOfMemory) ⊎ (refusal (SetVar g t p NidBg k n) plan ≡ Some e)
-  untold e (inl q) = inl q
-  untold e (inr q) = inr (absent-is g t p NidBg k n plan ys here q.1 ∙ ap Some (sym q.0))
+  -- no telegram stands there
+  pub untold : (e : Refusal) → NoTelegram t ys e → refusal (SetVar g t p NidBg k n) plan ≡ Some e
+  untold e q = absent-is g t p NidBg k n plan ys here q.1 ∙ ap Some (sym q.0)
 
   -- a number that was set fits
   pub narrow : (zs : Group) (was : ℕ) → Within eqb t no_telegram (Passed (SetsField p NidBg k n)) ys (Ok was) zs → n < 2 ^ 14
@@ -109,7 +109,7 @@ module _ (plan : rules.Plan) (ids : IndexOf Tag) (names : IndexOf (set.BTreeSet 
       let accepted : Accepted (SetVar g t p NidBg k n) plan = (refused_exactly (SetVar g t p NidBg k n) plan held_is.sound).0 ok in
       ltb-true n 16384 accepted.0.1
 
-  module _ (ls : List Id) (links : LinksIn t p ys ls) where
+  module _ (ls : List Id) (links : (y : Telegram) × (find eqb t ys ≡ Some y) × (ls ≡ links_at p y)) where
     abbrev to : Id
     to = record { country = (element_at ls k).country; number = n }
 

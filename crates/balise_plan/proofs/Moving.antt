@@ -4,9 +4,10 @@ use Rattle.std.specs.BTreeSet as set
 use Rattle.std.specs.Option.{IfSome}
 use Rattle.balise_rules.specs.declared.identity.Id.{Id}
 use Rattle.balise_rules.proofs.Tests.{split_on}
-use Rattle.balise_plan.specs.declared.links.LinkPlace.{LinkPlace}
-use Rattle.balise_plan.specs.Links.{IndexOf, indexed, in_links, is_id, AreFull, Moves}
-use Rattle.balise_plan.proofs.Comparing.{id_one}
+use Rattle.balise_index.specs.declared.link_place.LinkPlace.{LinkPlace}
+use Rattle.balise_index.specs.Identities.{IndexOf, indexed, is_id}
+use Rattle.balise_plan.specs.Links.{in_links, AreFull, Moves}
+use Rattle.balise_index.proofs.identities.Equal.{id_one}
 
 abbrev Index : Type 0
 Index = IndexOf (set.BTreeSet LinkPlace)

@@ -25,35 +25,25 @@ use Rattle.balise_telegram.specs.declared.fault.TelegramFault.{TelegramFault}
 use Rattle.balise_telegram.specs.Faults.{refusal_of}
 use Rattle.balise_telegram.specs.Changes.{InsertsOrWants}
 use Rattle.balise_telegram.specs.Moving.{insert_refusal}
-use Rattle.balise_plan.specs.declared.links.LinkPlace.{LinkPlace}
-use Rattle.balise_plan.specs.declared.spot.Spot.{Spot}
-use Rattle.balise_plan.specs.Links.{IndexOf, AreFull, Keeps}
-use Rattle.balise_plan.specs.PacketLinks.{Adds, Lacks}
+use Rattle.balise_index.specs.declared.link_place.LinkPlace.{LinkPlace}
+use Rattle.balise_index.specs.declared.spot.Spot.{Spot}
+use Rattle.balise_index.specs.Identities.{IndexOf}
+use Rattle.balise_plan.specs.Links.{held, AreFull, Keeps}
+use Rattle.balise_plan.specs.GroupLinks.{listed, links_from, AddsAll, ForgetsAll, KeepsOthers}
+use Rattle.balise_plan.proofs.GroupLists.{taken_back}
 use Rattle.balise_plan.specs.PutsIn.{PutsIn, no_telegram, passed}
-use Rattle.balise_plan.specs.Spots.{put_in, put_refusal, spot_stands}
+use Rattle.balise_index.specs.AtSpot.{put_in, spot_stands}
+use Rattle.balise_plan.specs.Spots.{put_refusal}
 use Rattle.balise_plan.specs.Within.{Within}
 use Rattle.balise_plan.specs.Held.{IsHeld}
 use Rattle.balise_plan.proofs.Replaced.{Replaces, with_telegram, held-put}
 use Rattle.balise_plan.proofs.Answered.{spoken, by-telegram}
 use Rattle.balise_plan.proofs.TelegramEdits.{here, put-refused, put-lacking}
 use Rattle.balise_plan.proofs.Inserting.{find-put_other, find-put_itself, distinct-put_in, all-put_in, used-put_in}
-use Rattle.balise_plan.proofs.LinksAll.{added, lacks, links-within}
+use Rattle.balise_plan.proofs.LinksAll.{added, none-noted}
 
 pub held-keeps : (ids : IndexOf Tag) (names after : IndexOf (set.BTreeSet LinkPlace)) (plan : rules.Plan) → IsHeld ids names plan → AreFull after → Keeps names after → IsHeld ids after plan
 held-keeps ids names after plan h full k = record { sound = h.sound; tags = h.tags; named = λ q w. k q w ∙ h.named q w; full = full }
-
--- a spelt packet has few links
-narrow : (version : ℕ) (x : Packet) → IsSpelt version x → width x < 8192
-unfolding width_of
-narrow version x s =
-    found (field_of LPacket 0 x.fields)
-    (λ e. let z : 0 ≡ width x = ap (λ o. unwrap_or o 0) (sym e) ∙ s.said in omega (arith, z))
-    (λ n e. let z : n ≡ width x = ap (λ o. unwrap_or o 0) (sym e) ∙ s.said in
-    let f = ltb-true n 8192 (field_fits _ x.fields x.rest s.form (LPacket, 0) n e) in
-    omega (arith, z, f))
-
-pub links-narrow : (version c : ℕ) (x : Packet) → IsSpelt version x → length (links_of c x) < 4294967296
-links-narrow version c x s = omega (arith, narrow version x s, links-within c x)
 
 -- what no refusal says
 fits-in : (there : Bool) (x : Packet) (y : Telegram) → insert_refusal there x y ≡ None → (there ≡ true) × (nat_lt (room y) (width x) ≡ false)
@@ -124,11 +114,17 @@ module _ (plan : rules.Plan) (ids : IndexOf Tag) (names : IndexOf (set.BTreeSet 
         by None h e = absurd cc
         by (Some y) h e = (y, at (Some y) h, unsome e)
 
-    pub few-put : (ls : List Id) → ls ≡ links_of c x → length ls < 4294967296
-    few-put ls e = let l : length ls ≡ length (links_of c x) = ap length e in let n = links-narrow (version_of there.0) c x (spelt there.0 there.1) in omega (arith, l, n)
+    -- none of its links is noted
+    none-put : (q : Id) (w : LinkPlace) → listed q w (links_from g t p 0 (links_of c x)) ≡ true → held names q w ≡ false
+    none-put = subst (λ (d : ℕ). (q : Id) (w : LinkPlace) → listed q w (links_from g t p 0 (links_of d x)) ≡ true → held names q w ≡ false) (sym there.2)
+        (none-noted g t p plan held_is.sound there.0 there.1 names names held_is.named x (fresh there.0 there.1) (spelt there.0 there.1).numbered)
 
-    pub lacks-put : Lacks g t p names
-    lacks-put = lacks g t p plan held_is.sound there.0 there.1 names names held_is.named x (links_of (country_of there.0) x) refl (fresh there.0 there.1)
+    -- what was noted of them, in part or all, and forgotten again
+    pub kept-put : (a b : Packet) → a ≡ x → b ≡ x → (mid after : IndexOf (set.BTreeSet LinkPlace)) → KeepsOthers (links_from g t p 0 (links_of c a)) names mid → ForgetsAll (links_from g t p 0 (links_of c b)) mid after → Keeps names after
+    kept-put a b d e mid after o f =
+        taken_back (links_from g t p 0 (links_of c x)) names mid after none-put
+        (subst (λ (z : Packet). KeepsOthers (links_from g t p 0 (links_of c z)) names mid) d o)
+        (subst (λ (z : Packet). ForgetsAll (links_from g t p 0 (links_of c z)) mid after) e f)
 
     module _ (zs : Group) where
       pub put-failed : (e : Refusal × Packet) → Within eqb t (no_telegram x) (PutsIn s p x) ys (Err e) zs → PutFailed g t s x plan (set_value (same_tag g) plan zs) e
@@ -149,9 +145,9 @@ module _ (plan : rules.Plan) (ids : IndexOf Tag) (names : IndexOf (set.BTreeSet 
               or (inl m) = inl m
               or (inr m) = inr (put-refused g t plan ys group s x y h ∙ m)
 
-      pub put-done : (u : Unit) → Within eqb t (no_telegram x) (PutsIn s p x) ys (Ok u) zs → (ls : List Id) → ls ≡ links_of c x → (after : IndexOf (set.BTreeSet LinkPlace)) → AreFull after → Adds g t p ls (length ls) names after →
+      pub put-done : (u : Unit) → Within eqb t (no_telegram x) (PutsIn s p x) ys (Ok u) zs → (after : IndexOf (set.BTreeSet LinkPlace)) → AreFull after → AddsAll (links_from g t p 0 (links_of c x)) names after →
           PutOutcome g t s p x ids after plan (set_value (same_tag g) plan zs)
-      put-done u w ls all after full adds =
+      put-done u w after full adds =
           spoken g t plan held_is.sound ys zs group (no_telegram x) (PutsIn s p x) (Ok u) w
           (λ n r i. absurd cc)
           (λ y z h c i j. by y z h c.answer c.call c.is i)
@@ -173,5 +169,5 @@ module _ (plan : rules.Plan) (ids : IndexOf Tag) (names : IndexOf (set.BTreeSet 
                 held = subst (IsHeld ids after) (sym j) (held-put plan held_is.sound g t y z h replaces ids names held_is p (Some x)
                     (body p ∙ find-put_itself s (p, x) y.packets f.0 absent)
                     (λ r d. body r ∙ find-put_other s (p, x) y.packets f.0 r d) after full
-                    (added g t p plan held_is.sound y h names after held_is.named x ls (all ∙ ap (λ b. links_of b x) country) absent word.numbered adds));
+                    (added g t p plan held_is.sound y h names after held_is.named x absent word.numbered (subst (λ (d : ℕ). AddsAll (links_from g t p 0 (links_of d x)) names after) country adds)));
               }

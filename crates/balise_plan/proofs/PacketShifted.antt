@@ -31,9 +31,9 @@ use Rattle.balise_telegram.specs.declared.fault.TelegramFault.TheVariants as fau
 use Rattle.balise_telegram.specs.Faults.{refusal_of}
 use Rattle.balise_telegram.specs.Changes.{OrWants}
 use Rattle.balise_telegram.specs.Moving.{Shifts, ShiftsBefore, shift_before_refusal, moved_before}
-use Rattle.balise_plan.specs.declared.links.LinkPlace.{LinkPlace}
-use Rattle.balise_plan.specs.declared.spot.Spot.{Spot}
-use Rattle.balise_plan.specs.declared.spot.Spot.TheVariants.{After, Before}
+use Rattle.balise_index.specs.declared.link_place.LinkPlace.{LinkPlace}
+use Rattle.balise_index.specs.declared.spot.Spot.{Spot}
+use Rattle.balise_index.specs.declared.spot.Spot.TheVariants.{After, Before}
 use Rattle.balise_plan.specs.PutsIn.{ShiftsIn}
 use Rattle.balise_plan.specs.Spots.{shift_refusal, shifted}
 use Rattle.balise_plan.specs.Within.{Within, Passed, no_telegram}
@@ -43,7 +43,7 @@ use Rattle.balise_plan.proofs.Answered.{Outcome, Failed, Ill, well, ill, by-tele
 use Rattle.balise_plan.proofs.TelegramEdits.{here, delete-at, move-at, move-other, move-refused, move-lacking, before-refused, before-lacking}
 use Rattle.balise_plan.proofs.Inserting.{find-put_other, find-put_itself}
 use Rattle.balise_plan.proofs.PacketPut.{kept}
-use Rattle.balise_plan.specs.Links.{IndexOf}
+use Rattle.balise_index.specs.Identities.{IndexOf}
 
 -- ---- before a neighbour, in one telegram
 

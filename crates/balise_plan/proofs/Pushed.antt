@@ -7,13 +7,13 @@ use Rattle.balise_rules.specs.declared.refusal.Refusal.{Refusal}
 use Rattle.balise_rules.specs.declared.refusal.Refusal.TheVariants.{OutOfMemory}
 use Rattle.balise_rules.specs.Plan.{Group, Plan, pushed, pushed_all, read_group, read_plan, with_group}
 use Rattle.balise_plan.specs.GroupReading.{PushesGroup}
-use Rattle.balise_plan.specs.declared.links.LinkPlace.{LinkPlace}
+use Rattle.balise_index.specs.declared.link_place.LinkPlace.{LinkPlace}
 use Rattle.balise_plan.specs.Held as held
 use Rattle.balise_plan.specs.Held.{IsKept, IsBased, IsHeld}
 use Rattle.balise_plan.specs.Spots.{Pushes}
 use Rattle.balise_plan.proofs.Kept.{based-more}
 use Rattle.balise_plan.proofs.KeyPlaces.{end-place}
-use Rattle.balise_plan.specs.Links.{IndexOf}
+use Rattle.balise_index.specs.Identities.{IndexOf}
 
 -- one more group is tagged by its place
 pub kept-more : {ids left : IndexOf Tag} {names after : IndexOf (set.BTreeSet LinkPlace)} {plan groups : Plan} {changes : ℕ} → IsKept ids names plan changes → (ys : Group) (n : ℕ) → n ≡ length plan → groups ≡ insert plan n (Base n, ys) → IsHeld left after groups → IsKept left after groups changes

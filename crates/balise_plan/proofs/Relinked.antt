@@ -13,11 +13,14 @@ use Rattle.balise_rules.specs.Names.{is_real, links_of}
 use Rattle.balise_rules.proofs.Tests.{split_on, tag_test, nat_test, id_test, test-sym}
 use Rattle.balise_rules.proofs.Cases.{found}
 use Rattle.balise_telegram.specs.Packed.{links_at, links_found}
-use Rattle.balise_plan.specs.declared.links.LinkPlace.{LinkPlace}
-use Rattle.balise_plan.specs.Links.{IndexOf, held, is_id, is_place, named_at, named_in_packet, Keeps}
+use Rattle.balise_index.specs.declared.link_place.LinkPlace.{LinkPlace}
+use Rattle.balise_index.specs.Identities.{IndexOf, is_id}
+use Rattle.balise_index.specs.Places.{is_place}
+use Rattle.balise_plan.specs.Links.{held, named_at, named_in_packet, Keeps}
 use Rattle.balise_plan.specs.PacketLinks.{is_in}
 use Rattle.balise_plan.specs.Relinking.{AddsReal, ForgetsOther, element_at, unnamed}
-use Rattle.balise_plan.proofs.Comparing.{id_is, place_one}
+use Rattle.balise_index.proofs.identities.Equal.{id_is}
+use Rattle.balise_index.proofs.places.Equal.{place_one}
 use Rattle.balise_plan.proofs.Identified.{is_the, in-packet}
 use Rattle.balise_plan.proofs.LinksAt.{links-at}
 use Rattle.balise_plan.proofs.LinksAll.{named-inside, numbered}

@@ -30,14 +30,15 @@ use Rattle.balise_edit_laws.proofs.Naming.{no_group_from, no_group_to, no_name_f
 use Rattle.balise_edit_laws.proofs.Identities.{differ_apart}
 use Rattle.balise_edit_laws.proofs.Refusing.{refused_exactly}
 use Rattle.balise_edit_laws.proofs.SoundKept.{groups_kept, sound_parts}
-use Rattle.balise_plan.specs.declared.links.LinkPlace.{LinkPlace}
-use Rattle.balise_plan.specs.declared.change.Change.TheVariants.{Name}
-use Rattle.balise_plan.specs.Links.{IndexOf, indexed, is_id, held, in_links, named_at, Moves, AreFull}
+use Rattle.balise_index.specs.declared.link_place.LinkPlace.{LinkPlace}
+use Rattle.balise_plan.specs.declared.links.change.Change.TheVariants.{Name}
+use Rattle.balise_index.specs.Identities.{IndexOf, indexed, is_id}
+use Rattle.balise_plan.specs.Links.{held, in_links, named_at, Moves, AreFull}
 use Rattle.balise_plan.specs.Walks.{change_all, places_of, renumbered_heads}
 use Rattle.balise_plan.specs.Held.{IsHeld, tag_named}
-use Rattle.balise_plan.proofs.Comparing.{id_one, id_is, id_itself}
+use Rattle.balise_index.proofs.identities.Equal.{id_one, id_is, id_itself}
 use Rattle.balise_plan.proofs.Walking.{among_after, change-all, all-same, all-name, found-each}
-use Rattle.balise_plan.specs.Walks.{among}
+use Rattle.balise_index.specs.Places.{among}
 use Rattle.balise_plan.proofs.Renaming.{keyed, renumber-is}
 use Rattle.balise_plan.proofs.Identified.{id_at, is_the, named-is, id-after, tag-named, named-found}
 use Rattle.balise_plan.proofs.Told.{untold, told}

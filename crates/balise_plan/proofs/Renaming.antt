@@ -15,12 +15,12 @@ use Rattle.balise_rules.specs.Edits.{Renumber, effect, field_after, head_after}
 use Rattle.balise_rules.proofs.Tests.{split_on, tag_test, nat_test, key_test, var_test}
 use Rattle.balise_rules.proofs.Found.{group_sound, placed, packet_spelt, fields_distinct, head_distinct}
 use Rattle.balise_edit_laws.proofs.Headers.{header_once}
-use Rattle.balise_plan.specs.declared.links.LinkPlace.{LinkPlace}
-use Rattle.balise_plan.specs.declared.change.Change.TheVariants.{Name}
+use Rattle.balise_index.specs.declared.link_place.LinkPlace.{LinkPlace}
+use Rattle.balise_plan.specs.declared.links.change.Change.TheVariants.{Name}
 use Rattle.balise_plan.specs.Links.{named_at, named_in_telegram, named_in_packet}
 use Rattle.balise_plan.specs.Walks.{renumbered_heads}
 use Rattle.balise_plan.proofs.Walking.{Keyed, among_after, place, all_fields, packet_fields, group_fields, parts, each-each, each-found, cond-each}
-use Rattle.balise_plan.specs.Walks.{among}
+use Rattle.balise_index.specs.Places.{among}
 
 pub keyed : (plan : Plan) → IsSound plan → Keyed plan
 keyed plan s = record {

@@ -22,8 +22,9 @@ use Rattle.balise_rules.proofs.Found.{group_sound, stood, place_is}
 use Rattle.balise_rules.specs.Plan.{IsSoundGroup}
 use Rattle.balise_edit_laws.proofs.GroupsKept.{GroupKept, sound_each, sound_as}
 use Rattle.balise_edit_laws.proofs.Identities.{differ_apart, apart_differ, apart_each}
-use Rattle.balise_plan.specs.declared.links.LinkPlace.{LinkPlace}
-use Rattle.balise_plan.specs.Links.{IndexOf, held, named_at, named_in_packet, named_in_telegram, AreFull}
+use Rattle.balise_index.specs.declared.link_place.LinkPlace.{LinkPlace}
+use Rattle.balise_index.specs.Identities.{IndexOf}
+use Rattle.balise_plan.specs.Links.{held, named_at, named_in_packet, named_in_telegram, AreFull}
 use Rattle.balise_plan.specs.PacketLinks.{is_in}
 use Rattle.balise_plan.specs.Held.{IsHeld, tag_named}
 use Rattle.balise_plan.proofs.Renamed.{telegram-each}

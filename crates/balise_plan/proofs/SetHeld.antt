@@ -18,12 +18,12 @@ use Rattle.balise_rules.specs.Edits.{SetVar, effect, field_after, telegram_after
 use Rattle.balise_rules.proofs.Tests.{split_on, var_test}
 use Rattle.balise_edit_laws.proofs.Refusing.{refused_exactly}
 use Rattle.balise_edit_laws.proofs.SoundKept.{groups_kept, sound_parts}
-use Rattle.balise_plan.specs.declared.links.LinkPlace.{LinkPlace}
+use Rattle.balise_index.specs.declared.link_place.LinkPlace.{LinkPlace}
 use Rattle.balise_plan.specs.Held.{IsHeld}
 use Rattle.balise_plan.proofs.Renamed.{telegram-each}
 use Rattle.balise_plan.proofs.Turned.{tags-kept, map-id}
 use Rattle.balise_plan.proofs.Identified.{id_at, is_the, named-is, id-after}
-use Rattle.balise_plan.specs.Links.{IndexOf}
+use Rattle.balise_index.specs.Identities.{IndexOf}
 
 off : (a b c d : Bool) → d ≡ false → (a && (b && (c && d))) ≡ false
 off true true true d e = e

@@ -21,9 +21,10 @@ use Rattle.balise_rules.proofs.Tests.{split_on, tag_test, nat_test}
 use Rattle.balise_rules.proofs.Each.{each-id, each-same}
 use Rattle.balise_telegram.specs.Setting.{head_refusal, with_field, with_head}
 use Rattle.balise_telegram.specs.Moving.{shift_refusal, shift_before_refusal, same_place_before, insert_refusal}
-use Rattle.balise_plan.specs.declared.spot.Spot.{Spot}
-use Rattle.balise_plan.specs.declared.spot.Spot.TheVariants.{Before}
-use Rattle.balise_plan.specs.Spots.{put_refusal, spot_stands, shift_refusal as plan_shift_refusal}
+use Rattle.balise_index.specs.declared.spot.Spot.{Spot}
+use Rattle.balise_index.specs.declared.spot.Spot.TheVariants.{Before}
+use Rattle.balise_index.specs.AtSpot.{spot_stands}
+use Rattle.balise_plan.specs.Spots.{put_refusal, shift_refusal as plan_shift_refusal}
 use Rattle.balise_plan.proofs.Placing.{set-packet}
 use Rattle.balise_plan.proofs.Walking.{parts}
 use Rattle.balise_plan.proofs.Walking as walking

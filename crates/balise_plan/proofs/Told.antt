@@ -13,10 +13,12 @@ use Rattle.balise_rules.specs.Plan.{Plan, IsSound, country_of, telegram_at}
 use Rattle.balise_rules.specs.Names.{Names, is_named, is_real, is_it, calls, country_at}
 use Rattle.balise_rules.proofs.Tests.{split_on, id_test}
 use Rattle.balise_edit_laws.proofs.Naming.{no_name_from, no_name_to}
-use Rattle.balise_plan.specs.declared.links.LinkPlace.{LinkPlace}
-use Rattle.balise_plan.specs.Links.{IndexOf, indexed, compare_place, is_place, held, in_links, named_at, named_in_telegram, named_in_packet, AreFull}
+use Rattle.balise_index.specs.declared.link_place.LinkPlace.{LinkPlace}
+use Rattle.balise_index.specs.Identities.{IndexOf, indexed}
+use Rattle.balise_index.specs.Places.{compare_place, is_place}
+use Rattle.balise_plan.specs.Links.{held, in_links, named_at, named_in_telegram, named_in_packet, AreFull}
 use Rattle.balise_plan.proofs.Walking.{place}
-use Rattle.balise_plan.proofs.Comparing.{places}
+use Rattle.balise_index.proofs.places.Equal.{places}
 
 place_itself : (w : LinkPlace) → is_place w w ≡ true
 place_itself w = places.refl w

@@ -24,13 +24,14 @@ use Rattle.balise_edit_laws.proofs.Naming.{no_group_from, no_group_to}
 use Rattle.balise_edit_laws.proofs.Refusing.{refused_exactly}
 use Rattle.balise_rules.proofs.Reversed.{find-reverse}
 use Rattle.balise_edit_laws.proofs.SoundKept.{groups_kept, sound_parts}
-use Rattle.balise_plan.specs.declared.links.LinkPlace.{LinkPlace}
-use Rattle.balise_plan.specs.declared.change.Change.TheVariants.{Flip}
-use Rattle.balise_plan.specs.Links.{IndexOf, indexed, in_links, named_at}
+use Rattle.balise_index.specs.declared.link_place.LinkPlace.{LinkPlace}
+use Rattle.balise_plan.specs.declared.links.change.Change.TheVariants.{Flip}
+use Rattle.balise_index.specs.Identities.{IndexOf, indexed}
+use Rattle.balise_plan.specs.Links.{in_links, named_at}
 use Rattle.balise_plan.specs.Walks.{change_all, places_of, turned_in, FitsTotals, FitsIn}
 use Rattle.balise_plan.specs.Held.{IsHeld, tag_named}
 use Rattle.balise_plan.proofs.Walking.{among_after, all_once, group_fields, change-all, all-same, all-flip, found-each}
-use Rattle.balise_plan.specs.Walks.{among, Once}
+use Rattle.balise_index.specs.Places.{among, Once}
 use Rattle.balise_plan.proofs.Renaming.{keyed}
 use Rattle.balise_plan.proofs.Renamed.{not_other}
 use Rattle.balise_plan.proofs.Turning.{turn-is}

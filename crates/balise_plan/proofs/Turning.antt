@@ -19,12 +19,12 @@ use Rattle.balise_rules.proofs.Lists.{find-each}
 use Rattle.balise_rules.proofs.Found.{group_sound, placed, packet_spelt, fields_distinct, head_distinct}
 use Rattle.balise_edit_laws.proofs.Headers.{header_once}
 use Rattle.balise_layout.specs.Setting.{turned}
-use Rattle.balise_plan.specs.declared.links.LinkPlace.{LinkPlace}
-use Rattle.balise_plan.specs.declared.change.Change.TheVariants.{Flip}
+use Rattle.balise_index.specs.declared.link_place.LinkPlace.{LinkPlace}
+use Rattle.balise_plan.specs.declared.links.change.Change.TheVariants.{Flip}
 use Rattle.balise_plan.specs.Links.{named_at}
 use Rattle.balise_plan.specs.Walks.{turned_in, turned_telegram, turned_telegrams, turned_head}
 use Rattle.balise_plan.proofs.Walking.{among_after, place, all_fields, packet_fields, parts, each-id, each-each, each-found, each-same}
-use Rattle.balise_plan.specs.Walks.{among}
+use Rattle.balise_index.specs.Places.{among}
 use Rattle.balise_plan.proofs.Renaming.{named_here}
 use Rattle.balise_plan.proofs.DirOnce.{dir_once}
 use Rattle.std.proofs.lemmas.Bool.{eqb-true, or_parts}

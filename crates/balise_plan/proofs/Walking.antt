@@ -7,8 +7,8 @@ use Rattle.balise_rules.specs.declared.variable.Var.{Var}
 use Rattle.balise_rules.specs.declared.variable.Var.TheVariants.{NidBg, QLinkorientation}
 use Rattle.balise_rules.specs.Tagged.{find, each, Distinct}
 use Rattle.balise_rules.specs.Tags.{Key, is_of, same_tag, same_var, same_key}
-use Rattle.balise_plan.specs.Links.{is_place}
-use Rattle.balise_plan.proofs.Comparing.{place_one, place_is}
+use Rattle.balise_index.specs.Places.{is_place, among, Once}
+use Rattle.balise_index.proofs.places.Equal.{place_one, place_is}
 use Rattle.balise_rules.specs.Forms.{Fields}
 use Rattle.balise_rules.specs.Packet.{Packet, value, field_of}
 use Rattle.balise_rules.specs.Telegram.{Telegram}
@@ -17,10 +17,10 @@ use Rattle.balise_rules.proofs.Tests.{IsTest, split_on, flip_yes, flip_no, tag_t
 use Rattle.balise_rules.proofs.Distincts.{distinct-each}
 use Rattle.balise_rules.proofs.Lists.{find-each}
 use Rattle.balise_rules.proofs.Cases.{unsome}
-use Rattle.balise_plan.specs.declared.links.LinkPlace.{LinkPlace}
-use Rattle.balise_plan.specs.declared.change.Change.{Change}
-use Rattle.balise_plan.specs.declared.change.Change.TheVariants.{Name, Flip}
-use Rattle.balise_plan.specs.Walks.{among, Once, changed, change_at, change_all}
+use Rattle.balise_index.specs.declared.link_place.LinkPlace.{LinkPlace}
+use Rattle.balise_plan.specs.declared.links.change.Change.{Change}
+use Rattle.balise_plan.specs.declared.links.change.Change.TheVariants.{Name, Flip}
+use Rattle.balise_plan.specs.Walks.{changed, change_at, change_all}
 
 pub distinct-change : (c : Change) (w : LinkPlace) (plan : Plan) → Distinct same_tag plan → Distinct same_tag (change_at c w plan)
 distinct-change c w plan u = distinct-each tag_test _ plan u

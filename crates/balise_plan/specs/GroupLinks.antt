@@ -6,8 +6,10 @@ use Rattle.balise_rules.specs.declared.tag.Tag.{Tag}
 use Rattle.balise_rules.specs.Packet.{Packet}
 use Rattle.balise_rules.specs.Plan.{Group, country_of}
 use Rattle.balise_rules.specs.Names.{is_real, links_of}
-use Rattle.balise_plan.specs.declared.links.LinkPlace.{LinkPlace}
-use Rattle.balise_plan.specs.Links.{IndexOf, held, is_id, is_place}
+use Rattle.balise_index.specs.declared.link_place.LinkPlace.{LinkPlace}
+use Rattle.balise_index.specs.Identities.{IndexOf, is_id}
+use Rattle.balise_index.specs.Places.{is_place}
+use Rattle.balise_plan.specs.Links.{held}
 
 -- those of the elements of a packet, counted on from k
 abbrev pub links_from : Tag → ℕ → Tag → ℕ → List Id → List (Id × LinkPlace)
@@ -30,6 +32,10 @@ listed q w (l ∷ ls) = (is_id l.0 q && is_place l.1 w) || listed q w ls
 -- those that are listed are in the index too
 abbrev pub AddsAll : List (Id × LinkPlace) → IndexOf (set.BTreeSet LinkPlace) → IndexOf (set.BTreeSet LinkPlace) → Type 0
 AddsAll ls old new = (q : Id) (w : LinkPlace) → held new q w ≡ (listed q w ls || held old q w)
+
+-- those that aren't listed are in it as before
+abbrev pub KeepsOthers : List (Id × LinkPlace) → IndexOf (set.BTreeSet LinkPlace) → IndexOf (set.BTreeSet LinkPlace) → Type 0
+KeepsOthers ls old new = (q : Id) (w : LinkPlace) → listed q w ls ≡ false → held new q w ≡ held old q w
 
 -- those that are listed are gone from it
 abbrev pub ForgetsAll : List (Id × LinkPlace) → IndexOf (set.BTreeSet LinkPlace) → IndexOf (set.BTreeSet LinkPlace) → Type 0

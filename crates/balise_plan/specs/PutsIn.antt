@@ -9,9 +9,9 @@ use Rattle.balise_telegram.specs.declared.fault.TelegramFault.{TelegramFault}
 use Rattle.balise_telegram.specs.Faults.{refusal_of}
 use Rattle.balise_telegram.specs.Changes.{InsertsOrWants}
 use Rattle.balise_telegram.specs.Moving.{Shifts, ShiftsBefore}
-use Rattle.balise_plan.specs.declared.spot.Spot.{Spot}
-use Rattle.balise_plan.specs.declared.spot.Spot.TheVariants.{After, Before}
-use Rattle.balise_plan.specs.Spots.{put_in, spot_stands}
+use Rattle.balise_index.specs.declared.spot.Spot.{Spot}
+use Rattle.balise_index.specs.declared.spot.Spot.TheVariants.{After, Before}
+use Rattle.balise_index.specs.AtSpot.{put_in, spot_stands}
 
 abbrev pub no_telegram : Packet → Result Unit (Refusal × Packet)
 no_telegram x = Err (NoSuchTelegram, x)

@@ -3,7 +3,7 @@ use Rattle.std.specs.Prelude.{◌≡◌, ◌⊎◌, ◌+◌, ℕ, not, nat_lt, B
 use Rattle.balise_rules.specs.declared.tag.Tag.{Tag}
 use Rattle.balise_rules.specs.declared.refusal.Refusal.{Refusal}
 use Rattle.balise_rules.specs.declared.refusal.Refusal.TheVariants.{NoSuchGroup, NoSuchPacket, NoRoom, SamePlace, GroupTwice, OutOfMemory}
-use Rattle.balise_rules.specs.Tagged.{put, put_before, stands}
+use Rattle.balise_rules.specs.Tagged.{stands}
 use Rattle.balise_rules.specs.Tags.{same_tag}
 use Rattle.balise_rules.specs.Packet.{Packet, width}
 use Rattle.balise_rules.specs.Telegram.{room}
@@ -13,19 +13,10 @@ use Rattle.balise_rules.specs.Doing.{refusal, done, first_of, when, no_group, no
 use Rattle.balise_rules.specs.Edits.{MovePacket}
 use Rattle.balise_rules.specs.Back.{in_packets}
 use Rattle.balise_telegram.specs.Moving.{same_place_before, moved_before}
-use Rattle.balise_plan.specs.declared.spot.Spot.{Spot}
-use Rattle.balise_plan.specs.declared.spot.Spot.TheVariants.{After, Before}
+use Rattle.balise_index.specs.declared.spot.Spot.{Spot}
+use Rattle.balise_index.specs.declared.spot.Spot.TheVariants.{After, Before}
 use Rattle.balise_plan.specs.Held.{Plan}
-
--- the list with an item put in there
-abbrev pub put_in : {A : Type 0} → Spot Tag → Tag × A → List (Tag × A) → List (Tag × A)
-put_in (After a) z xs = put same_tag a z xs
-put_in (Before b) z xs = put_before same_tag b z xs
-
--- whether the neighbour stands by which the place is named
-abbrev pub spot_stands : {A : Type 0} → Spot Tag → List (Tag × A) → Bool
-spot_stands (After a) xs = stands same_tag a xs
-spot_stands (Before b) xs = stands same_tag b xs
+use Rattle.balise_index.specs.AtSpot.{put_in, spot_stands}
 
 -- the first reason why a packet isn't put in
 abbrev pub put_refusal : Tag → ℕ → Spot Tag → Packet → rules.Plan → Option Refusal

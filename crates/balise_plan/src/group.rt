@@ -10,14 +10,18 @@ ghost use Rattle.std.specs.Prelude.{◌≡◌, eqb, length, option_map, slice_ge
 ghost use Rattle.balise_rules.specs.Plan.{Group as GroupValue, identity_of};
 ghost use Rattle.balise_rules.specs.Tagged.{find as under};
 
+use crate::one_or_more::OneOrMore;
 use balise_rules::Id;
 use balise_telegram::Telegram;
 use std::marker::Model;
 
+/// Telegrams under their tags. Most groups have one.
+pub(crate) type Telegrams = OneOrMore<(u32, Telegram)>;
+
 /// A group.
 #[derive(Drop)]
 pub struct Group {
-    telegrams: Vec<(u32, Telegram)>,
+    telegrams: Telegrams,
 }
 
 impl Model for Group {
@@ -27,9 +31,9 @@ impl Model for Group {
 
     ghost Value = { rules.Group };
 
-    ghost view = { λ g. g.telegrams.items };
+    ghost view = { λ g. g.telegrams };
 
-    ghost invariant = { λ g. Distinct eqb g.telegrams.items };
+    ghost invariant = { λ g. Distinct eqb g.telegrams };
 }
 
 impl Group {
@@ -61,7 +65,7 @@ impl Group {
     pub fn at(&self, pig: usize) -> Option<(u32, &Telegram)>
         ensures { option_map (λ p. (p.0, p.1.now)) result ≡ slice_get self.now pig }
     {
-        match self.telegrams.get(pig) {
+        match self.telegrams.as_slice().get(pig) {
             Some((tag, telegram)) => Some((*tag, telegram)),
             None => None,
         }
@@ -69,17 +73,17 @@ impl Group {
 }
 
 // The place of the telegram with this tag.
-fn find(telegrams: &Vec<(u32, Telegram)>, t: u32) -> Option<usize>
-    ensures { result ≡ position (λ q. eqb t q.0) telegrams.now.items }
+fn find(telegrams: &Telegrams, t: u32) -> Option<usize>
+    ensures { result ≡ position (λ q. eqb t q.0) telegrams.now }
 {
-    telegrams.iter().position(|q| t == q.0)
+    telegrams.as_slice().iter().position(|q| t == q.0)
 }
 
 // The identity of the first telegram.
-fn identity(telegrams: &Vec<(u32, Telegram)>) -> Id
-    ensures { result ≡ identity_of telegrams.now.items }
+fn identity(telegrams: &Telegrams) -> Id
+    ensures { result ≡ identity_of telegrams.now }
 {
-    match telegrams.get(0) {
+    match telegrams.as_slice().get(0) {
         Some((_, telegram)) => telegram.identity(),
         None => Id {
             country: 0,

@@ -5,20 +5,17 @@ ghost use Rattle.balise_rules.specs.Plan.{group_named, identity_of, Group as Gro
 ghost use Rattle.balise_rules.specs.Tagged.{find};
 ghost use Rattle.balise_rules.specs.Tags.{same_tag};
 ghost use Rattle.balise_plan.specs.Held.{IsHeld};
-ghost use Rattle.balise_plan.specs.Links.{indexed};
-ghost use Rattle.balise_plan.specs.Spots.{put_in, spot_stands};
+ghost use Rattle.balise_index.specs.Identities.{indexed};
+ghost use Rattle.balise_index.specs.AtSpot.{put_in, spot_stands};
 
 use crate::group::Group;
-use crate::group_links::{add_all, links_in};
-use crate::identity_map::IdentityMap;
-use crate::link_set::Links;
-use crate::ordered_groups::OrderedGroups;
-use crate::spot::Spot;
+use crate::links::group::{add_group, forget_group};
+use balise_index::{IdentityMap, Links, OrderedMap, Spot};
 use balise_rules::{Id, Tag};
 use std::alloc::Global;
 
 /// The place that a spot names.
-pub(crate) fn place_of(groups: &OrderedGroups, spot: Spot<Tag>) -> Option<usize>
+pub(crate) fn place_of(groups: &OrderedMap<Group>, spot: Spot<Tag>) -> Option<usize>
     ensures there { is_some result ≡ spot_stands spot groups.now.entries }
     ensures within { IfSome result (λ i. i ≤ length groups.now.entries) }
     ensures put { IfSome result (λ i. (z : Tag × GroupValue) → insert groups.now.entries i z ≡ put_in spot z groups.now.entries) }
@@ -45,7 +42,7 @@ pub(crate) fn is_taken(identities: &IdentityMap<Tag>, id: Id) -> bool
 /// Puts a group of a new identity in at a place, under a tag that is new, and notes its identity and its links. Where
 /// memory is wanting, all stays and the group is handed back.
 pub(crate) fn put_at(
-    groups: &mut OrderedGroups,
+    groups: &mut OrderedMap<Group>,
     identities: &mut IdentityMap<Tag>,
     names: &mut IdentityMap<Links>,
     i: usize,
@@ -64,16 +61,14 @@ pub(crate) fn put_at(
 {
     let alloc = groups.allocator();
     let own = group.identity();
-    let Ok(links) = links_in(alloc, g, &group) else {
-        return Err(group);
-    };
     if groups.reserve(1).is_err() {
         return Err(group);
     }
     if identities.insert(own, g).is_err() {
         return Err(group);
     }
-    if add_all(alloc, names, &links).is_err() {
+    if add_group(alloc, names, g, &group).is_err() {
+        forget_group(names, g, &group);
         let _ = identities.remove(own);
         return Err(group);
     }

@@ -4,7 +4,8 @@ ghost use Rattle.std.specs.Prelude.{◌≡◌, [], Bool, IfOk, List, length, Ok}
 ghost use Rattle.balise_plan.specs.GroupReading.{group_of, ReadsOn};
 ghost use Rattle.balise_rules.specs.Plan.{read_group, IsSoundGroup};
 
-use crate::group::Group;
+use crate::group::{Group, Telegrams};
+use crate::one_or_more::OneOrMore;
 use balise_bits::Bits;
 use balise_rules::Refusal;
 use balise_telegram::Telegram;
@@ -14,7 +15,7 @@ use std::marker::Model;
 /// A group to be: the telegrams that were read so far, tagged by their places from 0.
 #[derive(Drop)]
 pub struct GroupReader {
-    telegrams: Vec<(u32, Telegram)>,
+    telegrams: Telegrams,
 }
 
 impl Model for GroupReader {
@@ -23,9 +24,9 @@ impl Model for GroupReader {
 
     ghost Value = { rules.Group };
 
-    ghost view = { λ g. g.telegrams.items };
+    ghost view = { λ g. g.telegrams };
 
-    ghost invariant = { λ g. WereRead g.telegrams.items };
+    ghost invariant = { λ g. WereRead g.telegrams };
 }
 
 impl GroupReader {
@@ -34,7 +35,7 @@ impl GroupReader {
         ensures { result ≡ [] }
     {
         GroupReader {
-            telegrams: Vec::new(alloc),
+            telegrams: OneOrMore::new(alloc),
         }
     }
 
@@ -60,7 +61,6 @@ impl GroupReader {
             Ok(telegram) => telegram,
             Err(fault) => return Err(fault.refusal()),
         };
-        self.telegrams.reserve_exact(1)?;
         self.telegrams.push((place as u32, telegram))?;
         Ok(())
     }

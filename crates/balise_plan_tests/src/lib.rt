@@ -4,6 +4,8 @@
 #[cfg(test)]
 mod calls;
 #[cfg(test)]
+mod copying;
+#[cfg(test)]
 mod digits;
 #[cfg(test)]
 mod group_by_telegram;
@@ -19,6 +21,8 @@ mod plans;
 mod reading;
 #[cfg(test)]
 mod refused;
+#[cfg(test)]
+mod resolving;
 #[cfg(test)]
 mod steps;
 #[cfg(test)]

@@ -66,7 +66,11 @@ fn count_of(found: &[(Id, LinkPlace)], id: Id) -> usize {
 }
 
 pub(crate) fn listed(rt: &impl Abort, alloc: Global, links: &Links) -> Vec<LinkPlace> {
-    links.listed(alloc).expect(rt, "memory")
+    let mut list = Vec::new(alloc);
+    for place in links.iter() {
+        list.push(place).expect(rt, "memory");
+    }
+    list
 }
 
 /// Whether a list has the places that were found for an identity, some and each once, in order.

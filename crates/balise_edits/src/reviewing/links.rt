@@ -9,7 +9,7 @@ ghost use Rattle.balise_rules.specs.Plan.{country_of, identity_of, IsSound, IsSo
 ghost use Rattle.balise_rules.specs.Review.{distance_of, lines_at};
 ghost use Rattle.balise_edits.specs.Reviews.{group_links, links_of, named_in, packet_links, telegram_links, HasLinking, HasPlaces};
 
-use balise_plan::{Group, LinkPlace, Plan};
+use balise_plan::{Group, Links, Plan};
 use balise_rules::{Id, Refusal, ReviewLine, Reviewed, Tag, Var};
 use balise_telegram::{PacketRef, Telegram};
 use std::collections::BTreeSet;
@@ -41,21 +41,16 @@ fn places_of(plan: &Plan, id: Id) -> Result<BTreeSet<usize>, Refusal>
     let Some(links) = plan.links_to(id) else {
         return Ok(places);
     };
-    let listed = links.listed(plan.allocator())?;
-    add_places(&mut places, plan, &listed)?;
+    add_places(&mut places, plan, links)?;
     Ok(places)
 }
 
 // Adds the places of the groups of these links.
-fn add_places(
-    places: &mut BTreeSet<usize>,
-    plan: &Plan,
-    links: &Vec<LinkPlace>,
-) -> Result<(), Refusal>
-    ensures all { OnOk result (HasPlaces links.now.items plan.now.groups places.new) }
+fn add_places(places: &mut BTreeSet<usize>, plan: &Plan, links: &Links) -> Result<(), Refusal>
+    ensures all { OnOk result (HasPlaces links.now.keys plan.now.groups places.new) }
     ensures fault { IsOkUnless result Refusal.OutOfMemory }
 {
-    for link in links {
+    for link in links.iter() {
         let Some(place) = plan.place_of(link.group) else {
             continue;
         };

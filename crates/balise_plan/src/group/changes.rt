@@ -3,16 +3,16 @@
 ghost use Rattle.balise_plan.specs.Within.{Within, Passed, no_telegram};
 ghost use Rattle.balise_plan.specs.Walks.{changed, in_group, with_number, FitsName};
 ghost use Rattle.std.specs.Prelude.{eqb, ◌≡◌, ◌<◌, ◌^◌, IfOk, IfErr};
-ghost use Rattle.balise_plan.specs.LinksIn.{LinksIn, NoLinks};
+ghost use Rattle.balise_plan.specs.ElementIn.{ElementIn, NoTelegram};
 ghost use Rattle.balise_telegram.specs.Setting.{SetsField, SetsHead};
 ghost use Rattle.balise_telegram.specs.Changes.{OrWants};
 ghost use Rattle.balise_telegram.specs.Moving.{TakesOut};
 
-use crate::change::Change;
-use crate::group::{Group, find};
+use crate::group::{Group, Telegrams, find};
+use crate::links::change::Change;
+use crate::links::relink::{UNNAMED, element};
 use balise_layout::Packet;
 use balise_rules::{Id, Refusal, Tag, Var};
-use balise_telegram::Telegram;
 
 impl Group {
     /// Sets a field of a packet of one telegram.
@@ -52,21 +52,19 @@ impl Group {
         Ok(old)
     }
 
-    /// The identities of the elements of a packet of one telegram, one each in order, with number 16383 kept: none
-    /// where the packet isn't there.
-    pub(crate) fn links(&self, t: u32, p: Tag) -> Result<Vec<Id>, Refusal>
-        ensures ok { IfOk result (λ links. LinksIn t p self.now links.items) }
-        ensures fault { IfErr result (λ e. NoLinks t self.now e) }
+    /// The identity of element `k`, from 0, of a packet of one telegram: one that nothing names where it isn't there.
+    pub(crate) fn element(&self, t: u32, p: Tag, k: u32) -> Result<Id, Refusal>
+        ensures ok { IfOk result (λ id. ElementIn t p k self.now id) }
+        ensures fault { IfErr result (λ e. NoTelegram t self.now e) }
     {
         let Some(i) = find(&self.telegrams, t) else {
             return Err(Refusal::NoSuchTelegram);
         };
         let telegram = &self.telegrams[i].1;
-        let links = match telegram.links(p) {
-            Ok(links) => links,
-            Err(fault) => return Err(fault.refusal()),
-        };
-        Ok(links)
+        match telegram.packet(p) {
+            Some(packet) => Ok(element(&packet.elements(telegram.identity().country), k)),
+            None => Ok(UNNAMED),
+        }
     }
 
     /// Takes a packet out of one telegram.
@@ -111,9 +109,9 @@ impl Group {
 
 // Another number in each header.
 #[tactic(auto, unfolding(balise_rules::specs::Variables::width_of))]
-fn number_each(telegrams: &mut Vec<(u32, Telegram)>, number: u32)
+fn number_each(telegrams: &mut Telegrams, number: u32)
     requires { number < 2 ^ 14 }
-    ensures { telegrams.new.items ≡ with_number number telegrams.old.items }
+    ensures { telegrams.new ≡ with_number number telegrams.old }
 {
     for i in 0..telegrams.len() {
         let telegram = &mut telegrams[i].1;

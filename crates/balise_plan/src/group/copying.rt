@@ -3,6 +3,7 @@
 ghost use Rattle.std.specs.Prelude.{◌≡◌, IfOk, IsOkUnless};
 
 use crate::group::Group;
+use crate::one_or_more::OneOrMore;
 use balise_rules::Refusal;
 
 impl Group {
@@ -11,9 +12,8 @@ impl Group {
         ensures ok { IfOk result (λ group. group ≡ self.now) }
         ensures fault { IsOkUnless result Refusal.OutOfMemory }
     {
-        let alloc = *self.telegrams.allocator();
-        let mut telegrams = Vec::with_capacity(alloc, self.telegrams.len())?;
-        for (tag, telegram) in &self.telegrams {
+        let mut telegrams = OneOrMore::new(self.telegrams.allocator());
+        for (tag, telegram) in self.telegrams.as_slice() {
             telegrams.push((*tag, telegram.copy()?))?;
         }
         Ok(Group { telegrams })

@@ -11,7 +11,7 @@ ghost use Rattle.balise_plan.specs.Within.{Within, Passed, no_telegram as lackin
 ghost use Rattle.balise_telegram.specs.Changes.{OrWants};
 
 use crate::group::{Group, find};
-use crate::spot::Spot;
+use balise_index::Spot;
 use balise_layout::Packet;
 use balise_rules::{Refusal, Tag, Var};
 use balise_telegram::{Telegram, TelegramFault};

@@ -4,7 +4,8 @@ ghost use Rattle.std.specs.Prelude.{◌≡◌, ◌≢◌, ◌+◌, ◌-◌, ◌<
 ghost use Rattle.balise_plan.specs.GroupReading.{group_of, WereRead};
 ghost use Rattle.balise_rules.specs.Plan.{agree_from, read_group, IsSoundGroup};
 
-use crate::group::{Group, identity};
+use crate::group::{Group, Telegrams, identity};
+use crate::one_or_more::OneOrMore;
 use balise_bits::Bits;
 use balise_rules::{Id, Refusal, Var};
 use balise_telegram::Telegram;
@@ -24,7 +25,7 @@ impl Group {
         if (count < 1) | (count > 8) {
             return Err(Refusal::GroupSize);
         }
-        let mut read = Vec::with_capacity(alloc, count)?;
+        let mut read = OneOrMore::new(alloc);
         let mut tag = 0;
         for bits in telegrams {
             let telegram = match Telegram::of_bits(bits) {
@@ -38,9 +39,9 @@ impl Group {
     }
 
     // The group of telegrams that were read.
-    pub(crate) fn of_read(telegrams: Vec<(u32, Telegram)>) -> Result<Group, Refusal>
-        requires { WereRead telegrams.items }
-        ensures group { result ≡ group_of telegrams.items }
+    pub(crate) fn of_read(telegrams: Telegrams) -> Result<Group, Refusal>
+        requires { WereRead telegrams }
+        ensures group { result ≡ group_of telegrams }
         ensures sound { IfOk result (λ g. IsSoundGroup g) }
         ensures read { IfOk result (λ g. (bs : List (List Bool)) × (read_group bs ≡ Ok g)) }
     {
@@ -60,9 +61,9 @@ impl Group {
 }
 
 // Whether each telegram has its place as N_PIG, the count less one as N_TOTAL, and this identity.
-fn agree(telegrams: &Vec<(u32, Telegram)>, id: Id) -> bool
-    requires { length telegrams.now.items < 2 ^ 32 }
-    ensures { result ≡ agree_from id (length telegrams.now.items - 1) 0 telegrams.now.items }
+fn agree(telegrams: &Telegrams, id: Id) -> bool
+    requires { length telegrams.now < 2 ^ 32 }
+    ensures { result ≡ agree_from id (length telegrams.now - 1) 0 telegrams.now }
 {
     let last = telegrams.len().saturating_sub(1);
     for i in 0..telegrams.len() {

@@ -10,11 +10,10 @@ ghost use Rattle.balise_plan.specs.Held.{Does};
 ghost use Rattle.balise_plan.specs.Spots.{PutsGroup};
 
 use crate::group::Group;
-use crate::group_links::{forget_first, links_in};
 use crate::group_places::{is_taken, place_of, put_at};
-use crate::ordered_groups::OrderedGroups;
+use crate::links::group::forget_group;
 use crate::plan::Plan;
-use crate::spot::Spot;
+use balise_index::{OrderedMap, Spot};
 use balise_rules::{Refusal, Tag};
 
 impl Plan {
@@ -63,16 +62,11 @@ impl Plan {
         ensures taken { IfOk result (λ r. ((noted (DropGroup g) self.old.groups).group ≡ Some r.0) × ((noted (DropGroup g) self.old.groups).before ≡ r.1)) }
         ensures sound { IfOk result (λ r. IsSoundGroup r.0) }
     {
-        let alloc = self.groups.allocator();
         let Some(group) = self.groups.get(g) else {
             return Err(Refusal::NoSuchGroup);
         };
         let own = group.identity();
-        let links = match links_in(alloc, g, group) {
-            Ok(links) => links,
-            Err(fault) => return Err(fault),
-        };
-        forget_first(&mut self.names, &links, links.len());
+        forget_group(&mut self.names, g, group);
         let _ = self.identities.remove(own);
         let (i, group) = self.groups.remove(g).unwrap();
         let before = tag_at(&self.groups, i);
@@ -82,7 +76,7 @@ impl Plan {
 }
 
 // The tag of the group at a place.
-fn tag_at(groups: &OrderedGroups, i: usize) -> Option<Tag>
+fn tag_at(groups: &OrderedMap<Group>, i: usize) -> Option<Tag>
     ensures { result ≡ option_map (λ p. p.0) (slice_get groups.now.entries i) }
 {
     match groups.at(i) {

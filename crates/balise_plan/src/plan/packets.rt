@@ -11,9 +11,10 @@ ghost use Rattle.balise_rules.specs.Telegram.{Telegram, version_of};
 ghost use Rattle.balise_plan.specs.Held.{Does};
 ghost use Rattle.balise_plan.specs.Spots.{PutsPacket, ShiftsPacket};
 
-use crate::links_of::{add_links, count, forget_links};
+use crate::links::packet::{add_packet, forget_packet};
+use crate::packet_place::PacketPlace;
 use crate::plan::Plan;
-use crate::spot::Spot;
+use balise_index::Spot;
 use balise_layout::Packet;
 use balise_rules::{Refusal, Tag};
 
@@ -43,16 +44,18 @@ impl Plan {
         let Some(country) = group.country(t) else {
             return Err((Refusal::NoSuchTelegram, packet));
         };
-        let Ok(links) = packet.links(country) else {
-            return Err((Refusal::OutOfMemory, packet));
+        let place = PacketPlace {
+            group: g,
+            telegram: t,
+            packet: p,
         };
-        let n = count(&links);
-        if add_links(alloc, &mut self.names, g, t, p, &links, n).is_err() {
+        if add_packet(alloc, &mut self.names, place, country, &packet.lend()).is_err() {
+            forget_packet(&mut self.names, place, country, &packet.lend());
             return Err((Refusal::OutOfMemory, packet));
         }
-        if let Err(back) = group.put_packet(t, spot, p, packet) {
-            forget_links(&mut self.names, g, t, p, &links, n);
-            return Err(back);
+        if let Err((fault, packet)) = group.put_packet(t, spot, p, packet) {
+            forget_packet(&mut self.names, place, country, &packet.lend());
+            return Err((fault, packet));
         }
         self.changes += 1;
         Ok(())
@@ -70,17 +73,21 @@ impl Plan {
         let Some(group) = self.groups.get_mut(g) else {
             return Err(Refusal::NoSuchGroup);
         };
-        let links = match group.links(t, p) {
-            Ok(links) => links,
-            Err(fault) => return Err(fault),
+        let Some(country) = group.country(t) else {
+            return Err(Refusal::NoSuchTelegram);
         };
-        let taken = match group.take_packet(t, p) {
+        let (taken, next) = match group.take_packet(t, p) {
             Ok(taken) => taken,
             Err(fault) => return Err(fault),
         };
-        forget_links(&mut self.names, g, t, p, &links, count(&links));
+        let place = PacketPlace {
+            group: g,
+            telegram: t,
+            packet: p,
+        };
+        forget_packet(&mut self.names, place, country, &taken.lend());
         self.changes += 1;
-        Ok(taken)
+        Ok((taken, next))
     }
 
     /// Moves a packet within its telegram to a spot, and answers the tag of its old next neighbour.

@@ -8,10 +8,9 @@ ghost use Rattle.balise_plan.specs.Spots.{Pushes};
 use crate::group::Group;
 use crate::group_places::{is_taken, put_at};
 use crate::group_reader::GroupReader;
-use crate::identity_map::IdentityMap;
-use crate::ordered_groups::OrderedGroups;
 use crate::plan::Plan;
 use balise_bits::Bits;
+use balise_index::{IdentityMap, OrderedMap};
 use balise_rules::{Refusal, Tag};
 use std::alloc::Global;
 
@@ -22,7 +21,7 @@ impl Plan {
         ensures changes { result.changes ≡ 0 }
     {
         Plan {
-            groups: OrderedGroups::new(alloc),
+            groups: OrderedMap::new(alloc),
             identities: IdentityMap::new(alloc),
             names: IdentityMap::new(alloc),
             changes: 0,

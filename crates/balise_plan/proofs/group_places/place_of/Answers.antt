@@ -1,10 +1,10 @@
 use Rattle.std.proofs.Common.{rules, ◌≡◌, ◌∙◌, position, Some, sym, ap}
 use Rattle.std.specs.Map.{keys_of}
 use Rattle.std.specs.Option.{is_some}
-use Rattle.indexmap.proofs.MapLemmas.{some_index}
+use Rattle.balise_index.proofs.order.Entries.{some_index}
 use Rattle.balise_rules.specs.Tags.{same_tag}
-use Rattle.balise_plan.specs.declared.spot.Spot.TheVariants.{After, Before}
-use Rattle.balise_plan.specs.Spots.{spot_stands}
+use Rattle.balise_index.specs.declared.spot.Spot.TheVariants.{After, Before}
+use Rattle.balise_index.specs.AtSpot.{spot_stands}
 use Rattle.balise_plan.proofs.KeyPlaces.{found-after, found-before}
 use Rattle.balise_plan.proofs.group_places.place_of.Goals as goal
 

@@ -6,7 +6,7 @@ use Rattle.balise_edits.specs.Notes.{with_group}
 use Rattle.balise_rules.proofs.Cases.{unsome}
 use Rattle.balise_edit_laws.specs.GoesBack.{LacksGroup}
 use Rattle.balise_edit_laws.proofs.SoundKept.{sound_kept}
-use Rattle.balise_plan.specs.declared.spot.Spot.TheVariants.{Before}
+use Rattle.balise_index.specs.declared.spot.Spot.TheVariants.{Before}
 use Rattle.balise_plan.specs.Spots.{group_refusal}
 use Rattle.balise_edits.proofs.Bare.{asks_of}
 use Rattle.balise_edits.proofs.Free.{group_free}

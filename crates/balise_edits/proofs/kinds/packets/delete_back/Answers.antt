@@ -8,7 +8,7 @@ use Rattle.balise_rules.specs.Paths.{Entry}
 use Rattle.balise_edits.specs.Notes.{with_packet}
 use Rattle.balise_rules.proofs.Cases.{unsome}
 use Rattle.balise_edit_laws.specs.GoesBack.{HasGap}
-use Rattle.balise_plan.specs.declared.spot.Spot.TheVariants.{Before}
+use Rattle.balise_index.specs.declared.spot.Spot.TheVariants.{Before}
 use Rattle.balise_plan.specs.Spots.{put_refusal}
 use Rattle.balise_edits.proofs.Bare.{asks_of}
 use Rattle.balise_edits.proofs.Free.{packet_free}

@@ -1,6 +1,6 @@
 use Rattle.std.proofs.Common.{◌≡◌, ◌∙◌, None, inl, inr, refl, ap, subst, sym}
 use Rattle.balise_rules.specs.Edits.{MovePacket}
-use Rattle.balise_plan.specs.declared.spot.Spot.TheVariants.{Before}
+use Rattle.balise_index.specs.declared.spot.Spot.TheVariants.{Before}
 use Rattle.balise_plan.specs.Spots.{shift_refusal}
 use Rattle.balise_edits.proofs.Bare.{asks_of}
 use Rattle.balise_edits.proofs.Free.{shift_free}

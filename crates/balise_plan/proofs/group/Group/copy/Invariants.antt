@@ -2,4 +2,4 @@ use Rattle.std.proofs.Common.{◌≡◌, take}
 use Rattle.balise_plan.proofs.group.Group.copy.Given as goal
 
 abbrev pub invariant-loop-tag : goal.invariant-loop-tag
-invariant-loop-tag l = l.telegrams.items ≡ take l.tag-index l.tag-items
+invariant-loop-tag l = l.telegrams ≡ take l.tag-index l.tag-items

@@ -5,9 +5,9 @@ use Rattle.balise_plan.proofs.Changing.{found_none, found_at}
 use Rattle.balise_plan.proofs.group.Group.country.Goals as goal
 
 pub returns-in_default : goal.returns-in_default
-returns-in_default c = sym (ap (option_map country_of) (found_none eqb c.args.t c.self.inside.telegrams.items c.args.self.now c.self.view_is c.in_default.ensures))
+returns-in_default c = sym (ap (option_map country_of) (found_none eqb c.args.t c.self.inside.telegrams c.args.self.now c.self.view_is c.in_default.ensures))
 
 pub returns : goal.returns
 returns c =
     ap Some (c.unwrap_or.ensures ∙ ap (λ o. unwrap_or o 0) c.head.ensures)
-    ∙ sym (ap (option_map country_of) (found_at eqb c.args.t c.self.inside.telegrams.items c.args.self.now c.self.view_is c.in-Some.i c.in-Some.ensures c.index.result.now c.index.ensures))
+    ∙ sym (ap (option_map country_of) (found_at eqb c.args.t c.self.inside.telegrams c.args.self.now c.self.view_is c.in-Some.i c.in-Some.ensures c.index.result.now c.index.ensures))

@@ -5,22 +5,22 @@ use Rattle.balise_plan.proofs.Reading.{few_read, read_sound, stands}
 use Rattle.balise_plan.proofs.group.Group.of_read.Goals as goal
 
 pub agree-requires : goal.agree-requires
-agree-requires c = let few = few_read c.args.telegrams.items c.requires in omega (arith, few)
+agree-requires c = let few = few_read c.args.telegrams c.requires in omega (arith, few)
 
 pub invariant_of-result : goal.invariant_of-result
 invariant_of-result c =
-    let ys = c.args.telegrams.items in
-    (read_sound ys (stands ys c.identity-id.result.number c.requires (omega (arith, c.len-count.ensures ∙ c.args.telegrams.ok.0, c.if-count-eq0.false)) (ap (λ (i : Id). agree_from i (length ys - 1) 0 ys) (sym c.identity-id.ensures) ∙ sym c.agree.ensures ∙ c.if-not-agree.false)
+    let ys = c.args.telegrams in
+    (read_sound ys (stands ys c.identity-id.result.number c.requires (omega (arith, c.len-count.ensures, c.if-count-eq0.false)) (ap (λ (i : Id). agree_from i (length ys - 1) 0 ys) (sym c.identity-id.ensures) ∙ sym c.agree.ensures ∙ c.if-not-agree.false)
     (ap (λ (i : Id). i.number) c.identity-id.ensures) c.if-id-eq16383.false)).sound.tags
 
 pub returns-clause-sound : goal.returns-clause-sound
 returns-clause-sound c =
-    let ys = c.args.telegrams.items in
-    (read_sound ys (stands ys c.identity-id.result.number c.requires (omega (arith, c.len-count.ensures ∙ c.args.telegrams.ok.0, c.if-count-eq0.false)) (ap (λ (i : Id). agree_from i (length ys - 1) 0 ys) (sym c.identity-id.ensures) ∙ sym c.agree.ensures ∙ c.if-not-agree.false)
+    let ys = c.args.telegrams in
+    (read_sound ys (stands ys c.identity-id.result.number c.requires (omega (arith, c.len-count.ensures, c.if-count-eq0.false)) (ap (λ (i : Id). agree_from i (length ys - 1) 0 ys) (sym c.identity-id.ensures) ∙ sym c.agree.ensures ∙ c.if-not-agree.false)
     (ap (λ (i : Id). i.number) c.identity-id.ensures) c.if-id-eq16383.false)).sound
 
 pub returns-clause-read : goal.returns-clause-read
 returns-clause-read c =
-    let ys = c.args.telegrams.items in
-    (stands ys c.identity-id.result.number c.requires (omega (arith, c.len-count.ensures ∙ c.args.telegrams.ok.0, c.if-count-eq0.false)) (ap (λ (i : Id). agree_from i (length ys - 1) 0 ys) (sym c.identity-id.ensures) ∙ sym c.agree.ensures ∙ c.if-not-agree.false)
+    let ys = c.args.telegrams in
+    (stands ys c.identity-id.result.number c.requires (omega (arith, c.len-count.ensures, c.if-count-eq0.false)) (ap (λ (i : Id). agree_from i (length ys - 1) 0 ys) (sym c.identity-id.ensures) ∙ sym c.agree.ensures ∙ c.if-not-agree.false)
     (ap (λ (i : Id). i.number) c.identity-id.ensures) c.if-id-eq16383.false)

@@ -9,32 +9,32 @@ returns-then-count-clause-fault c = λ _. wrong_size c.args.telegrams.items c.le
 pub loop-bits-init : goal.loop-bits-init
 loop-bits-init c =
     let size = right_size c.args.telegrams.items c.len-count.result (c.len-count.ensures ∙ c.args.telegrams.ok.0) c.if-count.false in
-    begins c.args.telegrams.items c.into_iter-bits-iterator.result.rest.items c.in_ok-read.read.items c.into_iter-bits-iterator.ensures.into_iter_gives.0 c.in_ok-read.ensures.items size.1 size.0
+    begins c.args.telegrams.items c.into_iter-bits-iterator.result.rest.items c.new-read.result c.into_iter-bits-iterator.ensures.into_iter_gives.0 c.new-read.ensures size.1 size.0
 
 pub returns-in-Err-clause-fault : goal.returns-in-Err-clause-fault
 returns-in-Err-clause-fault c = λ _.
-    fails c.args.telegrams.items c.loop-bits.read.items c.loop-bits.bits-iterator.rest.items c.next.new.self.rest.items c.in-Some.bits c.loop-bits.tag c.refusal.result c.loop-bits.invariant c.in-Some.ensures.steps.0 (c.in-Err.ensures.fault ∙ ap Err (sym c.refusal.ensures))
+    fails c.args.telegrams.items c.loop-bits.read c.loop-bits.bits-iterator.rest.items c.next.new.self.rest.items c.in-Some.bits c.loop-bits.tag c.refusal.result c.loop-bits.invariant c.in-Some.ensures.steps.0 (c.in-Err.ensures.fault ∙ ap Err (sym c.refusal.ensures))
 
 pub overflow_add-tag : goal.overflow_add-tag
 overflow_add-tag c = let i = c.loop-bits.invariant in omega (arith, i.few, i.counted, ap length c.in-Some.ensures.steps.0)
 
 pub loop-bits-preserved : goal.loop-bits-preserved
 loop-bits-preserved c =
-    reads_on c.args.telegrams.items c.loop-bits.read.items c.push.new.self.items c.loop-bits.bits-iterator.rest.items c.next.new.self.rest.items c.in-Some.bits c.loop-bits.tag c.in-Ok.telegram c.loop-bits.invariant c.in-Some.ensures.steps.0 c.in-Ok.ensures.ok c.in_ok-push.ensures.items
+    reads_on c.args.telegrams.items c.loop-bits.read c.push.new.self c.loop-bits.bits-iterator.rest.items c.next.new.self.rest.items c.in-Some.bits c.loop-bits.tag c.in-Ok.telegram c.loop-bits.invariant c.in-Some.ensures.steps.0 c.in-Ok.ensures.ok c.in_ok-push.ensures.ok
 
 pub of_read-requires : goal.of_read-requires
 of_read-requires c =
-    let ys = c.loop-bits.read.items in
+    let ys = c.loop-bits.read in
     were_read c.args.telegrams.items ys c.loop-bits.bits-iterator.rest.items c.loop-bits.tag c.loop-bits.invariant (no_length c.loop-bits.bits-iterator.rest.items (sym c.loop-bits.bits-iterator.rest.ok.0 ∙ c.in-None.ensures.steps.0))
 
 pub returns-clause-ok : goal.returns-clause-ok
 returns-clause-ok c =
-    let ys = c.loop-bits.read.items in
+    let ys = c.loop-bits.read in
     so_answered c.args.telegrams.items c.of_read.result _ c.of_read.ensures.group
     (read_so c.args.telegrams.items ys c.loop-bits.bits-iterator.rest.items c.loop-bits.tag c.loop-bits.invariant (no_length c.loop-bits.bits-iterator.rest.items (sym c.loop-bits.bits-iterator.rest.ok.0 ∙ c.in-None.ensures.steps.0)))
 
 pub returns-clause-fault : goal.returns-clause-fault
 returns-clause-fault c =
-    let ys = c.loop-bits.read.items in
+    let ys = c.loop-bits.read in
     so_refused c.args.telegrams.items c.of_read.result _ c.of_read.ensures.group
     (read_so c.args.telegrams.items ys c.loop-bits.bits-iterator.rest.items c.loop-bits.tag c.loop-bits.invariant (no_length c.loop-bits.bits-iterator.rest.items (sym c.loop-bits.bits-iterator.rest.ok.0 ∙ c.in-None.ensures.steps.0)))

@@ -3,7 +3,7 @@ use Rattle.balise_plan.proofs.Changing.{found_none, found_at}
 use Rattle.balise_plan.proofs.group.Group.telegram.Goals as goal
 
 pub returns-in-None : goal.returns-in-None
-returns-in-None c = sym (found_none eqb c.args.t c.self.inside.telegrams.items c.args.self.now c.self.view_is c.in-None.ensures)
+returns-in-None c = sym (found_none eqb c.args.t c.self.inside.telegrams c.args.self.now c.self.view_is c.in-None.ensures)
 
 pub returns-in-Some : goal.returns-in-Some
-returns-in-Some c = sym (found_at eqb c.args.t c.self.inside.telegrams.items c.args.self.now c.self.view_is c.in-Some.i c.in-Some.ensures c.index.result.now c.index.ensures)
+returns-in-Some c = sym (found_at eqb c.args.t c.self.inside.telegrams c.args.self.now c.self.view_is c.in-Some.i c.in-Some.ensures c.index.result.now c.index.ensures)

@@ -6,4 +6,4 @@ use Rattle.balise_rules.proofs.Reversed.{distinct-reverse}
 use Rattle.balise_plan.proofs.group.Group.turn.Goals as goal
 
 pub invariant_of-self : goal.invariant_of-self
-invariant_of-self c = subst (Distinct eqb) (sym (c.reverse.ensures.items ∙ ap reverse c.turn_each.ensures)) (distinct-reverse nat_test _ (distinct-each nat_test _ c.self.inside.telegrams.items c.self.invariant))
+invariant_of-self c = subst (Distinct eqb) (sym (c.reverse.ensures ∙ ap reverse c.turn_each.ensures)) (distinct-reverse nat_test _ (distinct-each nat_test _ c.self.inside.telegrams c.self.invariant))

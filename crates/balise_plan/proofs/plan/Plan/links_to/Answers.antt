@@ -1,7 +1,7 @@
 use Rattle.std.proofs.Common.{◌≡◌, ◌<◌, Some, sym, subst}
 use Rattle.std.specs.BTreeSet as set
 use Rattle.std.specs.Option.{IfSome}
-use Rattle.balise_plan.specs.Links.{indexed}
+use Rattle.balise_index.specs.Identities.{indexed}
 use Rattle.balise_plan.proofs.plan.Plan.links_to.Goals as goal
 
 pub returns-in-Some-clause-some : goal.returns-in-Some-clause-some

@@ -3,7 +3,8 @@ use Rattle.std.specs.Option.{is_some}
 use Rattle.balise_rules.specs.declared.refusal.Refusal.TheVariants.{NoSuchGroup, GroupTwice}
 use Rattle.balise_rules.specs.Doing.{first_of, when}
 use Rattle.balise_rules.specs.Plan.{group_named, identity_of}
-use Rattle.balise_plan.specs.Spots.{group_refusal, spot_stands}
+use Rattle.balise_index.specs.AtSpot.{spot_stands}
+use Rattle.balise_plan.specs.Spots.{group_refusal}
 use Rattle.balise_plan.proofs.Renamed.{known_id}
 use Rattle.balise_plan.proofs.plan.Plan.put_group.Goals as goal
 

@@ -10,20 +10,12 @@ use Rattle.balise_rules.specs.Notes.{noted}
 use Rattle.balise_rules.specs.Plan.{Group, IsSoundGroup}
 use Rattle.balise_rules.proofs.Cases.{unsome}
 use Rattle.balise_plan.specs.Held.{edited, IsHeld}
-use Rattle.balise_plan.specs.Links.{Updates}
-use Rattle.balise_plan.specs.GroupLinks.{ForgetsAll}
+use Rattle.balise_index.specs.Identities.{Updates}
+use Rattle.balise_plan.specs.GroupLinks.{links_in_group, ForgetsAll}
 use Rattle.balise_plan.proofs.GroupDropped.{group-is, dropped, noted-group, noted-before}
 use Rattle.balise_plan.proofs.KeyPlaces.{at-key, behind-place}
 use Rattle.balise_plan.proofs.Kept.{changed}
 use Rattle.balise_plan.proofs.plan.Plan.take_group.Goals as goal
-
-pub links_in-requires : goal.links_in-requires
-links_in-requires c =
-    let plan = c.self.inside.groups.entries in
-    let ids = c.self.inside.identities in
-    let names = c.self.inside.names in
-    let n : find same_tag c.args.g plan ≡ Some c.in-Some.group.now = sym c.in-Some.ensures.value in
-    group-is plan ids names c.self.invariant.held c.args.g c.in-Some.group.now n
 
 pub invariant_of-self : goal.invariant_of-self
 invariant_of-self c =
@@ -31,12 +23,11 @@ invariant_of-self c =
     let ids = c.self.inside.identities in
     let names = c.self.inside.names in
     let n : find same_tag c.args.g plan ≡ Some c.in-Some.group.now = sym c.in-Some.ensures.value in
-    let items = c.in-Ok.links.items in
-    let forgets : ForgetsAll items names c.forget_first.new.names = subst (λ l. ForgetsAll l names c.forget_first.new.names) (take_all c.len.result items (omega (arith, c.len.ensures))) c.forget_first.ensures.forgotten in
+    let forgets : ForgetsAll (links_in_group c.args.g c.in-Some.group.now) names c.forget_group.new.names = c.forget_group.ensures.forgotten in
     let out : Updates ids c.remove.new.self c.identity-own.result None = search rules in
-    let r = dropped plan ids names c.self.invariant.held c.args.g c.in-Some.group.now n items c.in-Ok.ensures.ok c.forget_first.new.names (c.forget_first.ensures.full c.self.invariant.held.full) forgets c.identity-own.result c.identity-own.ensures c.remove.new.self (λ q. out q) in
+    let r = dropped plan ids names c.self.invariant.held c.args.g c.in-Some.group.now n c.forget_group.new.names (c.forget_group.ensures.full c.self.invariant.held.full) forgets c.identity-own.result c.identity-own.ensures c.remove.new.self (λ q. out q) in
     let e : c.remove-2.new.self.entries ≡ remove_entry (same_tag c.args.g) plan = c.remove-2.ensures.entries in
-    changed c.self.inside.changes (subst (IsHeld c.remove.new.self c.forget_first.new.names) (sym e) r.held)
+    changed c.self.inside.changes (subst (IsHeld c.remove.new.self c.forget_group.new.names) (sym e) r.held)
 
 pub returns-clause-does : goal.returns-clause-does
 returns-clause-does c =
@@ -44,10 +35,9 @@ returns-clause-does c =
     let ids = c.self.inside.identities in
     let names = c.self.inside.names in
     let n : find same_tag c.args.g plan ≡ Some c.in-Some.group.now = sym c.in-Some.ensures.value in
-    let items = c.in-Ok.links.items in
-    let forgets : ForgetsAll items names c.forget_first.new.names = subst (λ l. ForgetsAll l names c.forget_first.new.names) (take_all c.len.result items (omega (arith, c.len.ensures))) c.forget_first.ensures.forgotten in
+    let forgets : ForgetsAll (links_in_group c.args.g c.in-Some.group.now) names c.forget_group.new.names = c.forget_group.ensures.forgotten in
     let out : Updates ids c.remove.new.self c.identity-own.result None = search rules in
-    let r = dropped plan ids names c.self.invariant.held c.args.g c.in-Some.group.now n items c.in-Ok.ensures.ok c.forget_first.new.names (c.forget_first.ensures.full c.self.invariant.held.full) forgets c.identity-own.result c.identity-own.ensures c.remove.new.self (λ q. out q) in
+    let r = dropped plan ids names c.self.invariant.held c.args.g c.in-Some.group.now n c.forget_group.new.names (c.forget_group.ensures.full c.self.invariant.held.full) forgets c.identity-own.result c.identity-own.ensures c.remove.new.self (λ q. out q) in
     let e : c.remove-2.new.self.entries ≡ remove_entry (same_tag c.args.g) plan = c.remove-2.ensures.entries in
     (subst (λ p. refusal (DropGroup c.args.g) p.groups ≡ None) c.self.view_is r.accepted, ap (λ gs. record { groups = gs; changes = c.self.inside.changes + 1 }) (e ∙ r.is) ∙ ap (edited (DropGroup c.args.g)) c.self.view_is)
 

@@ -1,0 +1,4 @@
+pub mod blocks
+pub mod identities
+pub mod order
+pub mod places

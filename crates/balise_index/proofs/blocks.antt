@@ -1,0 +1,5 @@
+pub mod Cut
+pub mod Flat
+pub mod Laid
+pub mod Starts
+pub mod TagAt

@@ -1,0 +1,110 @@
+-- One slot less, with the last one in its place.
+use Rattle.std.proofs.Common.{◌≡◌, ◌≢◌, ◌∙◌, ℕ, zero, suc, ◌-◌, ◌<◌, ◌≤◌, ◌⊎◌, inl, inr, true, false, cond, eqb, List, [], ◌∷◌, Some, None, length, take, slice_get, slice_set, slice_index_or, refl, sym, ap, arith}
+use Rattle.std.specs.List.{swap_remove}
+use Rattle.std.specs.declared.vec.Vec.{Vec}
+use Rattle.std.proofs.lemmas.Bool.{true≢false, eqb-true, eqb-false, cases_lt}
+use Rattle.std.proofs.lemmas.Option.{slice_get_within, slice_get-get_or}
+use Rattle.balise_rules.specs.declared.identity.Id.{Id}
+use Rattle.balise_rules.specs.Tags.{same_id}
+use Rattle.balise_rules.proofs.Cases.{unsome}
+use Rattle.balise_rules.proofs.Tests.{id_test, split_on, split_keys}
+use Rattle.balise_index.specs.Identities.{indexed, Updates}
+use Rattle.balise_index.specs.Rows.{cell_of}
+use Rattle.balise_index.specs.IdentityMap.{IsPlaced}
+use Rattle.balise_index.proofs.identities.Slots.{pair, unplaced, once, same_under}
+use Rattle.balise_index.proofs.identities.Written.{set_other, set_it}
+
+take_back : {A : Type 0} (n : ℕ) (xs : List A) (j : ℕ) (t : A) → slice_get (take n xs) j ≡ Some t → (j < n) × (slice_get xs j ≡ Some t)
+take_back zero xs j t e = cc
+take_back (suc n) [] j t e = cc
+take_back (suc n) (y ∷ ys) zero t e = (omega arith, e)
+take_back (suc n) (y ∷ ys) (suc j) t e = let h = take_back n ys j t e in (omega (arith, h.0), h.1)
+
+take_front : {A : Type 0} (n : ℕ) (xs : List A) (j : ℕ) → j < n → slice_get (take n xs) j ≡ slice_get xs j
+take_front zero xs j h = absurd (omega (arith, h))
+take_front (suc n) [] j h = refl
+take_front (suc n) (y ∷ ys) zero h = refl
+take_front (suc n) (y ∷ ys) (suc j) h = take_front n ys j (omega (arith, h))
+
+module _ {V Z : Type 0} (xs : List (Id × V)) (rows : List (Vec ℕ Z)) (at : IsPlaced xs rows) (i : ℕ) (s : Id × V) (here : slice_get xs i ≡ Some s) where
+  abbrev pub end : ℕ
+  end = length xs - 1
+
+  abbrev pub moved : Id × V
+  moved = slice_index_or xs end s
+
+  abbrev pub fewer : List (Id × V)
+  fewer = swap_remove xs i s
+
+  last : slice_get xs end ≡ Some moved
+  last = slice_get-get_or xs end s (let w = slice_get_within xs i s here in omega (arith, w))
+
+  pub moved_here : i < end → slice_get fewer i ≡ Some moved
+  moved_here w = take_front end (slice_set xs i moved) i w ∙ set_it xs i moved s here
+
+  pub moved_cell : cell_of rows moved.0 ≡ Some end
+  moved_cell = at.placed end moved last
+
+  stays : (j : ℕ) (t : Id × V) → slice_get fewer j ≡ Some t → (j < end) × (((i ≡ j) × (moved ≡ t)) ⊎ ((i ≢ j) × (slice_get xs j ≡ Some t)))
+  stays j t e =
+      let h = take_back end (slice_set xs i moved) j t e in (
+        h.0,
+        split_on (eqb i j)
+            (λ d. let k = eqb-true i j d in inl (k, unsome (sym (set_it xs i moved s here) ∙ ap (slice_get (slice_set xs i moved)) k ∙ h.1)))
+            (λ d. inr (eqb-false i j d, sym (set_other xs i j moved (eqb-false i j d)) ∙ h.1)),
+      )
+
+  kept : (j : ℕ) (t : Id × V) → slice_get xs j ≡ Some t → i ≢ j → (k : ℕ) × (slice_get fewer k ≡ Some t)
+  kept j t e n = by (cases_lt j end)
+    where
+      by : (j < end) ⊎ (end ≤ j) → (k : ℕ) × (slice_get fewer k ≡ Some t)
+      by (inl h) = (j, take_front end (slice_set xs i moved) j h ∙ set_other xs i j moved n ∙ e)
+      by (inr h) =
+          let w = slice_get_within xs j t e in
+          let v = slice_get_within xs i s here in
+          let k : end ≡ j = omega (arith, h, w) in
+          let f : i < end = by_less (λ m. n (m ∙ k)) (omega (arith, v)) in
+          (i, moved_here f ∙ sym last ∙ ap (slice_get xs) k ∙ e)
+        where
+          by_less : (i ≡ end → ⊥) → i ≤ end → i < end
+          by_less n h = split_on (eqb i end) (λ d. absurd (n (eqb-true i end d))) (λ d. let m = eqb-false i end d in omega (arith, m, h))
+
+  pub placed_last : length fewer ≤ length xs → end ≤ i → IsPlaced fewer rows
+  placed_last short past = record {
+    few = omega (arith, short, at.few);
+    placed = λ j t e. let h = stays j t e in by j t h.0 h.1;
+  }
+    where
+      by : (j : ℕ) (t : Id × V) → j < end → ((i ≡ j) × (moved ≡ t)) ⊎ ((i ≢ j) × (slice_get xs j ≡ Some t)) → cell_of rows t.0 ≡ Some j
+      by j t w (inl h) = absurd (let k = h.0 in omega (arith, w, past, k))
+      by j t w (inr h) = at.placed j t h.1
+
+  pub placed_moved : (cells : List (Vec ℕ Z)) → length fewer ≤ length xs → ((q : Id) → cell_of cells q ≡ cond (same_id moved.0 q) (Some i) (cell_of rows q)) → IsPlaced fewer cells
+  placed_moved cells short set = record {
+    few = omega (arith, short, at.few);
+    placed = λ j t e. let h = stays j t e in by j t h.0 h.1;
+  }
+    where
+      by : (j : ℕ) (t : Id × V) → j < end → ((i ≡ j) × (moved ≡ t)) ⊎ ((i ≢ j) × (slice_get xs j ≡ Some t)) → cell_of cells t.0 ≡ Some j
+      by j t w (inl h) = ap (λ (z : Id × V). cell_of cells z.0) (sym h.1) ∙ set moved.0 ∙ ap (λ b. cond b (Some i) (cell_of rows moved.0)) (id_test.itself moved.0) ∙ ap (λ (k : ℕ). Some k) h.0
+      by j t w (inr h) =
+          split_keys id_test moved.0 t.0
+          (λ d k. absurd (let same = once xs rows at end j moved t last h.1 k in omega (arith, w, same)))
+          (λ d. set t.0 ∙ ap (λ b. cond b (Some i) (cell_of rows t.0)) d ∙ at.placed j t h.1)
+
+  pub updates_out : (cells : List (Vec ℕ Z)) → IsPlaced fewer cells → Updates xs fewer s.0 None
+  updates_out cells to q =
+      split_keys id_test s.0 q
+      (λ d k. unplaced fewer cells to q (λ j v e. let h = stays j (q, v) e in gone k j v h.0 h.1) ∙ ap (λ b. cond b None (indexed xs q)) (sym d))
+      (λ d. same_under fewer xs cells rows to at q
+      (λ j v e. let h = stays j (q, v) e in back j v h.1)
+      (λ j v e. kept j (q, v) e (λ k. let u : s ≡ pair q v = unsome (sym here ∙ ap (slice_get xs) k ∙ e) in true≢false (sym (id_test.itself s.0) ∙ ap (λ (z : Id × V). same_id s.0 z.0) u ∙ d)))
+      ∙ ap (λ b. cond b None (indexed xs q)) (sym d))
+    where
+      gone : s.0 ≡ q → (j : ℕ) (v : V) → j < end → ((i ≡ j) × (moved ≡ pair q v)) ⊎ ((i ≢ j) × (slice_get xs j ≡ Some (pair q v))) → ⊥
+      gone k j v w (inl h) = let same = once xs rows at end i moved s last here (ap (λ (z : Id × V). z.0) h.1 ∙ sym k) in let e = h.0 in omega (arith, w, same, e)
+      gone k j v w (inr h) = h.0 (once xs rows at i j s (pair q v) here h.1 k)
+
+      back : (j : ℕ) (v : V) → ((i ≡ j) × (moved ≡ pair q v)) ⊎ ((i ≢ j) × (slice_get xs j ≡ Some (pair q v))) → (k : ℕ) × (slice_get xs k ≡ Some (q, v))
+      back j v (inl h) = (end, last ∙ ap (λ (z : Id × V). Some z) h.1)
+      back j v (inr h) = (j, h.1)

@@ -1,0 +1,33 @@
+use Rattle.std.proofs.Common.{◌≡◌, ◌∙◌, true, false, cond, [], ◌∷◌, refl, sym, ap}
+use Rattle.std.specs.Ordering.{is_eq}
+use Rattle.balise_index.specs.LinkSet.{places_held}
+use Rattle.balise_index.specs.Places.{is_place}
+use Rattle.balise_index.specs.Places.{among}
+use Rattle.balise_index.proofs.places.Ranked.{keeps-one, ordered-none, takes-one}
+use Rattle.balise_index.proofs.links.Links.remove.Goals as goal
+use Rattle.balise_index.proofs.links.Links.remove.Goals.{in-Few-1, in-Many-1, in-Empty-1}
+
+pub invariant_of-self-then-is_eq-3 : goal.invariant_of-self-then-is_eq-3
+invariant_of-self-then-is_eq-3 c = ordered-none [] refl
+
+pub returns-then-is_eq : goal.returns-then-is_eq
+returns-then-is_eq c v =
+    let old : c.args.self.now.keys ≡ c.in-One.held ∷ [] = ap (λ l. l.keys) (sym c.self.view_is) ∙ ap (λ h. (places_held h).keys) c.in-One.is in
+    let e : is_place c.args.place.now c.in-One.held ≡ true = ap is_eq (sym c.cmp.ensures) ∙ sym c.is_eq.ensures ∙ c.if-is_eq.true in
+    let put = takes-one c.args.place.now c.in-One.held e v ∙ ap (λ l. cond (is_place c.args.place.now v) false (among v l)) (sym old) in
+    elim c.match-self-2.branch [
+      | in-Few-1 w ↦ ap (λ l. among v l.keys) w.self-is ∙ put
+      | in-Many-1 w ↦ ap (λ l. among v l.keys) w.self-is ∙ put
+      | in-Empty-1 w ↦ ap (λ l. among v l.keys) w.self-is ∙ put
+    ]
+
+pub returns-else-is_eq : goal.returns-else-is_eq
+returns-else-is_eq c v =
+    let old : c.args.self.now.keys ≡ c.in-One.held ∷ [] = ap (λ l. l.keys) (sym c.self.view_is) ∙ ap (λ h. (places_held h).keys) c.in-One.is in
+    let e : is_place c.args.place.now c.in-One.held ≡ false = ap is_eq (sym c.cmp.ensures) ∙ sym c.is_eq.ensures ∙ c.if-is_eq.false in
+    keeps-one c.args.place.now c.in-One.held e v ∙ ap (λ l. cond (is_place c.args.place.now v) false (among v l)) (sym old)
+
+pub returns-in-Many : goal.returns-in-Many
+returns-in-Many c v =
+    let old = ap (λ l. l.keys) (sym c.self.view_is) ∙ ap (λ h. (places_held h).keys) c.in-Many.is in
+    c.remove-in-Many.ensures.updates.0 v ∙ ap (λ l. cond (is_place c.args.place.now v) false (among v l)) (sym old)

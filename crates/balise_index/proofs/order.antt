@@ -1,0 +1,5 @@
+pub mod Entries
+pub mod Put
+pub mod Search
+pub mod Taken
+pub mod Written

@@ -1,0 +1,11 @@
+pub mod AtSpot
+pub mod Blocks
+pub mod Identities
+pub mod IdentityMap
+pub mod InOrder
+pub mod LentEntry
+pub mod LentValue
+pub mod LinkSet
+pub mod Places
+pub mod Rows
+pub mod TagHashes

@@ -1,0 +1,18 @@
+//! Containers under tags and identities: a map that keeps an order, a map from identities, and sets of link places.
+#![tactic(auto)]
+
+mod homes;
+mod identity_map;
+mod link_place;
+mod links;
+mod ordered_map;
+mod spot;
+mod tag_hasher;
+mod tag_list;
+mod tag_search;
+
+pub use identity_map::IdentityMap;
+pub use link_place::LinkPlace;
+pub use links::{Links, Places};
+pub use ordered_map::OrderedMap;
+pub use spot::Spot;

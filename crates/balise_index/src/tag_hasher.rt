@@ -1,0 +1,61 @@
+//! Where tags are held in a map.
+
+ghost use Rattle.std.specs.Prelude.{◌≡◌};
+ghost use Rattle.balise_index.specs.TagHashes as hashes;
+
+use balise_rules::Tag;
+use indexmap::IndexMap;
+use std::hash::{BuildHasherDefault, Hasher};
+
+/// Values under tags.
+pub(crate) type TagMap<V> = IndexMap<Tag, V, BuildHasherDefault<TagHasher>>;
+
+/// What a tag's variant is multiplied by, and the whole for its highest byte.
+const FACTOR: u64 = 0x9e37_79b1;
+
+/// Hashes a tag to its number but for the highest byte, which tells tags at one place apart. So tags one after another, as
+/// those of a plan that is read, are noted in a map at places one after another.
+///
+/// Whoever picks the tags can make them collide, as with the hasher that a map has otherwise: its seed is known.
+#[derive(Clone, Copy)]
+pub(crate) struct TagHasher {
+    state: u64,
+}
+
+impl Default for TagHasher {
+    ghost is_default = { λ hasher. hasher ≡ hashes.first };
+
+    fn default() -> TagHasher {
+        TagHasher { state: 0 }
+    }
+}
+
+// The number that four bytes are, the lowest first; of others the first byte.
+fn number_in(bytes: &[u8]) -> u64
+    ensures { result ≡ hashes.number_in bytes.now }
+{
+    if bytes.len() == 4 {
+        u32::from_le_bytes([bytes[0], bytes[1], bytes[2], bytes[3]]) as u64
+    } else if bytes.len() > 0 {
+        bytes[0] as u64
+    } else {
+        0
+    }
+}
+
+impl Hasher for TagHasher {
+    ghost write = { hashes.write };
+
+    ghost finish = { hashes.finish };
+
+    fn finish(&self) -> u64 {
+        self.state & 0xff_ffff | self.state.wrapping_mul(FACTOR) & 0xff00_0000
+    }
+
+    fn write(&mut self, bytes: &[u8]) {
+        self.state = self
+            .state
+            .wrapping_mul(FACTOR)
+            .wrapping_add(number_in(bytes));
+    }
+}

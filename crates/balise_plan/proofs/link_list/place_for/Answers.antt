@@ -1,6 +1,0 @@
-use Rattle.std.proofs.Common.{◌∙◌}
-use Rattle.balise_plan.proofs.Ranked.{first-none}
-use Rattle.balise_plan.proofs.link_list.place_for.Goals as goal
-
-pub returns-in-None-clause-rank : goal.returns-in-None-clause-rank
-returns-in-None-clause-rank c = c.len.ensures ∙ c.args.list.now.ok.0 ∙ first-none c.args.place c.args.list.now.items c.in-None.ensures

@@ -1,5 +1,0 @@
-use Rattle.std.proofs.Common.{rules}
-use Rattle.balise_plan.proofs.link_set.Links.is_empty.Goals as goal
-
-pub returns : goal.returns
-returns c = search rules

@@ -1,0 +1,21 @@
+use Rattle.std.proofs.Common.{sym, ◌∙◌, ◌≡◌, None, Some}
+use Rattle.balise_rules.specs.Tagged.{find}
+use Rattle.balise_rules.specs.Tags.{same_tag}
+use Rattle.balise_rules.proofs.Tests.{tag_test}
+use Rattle.balise_plan.specs.Walks.{turned_group}
+use Rattle.balise_plan.proofs.Spots.{absent-each, value-each}
+use Rattle.balise_plan.proofs.links.walk.turn_group.Goals as goal
+
+pub returns-in_default : goal.returns-in_default
+returns-in_default c =
+    let n : None ≡ find same_tag c.args.g c.args.groups.now.entries = c.in_default.ensures.value in
+    let l = c.get_mut.follows.holds-at-none in
+    rw l (sym (absent-each same_tag c.args.g turned_group c.args.groups.now.entries (sym n)))
+
+pub turn-requires : goal.turn-requires
+turn-requires c = c.requires.fits c.in-Some.group.now (sym c.in-Some.ensures.value)
+
+pub returns : goal.returns
+returns c =
+    let n : Some c.in-Some.group.now ≡ find same_tag c.args.g c.args.groups.now.entries = c.in-Some.ensures.value in
+    c.get_mut.follows.holds c.turn.new.self ∙ value-each tag_test c.args.g turned_group c.args.groups.now.entries c.in-Some.group.now c.turn.new.self c.requires.tags (sym n) c.turn.ensures

@@ -1,0 +1,5 @@
+use Rattle.balise_plan.proofs.Copied.{Copied}
+use Rattle.balise_plan.proofs.plan.Plan.copy.Given as goal
+
+abbrev pub invariant-loop-i : goal.invariant-loop-i
+invariant-loop-i l = Copied l.self-inside.groups.entries l.i l.identities l.names l.groups.entries

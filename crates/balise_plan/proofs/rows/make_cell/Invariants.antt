@@ -1,6 +1,0 @@
-use Rattle.std.proofs.Common.{◌≡◌, length}
-use Rattle.balise_plan.specs.Rows.{Grows}
-use Rattle.balise_plan.proofs.rows.make_cell.Given as goal
-
-abbrev pub invariant-loop : goal.invariant-loop
-invariant-loop l = Grows l.fn.rows.items l.rows.items × (length l.rows.items ≡ l.counter)

@@ -1,0 +1,83 @@
+//! The links of one packet in the index of names.
+
+ghost use Rattle.std.specs.Prelude.{◌≡◌, OnOk, OnErr};
+ghost use Rattle.balise_rules.specs.Names.{links_of};
+ghost use Rattle.balise_plan.specs.GroupLinks.{links_from, AddsAll, ForgetsAll, KeepsOthers};
+ghost use Rattle.balise_plan.specs.Links.{AreFull};
+
+use crate::links::names::{add, forget};
+use crate::packet_place::PacketPlace;
+use balise_index::{IdentityMap, Links};
+use balise_layout::{Elements, PacketRef};
+use std::alloc::{AllocError, Global};
+
+/// The number of an element that names no group (SUBSET-026, 7.5, NID_BG).
+pub(crate) const NO_GROUP: u32 = 16383;
+
+/// Notes the links of a packet in a telegram of this country. Where memory runs out, some of them may be noted.
+pub(crate) fn add_packet(
+    alloc: Global,
+    names: &mut IdentityMap<Links>,
+    place: PacketPlace,
+    country: u32,
+    packet: &PacketRef,
+) -> Result<(), AllocError>
+    ensures added { OnOk result (AddsAll (links_from place.group place.telegram place.packet 0 (links_of country packet.now)) names.old names.new) }
+    ensures others { OnErr result (KeepsOthers (links_from place.group place.telegram place.packet 0 (links_of country packet.now)) names.old names.new) }
+    ensures full { AreFull names.old → AreFull names.new }
+{
+    if !packet.has_elements() {
+        return Ok(());
+    }
+    add_elements(alloc, names, place, &packet.elements(country))
+}
+
+fn add_elements(
+    alloc: Global,
+    names: &mut IdentityMap<Links>,
+    place: PacketPlace,
+    elements: &Elements,
+) -> Result<(), AllocError>
+    ensures added { OnOk result (AddsAll (links_from place.group place.telegram place.packet 0 elements.now) names.old names.new) }
+    ensures others { OnErr result (KeepsOthers (links_from place.group place.telegram place.packet 0 elements.now) names.old names.new) }
+    ensures full { AreFull names.old → AreFull names.new }
+{
+    let identities = elements.as_slice();
+    for k in 0..identities.len() {
+        let id = identities[k];
+        if id.number == NO_GROUP {
+            continue;
+        }
+        add(alloc, names, id, place.element(k as u32))?;
+    }
+    Ok(())
+}
+
+/// Forgets the links of a packet in a telegram of this country. Takes no memory.
+pub(crate) fn forget_packet(
+    names: &mut IdentityMap<Links>,
+    place: PacketPlace,
+    country: u32,
+    packet: &PacketRef,
+)
+    ensures forgotten { ForgetsAll (links_from place.group place.telegram place.packet 0 (links_of country packet.now)) names.old names.new }
+    ensures full { AreFull names.old → AreFull names.new }
+{
+    if packet.has_elements() {
+        forget_elements(names, place, &packet.elements(country));
+    }
+}
+
+fn forget_elements(names: &mut IdentityMap<Links>, place: PacketPlace, elements: &Elements)
+    ensures forgotten { ForgetsAll (links_from place.group place.telegram place.packet 0 elements.now) names.old names.new }
+    ensures full { AreFull names.old → AreFull names.new }
+{
+    let identities = elements.as_slice();
+    for k in 0..identities.len() {
+        let id = identities[k];
+        if id.number == NO_GROUP {
+            continue;
+        }
+        forget(names, id, place.element(k as u32));
+    }
+}

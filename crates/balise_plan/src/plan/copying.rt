@@ -1,0 +1,37 @@
+//! A plan once more.
+
+ghost use Rattle.std.specs.Prelude.{◌≡◌, IfOk, IsOkUnless};
+
+use crate::group::Group;
+use crate::group_places::put_at;
+use crate::plan::Plan;
+use balise_index::{IdentityMap, OrderedMap};
+use balise_rules::Refusal;
+
+impl Plan {
+    /// The same plan once more, with its changes counted.
+    pub fn copy(&self) -> Result<Plan, Refusal>
+        ensures ok { IfOk result (λ plan. plan ≡ self.now) }
+        ensures fault { IsOkUnless result Refusal.OutOfMemory }
+    {
+        let alloc = self.groups.allocator();
+        let mut groups = OrderedMap::new(alloc);
+        let mut identities = IdentityMap::new(alloc);
+        let mut names = IdentityMap::new(alloc);
+        for i in 0..self.groups.len() {
+            let Some((tag, group)) = self.groups.at(i) else {
+                break;
+            };
+            let group = group.copy()?;
+            if put_at(&mut groups, &mut identities, &mut names, i, tag, group).is_err() {
+                return Err(Refusal::OutOfMemory);
+            }
+        }
+        Ok(Plan {
+            groups,
+            identities,
+            names,
+            changes: self.changes,
+        })
+    }
+}

@@ -1,21 +1,24 @@
 //! The identities that packets and groups name, in order, but for number 16383, which names nothing.
 
-ghost use Rattle.std.specs.Prelude.{◌≡◌, ◌++◌, [], ◌∷◌, false, filter, slice_get, Some, None, IfOk, IsOk, IsOkUnless, OnOk};
+ghost use Rattle.std.specs.Prelude.{◌≡◌, ◌++◌, [], ◌∷◌, filter, slice_get, Some, None, IfOk, IsOkUnless, OnOk};
 ghost use Rattle.balise_rules.specs.declared.variable.Var.TheVariants.{NidBg, QLinkorientation};
 ghost use Rattle.balise_rules.specs.Accepting.{Accepted};
 ghost use Rattle.balise_rules.specs.Edits.{SetVar};
-ghost use Rattle.balise_rules.specs.Names.{is_real, names_in, names_in_packets};
+ghost use Rattle.balise_rules.specs.Names.{is_real, names_in, names_in_packets, names_of};
 ghost use Rattle.balise_rules.specs.Notes.{noted};
 ghost use Rattle.balise_rules.specs.Plan.{country_of, telegram_at, IsSound};
-ghost use Rattle.balise_rules.specs.Tags.{same_var};
 ghost use Rattle.balise_rules.specs.Telegram.{Telegram};
 ghost use Rattle.balise_telegram.specs.Packed.{links_at};
 ghost use Rattle.balise_edits.specs.Notes.{names_in as names_held};
 
 use crate::note::Names;
-use balise_plan::{Group, Plan, Telegram};
+use balise_layout::Elements;
+use balise_plan::{Group, PacketRef, Plan, Telegram};
 use balise_rules::{Id, Refusal, Tag, Var};
 use std::alloc::{AllocError, Global};
+
+/// The number of an element that names no group.
+const NO_GROUP: u32 = 16383;
 
 /// The identities that a group names.
 pub(crate) fn names_of_group(alloc: Global, group: &Group) -> Result<Vec<Id>, Refusal>
@@ -37,20 +40,35 @@ fn add_telegram(names: &mut Vec<Id>, telegram: &Telegram) -> Result<(), Refusal>
     ensures ok { OnOk result (names.new.items ≡ names.old.items ++ names_in_packets (country_of telegram.now) telegram.now.packets) }
     ensures fault { IsOkUnless result Refusal.OutOfMemory }
 {
-    let linking = telegram.linking()?;
-    for (_, links) in &linking {
-        add_real(names, links)?;
+    let country = telegram.identity().country;
+    for (_, packet) in telegram.packets() {
+        add_packet(names, &packet, country)?;
     }
     Ok(())
 }
 
-/// Adds those of these that are of a group.
-pub(crate) fn add_real(names: &mut Vec<Id>, links: &Vec<Id>) -> Result<(), AllocError>
-    ensures { OnOk result (names.new.items ≡ names.old.items ++ filter is_real links.now.items) }
+/// Adds those that a packet names in a telegram of this country.
+pub(crate) fn add_packet(
+    names: &mut Vec<Id>,
+    packet: &PacketRef,
+    country: u32,
+) -> Result<(), AllocError>
+    ensures { OnOk result (names.new.items ≡ names.old.items ++ names_of country packet.now) }
 {
-    for k in 0..links.len() {
-        let id = links[k];
-        if id.number == 16383 {
+    if !packet.has_elements() {
+        return Ok(());
+    }
+    add_real(names, &packet.elements(country))
+}
+
+// Adds those of these that are of a group.
+fn add_real(names: &mut Vec<Id>, elements: &Elements) -> Result<(), AllocError>
+    ensures { OnOk result (names.new.items ≡ names.old.items ++ filter is_real elements.now) }
+{
+    let identities = elements.as_slice();
+    for k in 0..identities.len() {
+        let id = identities[k];
+        if id.number == NO_GROUP {
             continue;
         }
         names.push(id)?;
@@ -59,19 +77,9 @@ pub(crate) fn add_real(names: &mut Vec<Id>, links: &Vec<Id>) -> Result<(), Alloc
 }
 
 /// The identities that setting a field has to do with, where it is accepted: the old and the new one of a link, or of an
-/// orientation the link's. Takes no memory for any other variable.
-pub(crate) fn names_set(
-    plan: &Plan,
-    g: Tag,
-    t: u32,
-    p: Tag,
-    var: Var,
-    k: u32,
-    value: u32,
-) -> Result<Names, Refusal>
-    ensures ok { IfOk result (λ names. Accepted (SetVar g t p var k value) plan.now.groups → names_held names ≡ (noted (SetVar g t p var k value) plan.now.groups).names) }
-    ensures fault { IsOkUnless result Refusal.OutOfMemory }
-    ensures always { same_var var NidBg ≡ false → same_var var QLinkorientation ≡ false → IsOk result }
+/// orientation the link's. Takes no memory.
+pub(crate) fn names_set(plan: &Plan, g: Tag, t: u32, p: Tag, var: Var, k: u32, value: u32) -> Names
+    ensures { Accepted (SetVar g t p var k value) plan.now.groups → names_held result ≡ (noted (SetVar g t p var k value) plan.now.groups).names }
 {
     if var == Var::NidBg {
         return names_of_number(plan, g, t, p, k, value);
@@ -79,71 +87,54 @@ pub(crate) fn names_set(
     if var == Var::QLinkorientation {
         return names_of_orientation(plan, g, t, p, k, value);
     }
-    Ok(Names::Neither([]))
+    Names::Neither([])
 }
 
 // Those that setting the number of a link has to do with.
-fn names_of_number(
-    plan: &Plan,
-    g: Tag,
-    t: u32,
-    p: Tag,
-    k: u32,
-    value: u32,
-) -> Result<Names, Refusal>
-    ensures ok { IfOk result (λ names. Accepted (SetVar g t p NidBg k value) plan.now.groups → names_held names ≡ (noted (SetVar g t p NidBg k value) plan.now.groups).names) }
-    ensures fault { IsOkUnless result Refusal.OutOfMemory }
+fn names_of_number(plan: &Plan, g: Tag, t: u32, p: Tag, k: u32, value: u32) -> Names
+    ensures { Accepted (SetVar g t p NidBg k value) plan.now.groups → names_held result ≡ (noted (SetVar g t p NidBg k value) plan.now.groups).names }
 {
-    let Some(from) = link_at(plan, g, t, p, k)? else {
-        return Ok(Names::Neither([]));
+    let Some(from) = link_at(plan, g, t, p, k) else {
+        return Names::Neither([]);
     };
     let to = Id {
         country: from.country,
         number: value,
     };
-    Ok(both_real(from, to))
+    both_real(from, to)
 }
 
 // The one that setting an orientation has to do with.
-fn names_of_orientation(
-    plan: &Plan,
-    g: Tag,
-    t: u32,
-    p: Tag,
-    k: u32,
-    value: u32,
-) -> Result<Names, Refusal>
-    ensures ok { IfOk result (λ names. Accepted (SetVar g t p QLinkorientation k value) plan.now.groups → names_held names ≡ (noted (SetVar g t p QLinkorientation k value) plan.now.groups).names) }
-    ensures fault { IsOkUnless result Refusal.OutOfMemory }
+fn names_of_orientation(plan: &Plan, g: Tag, t: u32, p: Tag, k: u32, value: u32) -> Names
+    ensures { Accepted (SetVar g t p QLinkorientation k value) plan.now.groups → names_held result ≡ (noted (SetVar g t p QLinkorientation k value) plan.now.groups).names }
 {
-    let Some(link) = link_at(plan, g, t, p, k)? else {
-        return Ok(Names::Neither([]));
+    let Some(link) = link_at(plan, g, t, p, k) else {
+        return Names::Neither([]);
     };
-    Ok(one_real(link))
+    one_real(link)
 }
 
-// The item `k` of the links of a packet. The plan is sound.
-fn link_at(plan: &Plan, g: Tag, t: u32, p: Tag, k: u32) -> Result<Option<Id>, Refusal>
-    ensures ok { IfOk result (λ link. (y : Telegram) → telegram_at g t plan.now.groups ≡ Some y → link ≡ slice_get (links_at p y) k) }
-    ensures none { IfOk result (λ link. telegram_at g t plan.now.groups ≡ None → link ≡ None) }
+// The identity of element `k` of a packet. The plan is sound.
+fn link_at(plan: &Plan, g: Tag, t: u32, p: Tag, k: u32) -> Option<Id>
+    ensures item { (y : Telegram) → telegram_at g t plan.now.groups ≡ Some y → result ≡ slice_get (links_at p y) k }
+    ensures none { telegram_at g t plan.now.groups ≡ None → result ≡ None }
     ensures sound { IsSound plan.now.groups }
-    ensures fault { IsOkUnless result Refusal.OutOfMemory }
 {
     let Some(telegram) = plan.telegram(g, t) else {
-        return Ok(None);
+        return None;
     };
-    let links = telegram.links(p)?;
-    match links.get(k as usize) {
-        Some(link) => Ok(Some(*link)),
-        None => Ok(None),
-    }
+    let country = telegram.identity().country;
+    let Some(packet) = telegram.packet(p) else {
+        return None;
+    };
+    packet.elements(country).get(k as usize)
 }
 
 // The identity, if it is of a group.
 fn one_real(id: Id) -> Names
     ensures { names_held result ≡ filter is_real (id ∷ []) }
 {
-    if id.number == 16383 {
+    if id.number == NO_GROUP {
         return Names::Neither([]);
     }
     Names::One([id])
@@ -153,10 +144,10 @@ fn one_real(id: Id) -> Names
 fn both_real(from: Id, to: Id) -> Names
     ensures { names_held result ≡ filter is_real (from ∷ to ∷ []) }
 {
-    if from.number == 16383 {
+    if from.number == NO_GROUP {
         return one_real(to);
     }
-    if to.number == 16383 {
+    if to.number == NO_GROUP {
         return Names::One([from]);
     }
     Names::Both([from, to])

@@ -15,7 +15,6 @@ pub mod PackedPlaces
 pub mod HeaderPlaces
 pub mod PackedChanges
 pub mod PackedFields
-pub mod LinkingPackets
 pub mod Seen
 pub mod Splices
 pub mod Walking
@@ -25,5 +24,4 @@ pub mod InAndOut
 pub mod FieldPlaces
 pub mod FieldsSet
 pub mod Moves
-pub mod LinkingWalk
 pub mod Left

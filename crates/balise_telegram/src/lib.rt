@@ -3,7 +3,6 @@
 
 mod fault;
 mod header;
-mod linking;
 mod telegram;
 
 pub use balise_bits::{Bits, BitsFault};

@@ -7,24 +7,23 @@ mod packets;
 mod reading;
 mod walking;
 
-ghost use Rattle.std.specs.Prelude.{◌≡◌, ◌≤◌, ◌<◌, ◌^◌, ◌+◌, ℕ, IfErr, IfOk, IfSome, IsOkUnless, OnErr, OnOk, length, map, option_map, slice_get, Option};
+ghost use Rattle.std.specs.Prelude.{◌≡◌, ◌≤◌, ◌<◌, ◌^◌, ◌+◌, ℕ, IfErr, IfOk, IfSome, IsOkUnless, OnErr, OnOk, length, option_map, slice_get, Option};
 ghost use Rattle.std.specs.List.{position};
 ghost use Rattle.balise_rules.specs.Digits.{hex_of};
 ghost use Rattle.balise_rules.specs.Tagged.{find, Distinct};
 ghost use Rattle.balise_rules.specs.Tags.{same_tag};
 ghost use Rattle.balise_rules.specs.Packet.{field_of, Packet};
-ghost use Rattle.balise_rules.specs.Plan.{country_of, identity_in};
+ghost use Rattle.balise_rules.specs.Plan.{identity_in};
 ghost use Rattle.balise_rules.specs.Telegram.{shown, used, version_of, IsLength};
 ghost use Rattle.balise_rules.specs.declared.tag.Tag.{Tag};
 ghost use Rattle.balise_telegram.specs.HeaderFields.{fields_in};
-ghost use Rattle.balise_telegram.specs.Packed.{linking, links_at, packet_place, place_from};
+ghost use Rattle.balise_telegram.specs.Packed.{packet_place, place_from};
 ghost use Rattle.balise_telegram.specs.Shown.{IsPlace};
 ghost use Rattle.balise_telegram.specs.declared.telegram.walking.Place.{Place};
 
 use crate::PacketTag;
 use crate::fault::TelegramFault;
 use crate::header::{Header, head_place};
-use crate::linking::add_linking;
 use crate::telegram::edited::{Edited, place_read, tag_read};
 use crate::telegram::walking::{Place, after, ends, walk};
 use balise_bits::Bits;
@@ -157,33 +156,6 @@ impl Telegram {
             return None;
         };
         Some((tag, self.lent(place)))
-    }
-
-    /// The identities of the elements of the packet with this tag, one each in order, with number 16383 kept: none
-    /// where the packet isn't there.
-    pub fn links(&self, tag: PacketTag) -> Result<Vec<Id>, TelegramFault>
-        ensures ok { IfOk result (λ links. links.items ≡ links_at tag self.now) }
-        ensures fault { IsOkUnless result TelegramFault.OutOfMemory }
-    {
-        let country = self.identity().country;
-        let Some(packet) = self.packet(tag) else {
-            return Ok(Vec::new(self.packed.allocator()));
-        };
-        Ok(packet.links(country)?)
-    }
-
-    /// The packets that have elements, in order, each as its tag and their identities, one each in order, with number
-    /// 16383 kept. Takes no memory where none has any.
-    pub fn linking(&self) -> Result<Vec<(PacketTag, Vec<Id>)>, TelegramFault>
-        ensures ok { IfOk result (λ each. map (λ p. (p.0, p.1.items)) each.items ≡ linking (country_of self.now) self.now.packets) }
-        ensures fault { IsOkUnless result TelegramFault.OutOfMemory }
-    {
-        let country = self.identity().country;
-        let mut found = Vec::new(self.packed.allocator());
-        for (tag, packet) in self.packets() {
-            add_linking(&mut found, tag, packet.links(country)?)?;
-        }
-        Ok(found)
     }
 
     /// The same telegram once more.

@@ -65,31 +65,21 @@ pub(crate) const PACKETS: [Kept; 10] = [
     (44, 0, 32, &[]),
 ];
 
-/// The places of those that have elements.
-const FOUR: [u32; 4] = [0, 1, 7, 8];
-
-/// Whether this is the packet that was read at a place, and its elements.
-fn is_one(one: &(PacketTag, Vec<Id>), place: u32) -> bool {
-    let Some(row) = PACKETS.get(place as usize) else {
-        return false;
-    };
-    (one.0 == PacketTag::Base(place)) & (one.1.as_slice() == row.3)
-}
-
-/// Whether these are the four packets that have elements.
-fn are_four(linking: &[(PacketTag, Vec<Id>)]) -> bool {
-    let mut same = linking.len() == 4;
-    for (k, place) in FOUR.iter().enumerate() {
-        match linking.get(k) {
-            Some(one) => same &= is_one(one, *place),
-            None => same = false,
-        }
+/// Whether each of the ten packets has the elements of its row.
+fn have_elements(telegram: &Telegram) -> bool {
+    let country = telegram.identity().country;
+    let mut same = true;
+    for (tag, packet) in telegram.packets() {
+        let PacketTag::Base(place) = tag else {
+            return false;
+        };
+        let Some(row) = PACKETS.get(place as usize) else {
+            return false;
+        };
+        same &= packet.has_elements() == !row.3.is_empty();
+        same &= packet.elements(country).as_slice() == row.3;
     }
     same
-}
-
-fn check_linking(rt: &impl Abort, telegram: &Telegram) {
-    assert!(rt; are_four(telegram.linking().expect(rt, "memory").as_slice()));
 }
 
 /// Moves the last of ten packets there and back.
@@ -98,15 +88,15 @@ fn edit_last(rt: &impl Abort, telegram: &mut Telegram) {
     assert!(rt; telegram.shift_before(PacketTag::Base(9), None) == Ok(Some(PacketTag::Base(0))));
 }
 
-fn check_edited_linking(rt: &impl Abort, telegram: &mut Telegram) {
-    check_linking(rt, telegram);
+fn check_elements(rt: &impl Abort, telegram: &mut Telegram) {
+    assert!(rt; have_elements(telegram));
     edit_last(rt, telegram);
-    check_linking(rt, telegram);
+    assert!(rt; have_elements(telegram));
 }
 
 #[test]
 fn names_the_packets_that_have_elements(rt: HostRuntime) {
-    check_edited_linking(&rt, &mut telegram_of(&rt, rt.alloc(), EACH_KIND));
+    check_elements(&rt, &mut telegram_of(&rt, rt.alloc(), EACH_KIND));
 }
 
 /// The digits of a telegram, and what it holds: packets, and bits used and left of so many.

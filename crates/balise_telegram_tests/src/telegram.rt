@@ -60,12 +60,12 @@ fn has_tagged(rt: &impl Abort, telegram: &Telegram, i: u32, restriction: u32) ->
     let Some(packet) = telegram.packet(tag) else {
         return false;
     };
-    takes_back(rt, &packet, restriction) & has_links(rt, telegram, tag, &[])
+    takes_back(rt, &packet, restriction) & has_links(telegram, tag, &[])
 }
 
 /// Whether the telegram has no packet with this tag.
-fn lacks(rt: &impl Abort, telegram: &Telegram, tag: PacketTag) -> bool {
-    telegram.packet(tag).is_none() & has_links(rt, telegram, tag, &[])
+fn lacks(telegram: &Telegram, tag: PacketTag) -> bool {
+    telegram.packet(tag).is_none() & has_links(telegram, tag, &[])
 }
 
 /// Variables and what a header has for them.
@@ -90,8 +90,8 @@ fn has_head(telegram: &Telegram) -> bool {
 fn has_no_third(rt: &impl Abort, telegram: &Telegram) -> bool {
     telegram.at(2).is_none()
         & telegram.at(4294967296).is_none()
-        & lacks(rt, telegram, PacketTag::Base(2))
-        & lacks(rt, telegram, PacketTag::Fresh(0))
+        & lacks(telegram, PacketTag::Base(2))
+        & lacks(telegram, PacketTag::Fresh(0))
 }
 
 fn has_two(rt: &impl Abort, telegram: &Telegram) -> bool {
@@ -187,7 +187,7 @@ fn changes_element(rt: &impl Abort, telegram: &mut Telegram, element: PacketTag)
 /// That the one element and the header of a telegram are changed.
 fn check_element(rt: &impl Abort, telegram: &mut Telegram) {
     let element = PacketTag::Base(0);
-    assert!(rt; has_links(rt, telegram, element, &[NAMED]));
+    assert!(rt; has_links(telegram, element, &[NAMED]));
     assert!(rt; changes_element(rt, telegram, element) & puts_header(telegram));
 }
 

@@ -30,7 +30,7 @@ pub(crate) fn set_var(
     ensures noted { IfOk result (λ m. note_of m ≡ noted (SetVar g t p var k value) plan.old.groups) }
     ensures kind { IfOk result (λ m. kind_in m ≡ OfField) }
 {
-    let names = names_set(plan, g, t, p, var, k, value)?;
+    let names = names_set(plan, g, t, p, var, k, value);
     let old = match plan.set_field(g, t, p, var, k, value) {
         Ok(old) => old,
         Err(fault) => return Err(fault),

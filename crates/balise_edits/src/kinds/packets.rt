@@ -13,7 +13,7 @@ ghost use Rattle.balise_edits.specs.Standing.{DoesAgain, DoesItem, IsLast, IsNex
 use crate::copying::copy_packet;
 use crate::edit::Edit;
 use crate::entry::Entry;
-use crate::naming::add_real;
+use crate::naming::add_packet;
 use crate::note::{Note, TakenPacket};
 use balise_layout::Packet;
 use balise_plan::{Plan, Spot};
@@ -43,11 +43,8 @@ pub(crate) fn insert(
     let Some(country) = group.country(t) else {
         return Err(Refusal::NoSuchTelegram);
     };
-    let Ok(links) = packet.links(country) else {
-        return Err(Refusal::OutOfMemory);
-    };
     let mut names = Vec::new(alloc);
-    add_real(&mut names, &links)?;
+    add_packet(&mut names, &packet.lend(), country)?;
     let copied = copy_packet(packet)?;
     put_after(plan, serial, g, t, after, copied)?;
     Ok(Note::Inserted { names })
@@ -123,10 +120,9 @@ pub(crate) fn delete(
 {
     let mut names = Vec::new(alloc);
     if let Some(telegram) = plan.telegram(g, t) {
-        let Ok(links) = telegram.links(p) else {
-            return Err(Refusal::OutOfMemory);
-        };
-        add_real(&mut names, &links)?;
+        if let Some(packet) = telegram.packet(p) {
+            add_packet(&mut names, &packet, telegram.identity().country)?;
+        }
     }
     let packet = None;
     let mut taken = Box::new(alloc, TakenPacket { names, packet })?;

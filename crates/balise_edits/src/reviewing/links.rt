@@ -147,9 +147,8 @@ fn add_packet(
     ensures ok { OnOk result (found.new.items ≡ found.old.items ++ lines_at own pig pkt (named_in id country packet.now)) }
     ensures fault { IsOkUnless result Refusal.OutOfMemory }
 {
-    let Ok(links) = packet.links(country) else {
-        return Err(Refusal::OutOfMemory);
-    };
+    let elements = packet.elements(country);
+    let links = elements.as_slice();
     for k in 0..links.len() {
         if links[k] != id {
             continue;

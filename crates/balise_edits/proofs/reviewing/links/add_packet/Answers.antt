@@ -1,11 +1,12 @@
 use Rattle.std.proofs.Common.{rules, ◌≡◌, ◌∙◌, ◌+◌, ◌-◌, ◌++◌, ◌<◌, List, drop, get_or, length, slice_get, Some, true, ap, sym, append_assoc, arith}
 use Rattle.std.proofs.lemmas.List.{map-append}
-use Rattle.std.proofs.lemmas.Option.{slice_get_read}
 use Rattle.balise_rules.specs.declared.review.Reviewed.{Reviewed}
 use Rattle.balise_rules.specs.declared.review.ReviewLine.{ReviewLine}
 use Rattle.balise_rules.specs.Review.{distance_of, lines_at}
 use Rattle.balise_rules.specs.Tags.{same_id}
+use Rattle.balise_rules.specs.declared.identity.Id.{Id}
 use Rattle.balise_plan.proofs.GroupLists.{drop_found}
+use Rattle.balise_plan.proofs.LinkSteps.{get-some}
 use Rattle.balise_edits.specs.Reviews.{named_from}
 use Rattle.balise_edits.proofs.FoundLines.{one_more, named_more}
 use Rattle.balise_edits.proofs.reviewing.links.add_packet.Goals as goal
@@ -15,15 +16,13 @@ loop-k-preserved c =
     let fs = c.args.packet.now.fields in
     let i = c.args.id in
     let k = c.loop-k.k in
-    let js = c.in-Ok.links.items in
-    let j = c.index.result.now in
-    let less : k < c.len-k-end.result = search rules in
-    let is : j ≡ get_or js k j = search rules in
-    let many : c.len-k-end.result ≡ length js = search rules in
-    let here : slice_get js k ≡ Some j = slice_get_read js c.len-k-end.result k j many less is in
+    let js = c.as_slice-links.result.now in
+    let none : Id = record { country = 0; number = 0 } in
+    let j : Id = get_or js k none in
+    let here : slice_get js k ≡ Some j = get-some js k none c.loop-k-test.true in
     let same : same_id j i ≡ true = search rules in
-    let at : c.in-Ok-try_from.next ≡ k + 1 = search rules in
-    let before : c.in-Ok-try_from.next - 1 ≡ k = omega (arith, at) in
+    let at : c.in-Ok.next ≡ k + 1 = search rules in
+    let before : c.in-Ok.next - 1 ≡ k = omega (arith, at) in
     let found = c.loop-k.found.items in
     let lines : List Reviewed → List ReviewLine = lines_at c.args.own c.args.pig c.args.pkt in
     let a = distance_of fs k in

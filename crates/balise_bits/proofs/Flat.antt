@@ -66,7 +66,12 @@ num-flat_more bs i h lt =
     let b = get_or bs i 0 in
     rw (take_more bs i 0 h, flat-append (take i bs) (b ∷ []), flat_one b, num-append (flat (take i bs)) (bits 8 b), length-bits 8 b, num-bits_fit 8 b lt) refl
 
--- the number of four bytes, and of eight
+-- the number of one byte, of four, and of eight
+pub num-flat_one : (bs : List ℕ) → length bs ≡ 1 → get_or bs 0 0 < 256 → num (flat bs) ≡ get_or bs 0 0
+num-flat_one [] one byte = absurd (omega (arith, one))
+num-flat_one (b ∷ []) one byte = ap num (flat_one b) ∙ num-bits_fit 8 b byte
+num-flat_one (b ∷ c ∷ bs) one byte = absurd (omega (arith, one))
+
 first_four : (bs : List ℕ) → 4 ≤ length bs → ((i : ℕ) → get_or bs i 0 < 256) → num (flat (take 4 bs)) ≡ get_or bs 0 0 * 16777216 + get_or bs 1 0 * 65536 + get_or bs 2 0 * 256 + get_or bs 3 0
 first_four bs long byte =
     let n0 : num (flat (take 0 bs)) ≡ 0 = num-flat_nil in

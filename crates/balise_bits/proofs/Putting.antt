@@ -128,3 +128,18 @@ part-put_at_before o n at x b h lt =
 -- after it
 pub part-put_at_behind : (o n at : ℕ) (x b : List Bool) → at + length x ≤ o → at ≤ length b → part o n (put_at at x b) ≡ part o n b
 part-put_at_behind o n at x b h lt = ap (take n) (drop-put_at o at x b h lt)
+
+-- nothing put
+pub put_at-none : (to at : ℕ) (x b : List Bool) → put_at to (part at 0 x) b ≡ b
+put_at-none to at x b =
+    let far : to + 0 ≡ to = omega arith in
+    ap (λ (k : ℕ). take to b ++ drop k b) far ∙ take-append-drop to b
+
+-- a part goes on
+pub put_at-more : (to at n w : ℕ) (x b : List Bool) → at + (n + w) ≤ length x → to + (n + w) ≤ length b → put_at (to + n) (part (at + n) w x) (put_at to (part at n x) b) ≡ put_at to (part at (n + w) x) b
+put_at-more to at n w x b h k =
+    let size : length (part at n x) ≡ n = length-part at n x (omega (arith, h)) in
+    let next : length (part (at + n) w x) ≡ w = length-part (at + n) w x (omega (arith, h)) in
+    ap (λ (m : ℕ). put_at (to + m) (part (at + n) w x) (put_at to (part at n x) b)) (sym size)
+    ∙ put_at-put_at to (part at n x) (part (at + n) w x) b (omega (arith, size, next, k))
+    ∙ ap (λ (l : List Bool). put_at to l b) (part-append at n w x)

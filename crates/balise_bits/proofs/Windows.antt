@@ -1,14 +1,16 @@
 -- Bytes written one after another: those of a number, and those that lie across others.
 use Rattle.std.proofs.Common.{◌≡◌, ℕ, ◌+◌, ◌-◌, ◌*◌, ◌/◌, ◌%◌, ◌^◌, ◌<◌, ◌≤◌, Bool, List, [], ◌∷◌, ◌++◌, length, take, drop, get_or, set, refl, sym, ap, subst, ◌∙◌, arith}
+use borrow.Rule.Slice.PartMut.{put_mid}
 use Rattle.std.proofs.Math.Seq.{take-add}
 use Rattle.std.proofs.lemmas.Nat.{shr-shr}
+use Rattle.std.proofs.lemmas.Slice.{take-put_mid}
 use Rattle.std.proofs.lemmas.List.{length-take, length-drop, drop-drop, drop_more, take_more_set, take_all}
 use Rattle.balise_rules.specs.Bits.{num, bits, part}
 use Rattle.balise_rules.proofs.Numbers.{length-bits, num-bits_fit, bits-num, num-append}
 use Rattle.balise_bits.specs.Bytes.{flat}
 use Rattle.balise_bits.proofs.Pieces.{bits-split, bits-mod, num-part}
 use Rattle.balise_bits.proofs.Putting.{part-part, length-part}
-use Rattle.balise_bits.proofs.Flat.{flat-nil, flat-cons, flat_one, flat-append, flat-part, length-flat}
+use Rattle.balise_bits.proofs.Flat.{flat-nil, flat-cons, flat_one, flat-append, flat-part, length-flat, num-flat_more}
 
 -- ---- the bytes of a number
 
@@ -34,6 +36,15 @@ set_four (v ∷ w ∷ x ∷ []) a b c d h = absurd (omega (arith, h))
 set_four (v ∷ w ∷ x ∷ y ∷ []) a b c d h = refl
 set_four (v ∷ w ∷ x ∷ y ∷ z ∷ r) a b c d h = absurd (omega (arith, h))
 
+-- one write to one byte
+pub set_one : (w : List ℕ) (a : ℕ) → length w ≡ 1 → set w 0 a ≡ a ∷ []
+set_one [] a h = absurd (omega (arith, h))
+set_one (v ∷ []) a h = refl
+set_one (v ∷ x ∷ r) a h = absurd (omega (arith, h))
+
+pub flat-one : (n : ℕ) → flat (n % 256 ∷ []) ≡ bits 8 n
+flat-one n = flat_one (n % 256) ∙ bits-mod 8 n
+
 byte_more : (m n : ℕ) (bs : List ℕ) → flat bs ≡ bits m n → flat (n / 2 ^ m % 256 ∷ bs) ≡ bits (8 + m) n
 byte_more m n bs e =
     flat-cons (n / 2 ^ m % 256) bs ∙ ap (λ (x : List Bool). x ++ flat bs) (bits-mod 8 (n / 2 ^ m))
@@ -41,8 +52,7 @@ byte_more m n bs e =
 
 pub flat-four : (n : ℕ) → flat (n / 2 ^ 24 % 256 ∷ n / 2 ^ 16 % 256 ∷ n / 2 ^ 8 % 256 ∷ n % 256 ∷ []) ≡ bits 32 n
 flat-four n =
-    let e1 : flat (n % 256 ∷ []) ≡ bits 8 n = flat_one (n % 256) ∙ bits-mod 8 n in
-    let e2 : flat (n / 2 ^ 8 % 256 ∷ n % 256 ∷ []) ≡ bits 16 n = byte_more 8 n (n % 256 ∷ []) e1 in
+    let e2 : flat (n / 2 ^ 8 % 256 ∷ n % 256 ∷ []) ≡ bits 16 n = byte_more 8 n (n % 256 ∷ []) (flat-one n) in
     let e3 : flat (n / 2 ^ 16 % 256 ∷ n / 2 ^ 8 % 256 ∷ n % 256 ∷ []) ≡ bits 24 n = byte_more 16 n (n / 2 ^ 8 % 256 ∷ n % 256 ∷ []) e2 in
     byte_more 24 n (n / 2 ^ 16 % 256 ∷ n / 2 ^ 8 % 256 ∷ n % 256 ∷ []) e3
 
@@ -92,26 +102,56 @@ pair_at : (from : List ℕ) (i : ℕ) → i + 2 ≤ length from → take 2 (drop
 pair_at from i h =
     ap (take 2) (drop_more from i 0 (omega arith)) ∙ ap (λ (x : List ℕ). get_or from i 0 ∷ take 1 x) (drop_more from (i + 1) 0 (omega arith))
 
-pub across : (from : List ℕ) (shift i a b : ℕ) → shift < 8 → i + 2 ≤ length from → a ≡ get_or from i 0 → b ≡ get_or from (i + 1) 0 → a < 256 → b < 256 → bits 8 ((a * 256 + b) / 2 ^ (8 - shift)) ≡ part (shift + 8 * i) 8 (flat from)
+-- the bits of n bytes of others, n * 8 of them from a place of the first byte on
+own_part : (from : List ℕ) (shift i n m : ℕ) → shift + m ≤ 8 * n → i + n ≤ length from → bits m (num (part shift m (flat (take n (drop i from))))) ≡ part (shift + 8 * i) m (flat from)
+own_part from shift i n m fits held =
+    let w = take n (drop i from) in
+    let size : length (flat w) ≡ 8 * n = omega (arith, length-flat w, length-take n (drop i from), length-drop i from) in
+    let p = part shift m (flat w) in
+    let long : length p ≡ m = length-part shift m (flat w) (omega (arith, size)) in
+    let place : 8 * i + shift ≡ shift + 8 * i = omega arith in
+    subst (λ (k : ℕ). bits k (num p) ≡ p) long (bits-num p)
+    ∙ ap (part shift m) (flat-part i n from held) ∙ part-part shift m (8 * i) (8 * n) (flat from) (omega arith)
+    ∙ ap (λ (k : ℕ). part k m (flat from)) place
+
+-- a part goes on with the next n bytes
+next_part : (f : List Bool) (shift i n : ℕ) → part shift (8 * i) f ++ part (shift + 8 * i) (8 * n) f ≡ part shift (8 * (i + n)) f
+next_part f shift i n =
+    let size : 8 * i + 8 * n ≡ 8 * (i + n) = omega arith in
+    ap (λ (x : List Bool). part shift (8 * i) f ++ x) (ap (take (8 * n)) (sym (drop-drop (8 * i) shift f)))
+    ∙ sym (take-add (8 * i) (8 * n) (drop shift f)) ∙ ap (λ (k : ℕ). part shift k f) size
+
+across : (from : List ℕ) (shift i a b : ℕ) → shift < 8 → i + 2 ≤ length from → a ≡ get_or from i 0 → b ≡ get_or from (i + 1) 0 → a < 256 → b < 256 → bits 8 ((a * 256 + b) / 2 ^ (8 - shift)) ≡ part (shift + 8 * i) 8 (flat from)
 across from shift i a b low held ea eb ha hb =
     let w = take 2 (drop i from) in
     let size : length (flat w) ≡ 16 = omega (arith, length-flat w, length-take 2 (drop i from), length-drop i from) in
     let value : num (flat w) ≡ a * 256 + b =
     ap (λ (x : List ℕ). num (flat x)) (pair_at from i held ∙ ap (λ (x : ℕ). x ∷ get_or from (i + 1) 0 ∷ []) (sym ea) ∙ ap (λ (x : ℕ). a ∷ x ∷ []) (sym eb)) ∙ num-pair a b ha hb in
     let v = num (flat w) / 2 ^ (8 - shift) in
-    let p = part shift 8 (flat w) in
-    let long : length p ≡ 8 = length-part shift 8 (flat w) (omega (arith, size)) in
-    let number : v % 2 ^ 8 ≡ num p = num-part (flat w) shift 8 (8 - shift) (omega (arith, size)) in
-    let own : bits 8 (num p) ≡ p = subst (λ (k : ℕ). bits k (num p) ≡ p) long (bits-num p) in
-    let place : 8 * i + shift ≡ shift + 8 * i = omega arith in
-    ap (λ (x : ℕ). bits 8 (x / 2 ^ (8 - shift))) (sym value) ∙ sym (bits-mod 8 v) ∙ ap (bits 8) number ∙ own
-    ∙ ap (part shift 8) (flat-part i 2 from held) ∙ part-part shift 8 (8 * i) 16 (flat from) (omega arith)
-    ∙ ap (λ (k : ℕ). part k 8 (flat from)) place
+    let number : v % 2 ^ 8 ≡ num (part shift 8 (flat w)) = num-part (flat w) shift 8 (8 - shift) (omega (arith, size)) in
+    ap (λ (x : ℕ). bits 8 (x / 2 ^ (8 - shift))) (sym value) ∙ sym (bits-mod 8 v) ∙ ap (bits 8) number ∙ own_part from shift i 2 8 (omega arith) held
 
 pub shifted_more : (out from : List ℕ) (shift i a b : ℕ) → shift < 8 → i < length out → i + 2 ≤ length from → a ≡ get_or from i 0 → b ≡ get_or from (i + 1) 0 → a < 256 → b < 256 → flat (take i out) ≡ part shift (8 * i) (flat from) → flat (take (i + 1) (set out i ((a * 256 + b) / 2 ^ (8 - shift) % 256))) ≡ part shift (8 * (i + 1)) (flat from)
 shifted_more out from shift i a b low h held ea eb ha hb before =
-    let size : 8 * i + 8 ≡ 8 * (i + 1) = omega arith in
     flat-take_more out i ((a * 256 + b) / 2 ^ (8 - shift)) h
     ∙ ap (λ (x : List Bool). x ++ bits 8 ((a * 256 + b) / 2 ^ (8 - shift))) before
-    ∙ ap (λ (x : List Bool). part shift (8 * i) (flat from) ++ x) (across from shift i a b low held ea eb ha hb ∙ ap (take 8) (sym (drop-drop (8 * i) shift (flat from))))
-    ∙ sym (take-add (8 * i) 8 (drop shift (flat from))) ∙ ap (λ (k : ℕ). part shift k (flat from)) size
+    ∙ ap (λ (x : List Bool). part shift (8 * i) (flat from) ++ x) (across from shift i a b low held ea eb ha hb)
+    ∙ next_part (flat from) shift i 1
+
+-- the number of 64 bits of nine bytes
+pub nine_across : (w : List ℕ) (shift a b : ℕ) → shift < 8 → length w ≡ 9 → a ≡ num (flat (take 8 w)) → b ≡ get_or w 8 0 → b < 256 → (a * 256 + b) / 2 ^ (8 - shift) % 2 ^ 64 ≡ num (part shift 64 (flat w))
+nine_across w shift a b low nine ea eb hb =
+    let size : length (flat w) ≡ 72 = omega (arith, length-flat w, nine) in
+    let byte : get_or w 8 0 < 256 = subst (λ (n : ℕ). n < 256) eb hb in
+    let value : a * 256 + b ≡ num (flat w) =
+    ap (λ (n : ℕ). n * 256 + b) ea ∙ ap (λ (n : ℕ). num (flat (take 8 w)) * 256 + n) eb ∙ sym (num-flat_more w 8 (omega (arith, nine)) byte)
+    ∙ ap (λ (x : List ℕ). num (flat x)) (take_all 9 w (omega (arith, nine))) in
+    ap (λ (n : ℕ). n / 2 ^ (8 - shift) % 2 ^ 64) value ∙ num-part (flat w) shift 64 (8 - shift) (omega (arith, size))
+
+-- eight bytes more
+pub words_more : (out win from : List ℕ) (shift i k v : ℕ) → shift < 8 → i ≤ length out → length win ≡ 8 → i + 9 ≤ length from → flat win ≡ bits 64 v → v ≡ num (part shift 64 (flat (take 9 (drop i from)))) → flat (take i out) ≡ part shift (8 * i) (flat from) → flat (take (i + 8) (put_mid i k out win)) ≡ part shift (8 * (i + 8)) (flat from)
+words_more out win from shift i k v low h eight held put value before =
+    ap flat (take-put_mid i k out win (i + 8) (omega (arith, eight)) h) ∙ flat-append (take i out) win
+    ∙ ap (λ (x : List Bool). x ++ flat win) before
+    ∙ ap (λ (x : List Bool). part shift (8 * i) (flat from) ++ x) (put ∙ ap (bits 64) value ∙ own_part from shift i 9 64 (omega arith) held)
+    ∙ next_part (flat from) shift i 8

@@ -17,3 +17,4 @@ pub use balise_rules::Refusal;
 pub use bit_slice::BitSlice;
 pub use bits::Bits;
 pub use fault::BitsFault;
+pub use nibbles::hex_value;

@@ -9,15 +9,19 @@ use crate::places::{WIDEST, number_at, put_number_at, put_part_at};
 /// How many bits are moved at once. The bytes that they lie in fit a buffer of 128.
 const AT_ONCE: usize = 1016;
 
-/// Up to so many bits, several numbers are moved faster than bytes.
+/// Up to so many bits, numbers are moved faster than whole bytes: by instructions, four numbers cost less.
 const FEW: usize = 228;
 
-// How many bits of a part are moved at once.
-fn step_of(len: usize) -> usize
+// How many bits of a part are moved at once. As bytes they go faster only where none of them has to be shifted.
+fn step_of(len: usize, is_whole: bool) -> usize
     ensures some { 0 < result }
     ensures few { result ≤ 1016 }
 {
-    if len <= FEW { WIDEST } else { AT_ONCE }
+    if is_whole && len > FEW {
+        AT_ONCE
+    } else {
+        WIDEST
+    }
 }
 
 /// Moves the `len` bits from the place `at` on to the place `to`. The two may overlap. All other bits stay.
@@ -71,7 +75,7 @@ fn move_from_front(bytes: &mut [u8], to: usize, at: usize, len: usize)
     requires near { at + len < 2 ^ 64 }
     ensures { flat bytes.new ≡ put_at to (part at len (flat bytes.old)) (flat bytes.old) }
 {
-    let step = step_of(len);
+    let step = step_of(len, to % 8 == at % 8);
     let mut done = 0;
     'chunks: while done < len {
         let width = (len - done).min(step);
@@ -87,7 +91,7 @@ fn move_from_back(bytes: &mut [u8], to: usize, at: usize, len: usize)
     requires far { to + len < 2 ^ 64 }
     ensures { flat bytes.new ≡ put_at to (part at len (flat bytes.old)) (flat bytes.old) }
 {
-    let step = step_of(len);
+    let step = step_of(len, to % 8 == at % 8);
     let mut left = len;
     'chunks: while left > 0 {
         let width = left.min(step);

@@ -6,18 +6,18 @@ ghost use Rattle.balise_bits.specs.Bytes.{flat};
 
 use hex::encode_to_slice;
 
-// The value of a digit of either case, and a number above 15 for any other byte.
+/// The value of a hexadecimal digit of either case, from 0 to 15, and a number above 15 for any other byte.
 #[inline(always)]
-fn value(c: u8) -> u8
-    ensures digit { result < 16 → digit_value c ≡ Some result }
-    ensures other { 16 ≤ result → digit_value c ≡ None }
+pub fn hex_value(byte: u8) -> u8
+    ensures digit { result < 16 → digit_value byte ≡ Some result }
+    ensures other { 16 ≤ result → digit_value byte ≡ None }
 {
-    if b'0' <= c && c <= b'9' {
-        c - b'0'
-    } else if b'A' <= c && c <= b'F' {
-        c - b'A' + 10
-    } else if b'a' <= c && c <= b'f' {
-        c - b'a' + 10
+    if b'0' <= byte && byte <= b'9' {
+        byte - b'0'
+    } else if b'A' <= byte && byte <= b'F' {
+        byte - b'A' + 10
+    } else if b'a' <= byte && byte <= b'f' {
+        byte - b'a' + 10
     } else {
         255
     }
@@ -32,8 +32,8 @@ pub(crate) fn decoded(text: &[u8], out: &mut [u8]) -> bool
 {
     let mut worst: u8 = 0;
     for i in 0..out.len() {
-        let high = value(text[2 * i]);
-        let low = value(text[2 * i + 1]);
+        let high = hex_value(text[2 * i]);
+        let low = hex_value(text[2 * i + 1]);
         worst = worst.max(high).max(low);
         out[i] = high % 16 * 16 + low % 16;
     }

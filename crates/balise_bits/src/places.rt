@@ -9,6 +9,9 @@ use crate::window::{WINDOW, fill_shifted, number_before, put_over};
 /// The widest number that is read or put at once.
 pub(crate) const WIDEST: usize = 57;
 
+/// Up to so many bits, numbers are put faster than bytes: by instructions, five numbers cost what 285 bits as bytes do.
+const FEW: usize = 285;
+
 /// The number in the `width` bits from the place `at` on.
 #[inline(always)]
 pub(crate) fn number_at(bytes: &[u8], at: usize, width: u32) -> u64
@@ -63,7 +66,28 @@ pub(crate) fn put_part_at(bytes: &mut [u8], to: usize, from: &[u8], at: usize, l
         put_number_at(bytes, to, len as u32, number_at(from, at, len as u32));
         return;
     }
+    if len <= FEW {
+        put_numbers_at(bytes, to, from, at, len);
+        return;
+    }
     put_long_part_at(bytes, to, from, at, len);
+}
+
+// The same, as several numbers.
+#[inline(never)]
+fn put_numbers_at(bytes: &mut [u8], to: usize, from: &[u8], at: usize, len: usize)
+    requires within { at + len ≤ 8 * length from.now }
+    requires room { to + len ≤ 8 * length bytes.old }
+    requires near { at + len < 2 ^ 64 }
+    requires far { to + len < 2 ^ 64 }
+    ensures { flat bytes.new ≡ put_at to (part at len (flat from.now)) (flat bytes.old) }
+{
+    let mut done = 0;
+    'numbers: while done < len {
+        let width = (len - done).min(WIDEST) as u32;
+        put_number_at(bytes, to + done, width, number_at(from, at + done, width));
+        done += width as usize;
+    }
 }
 
 // The same, by whole bytes.

@@ -26,6 +26,9 @@ pub(crate) fn number_in(window: &[u8]) -> u64
     if let [a, b, c, d] = window {
         return u64::from(joined(*a, *b, *c, *d));
     }
+    if let [a] = window {
+        return u64::from(*a);
+    }
     number_by_byte(window)
 }
 
@@ -67,6 +70,10 @@ pub(crate) fn put_in(window: &mut [u8], number: u64)
         window[1] = ((number >> 16) % 256) as u8;
         window[2] = ((number >> 8) % 256) as u8;
         window[3] = (number % 256) as u8;
+        return;
+    }
+    if count == 1 {
+        window[0] = (number % 256) as u8;
         return;
     }
     put_by_byte(window, number);
@@ -123,8 +130,26 @@ pub(crate) fn fill_shifted(out: &mut [u8], from: &[u8], shift: usize)
         out.copy_from_slice(&from[..out.len()]);
         return;
     }
-    for i in 0..out.len() {
+    let mut i = 0;
+    'words: while out.len() - i >= 8 {
+        put_in(&mut out[i..i + 8], word_across(&from[i..i + 9], shift));
+        i += 8;
+    }
+    'bytes: while i < out.len() {
         let pair = u16::from(from[i]) * 256 + u16::from(from[i + 1]);
         out[i] = ((pair >> (8 - shift)) % 256) as u8;
+        i += 1;
     }
+}
+
+// The 64 bits of nine bytes from the place `shift` on.
+#[inline(always)]
+fn word_across(window: &[u8], shift: usize) -> u64
+    requires nine { length window.now ≡ 9 }
+    requires shift { shift < 8 }
+    ensures value { result ≡ num (part shift 64 (flat window.now)) }
+    ensures fits { result < 2 ^ 64 }
+{
+    let nine = u128::from(number_in(&window[..8])) * 256 + u128::from(window[8]);
+    ((nine >> (8 - shift)) % 18446744073709551616) as u64
 }

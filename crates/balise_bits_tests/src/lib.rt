@@ -3,10 +3,4 @@
 #![tactic(auto)]
 
 #[cfg(test)]
-mod calls;
-#[cfg(test)]
-mod edges;
-#[cfg(test)]
-mod large;
-#[cfg(test)]
-mod moves;
+mod tests;

@@ -1,4 +1,4 @@
-use Rattle.std.proofs.Common.{sym, ap, ◌∙◌, length, take, drop, arith, ◌≡◌, ◌+◌, ◌-◌, ◌*◌, ◌/◌, ◌%◌, ◌≤◌, ℕ, List}
+use Rattle.std.proofs.Common.{sym, ap, ◌∙◌, length, take, drop, arith, ◌≡◌, ◌+◌, ◌-◌, ◌*◌, ◌≤◌, ℕ, List}
 use Rattle.std.proofs.lemmas.List.{length-take, length-drop}
 use Rattle.balise_rules.specs.Bits.{num, part}
 use Rattle.balise_bits.specs.Bytes.{flat}

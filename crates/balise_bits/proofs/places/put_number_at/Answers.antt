@@ -1,4 +1,4 @@
-use Rattle.std.proofs.Common.{◌≡◌, sym, ap, ◌∙◌, length, arith, ◌+◌, ◌-◌, ◌*◌, ◌/◌, ◌%◌, ℕ}
+use Rattle.std.proofs.Common.{◌≡◌, sym, ap, ◌∙◌, length, arith, ◌+◌, ◌-◌, ◌*◌, ℕ}
 use Rattle.balise_rules.specs.Bits.{bits, put_at}
 use Rattle.balise_bits.specs.Bytes.{flat}
 use Rattle.balise_bits.proofs.Ones.{put_at-none}

@@ -1,4 +1,3 @@
-use Rattle.std.proofs.Common.{[], ◌∷◌}
 use Rattle.balise_rules.specs.Bits.{bits}
 use Rattle.balise_rules.proofs.Numbers.{length-bits}
 use Rattle.balise_bits.proofs.Short.{flat-front}

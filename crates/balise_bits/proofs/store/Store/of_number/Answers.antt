@@ -1,4 +1,4 @@
-use Rattle.std.proofs.Common.{◌≡◌, ◌*◌, ℕ, List, length, ap, arith}
+use Rattle.std.proofs.Common.{◌≡◌, ◌*◌, length, ap, arith}
 use Rattle.std.proofs.lemmas.List.{length-take}
 use Rattle.balise_rules.specs.Bits.{bits}
 use Rattle.balise_rules.proofs.Numbers.{length-bits}

@@ -75,44 +75,58 @@ pub(crate) fn check_each_bit(rt: &impl Abort, bits: &Bits, to: usize, at: usize,
     }
 }
 
-// The place to move to, the place to move from and the length, in a telegram of 830 bits.
-const LONG: [(usize, usize, usize); 12] = [
+// Two places, and the length of what is moved from each to the other.
+type Move = (usize, usize, usize);
+
+// In a telegram of 830 bits.
+const LONG: &[Move] = &[
     (58, 50, 772),
-    (50, 58, 772),
     (146, 50, 684),
-    (50, 146, 684),
     (79, 50, 751),
-    (50, 79, 751),
     (51, 50, 779),
-    (50, 51, 779),
     (0, 1, 829),
-    (1, 0, 829),
     (400, 3, 401),
     (0, 0, 830),
 ];
 
-#[test]
-fn long_parts_are_moved(rt: HostRuntime) {
-    let bits = mixed(&rt, rt.alloc(), 830);
-    for (to, at, len) in &LONG {
-        check_each_bit(&rt, &bits, *to, *at, *len);
-    }
-}
-
-// Places and lengths for which the bits are moved in several steps.
-const LONGEST: [(usize, usize, usize); 6] = [
+// In 4,096 bits: places and lengths for which the bits are moved in several steps.
+const LONGEST: &[Move] = &[
     (11, 3, 4000),
-    (3, 11, 4000),
     (14, 3, 4001),
-    (3, 14, 4001),
     (1019, 3, 3048),
     (0, 1016, 3049),
 ];
 
+fn check_moves(rt: &impl Abort, alloc: Global, width: usize, moves: &[Move]) {
+    let bits = mixed(rt, alloc, width);
+    for (one, other, len) in moves {
+        check_each_bit(rt, &bits, *one, *other, *len);
+        check_each_bit(rt, &bits, *other, *one, *len);
+    }
+}
+
+#[test]
+fn long_parts_are_moved(rt: HostRuntime) {
+    check_moves(&rt, rt.alloc(), 830, LONG);
+}
+
 #[test]
 fn the_longest_parts_are_moved(rt: HostRuntime) {
-    let bits = mixed(&rt, rt.alloc(), 4096);
-    for (to, at, len) in &LONGEST {
-        check_each_bit(&rt, &bits, *to, *at, *len);
+    check_moves(&rt, rt.alloc(), 4096, LONGEST);
+}
+
+// Lengths about which bits are put in another way: one number, several, bytes.
+const AROUND: &[usize] = &[57, 58, 228, 229, 285, 286];
+
+#[test]
+fn parts_are_put_as_they_are_moved(rt: HostRuntime) {
+    let bits = mixed(&rt, rt.alloc(), 830);
+    for len in AROUND {
+        for at in 0..9 {
+            for to in 300..309 {
+                assert!(rt; moved(&rt, &bits, to, at, *len) == put(&rt, &bits, to, at, *len));
+                assert!(rt; moved(&rt, &bits, at, to, *len) == put(&rt, &bits, at, to, *len));
+            }
+        }
     }
 }

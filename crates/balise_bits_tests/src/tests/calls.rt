@@ -1,6 +1,6 @@
 //! Each public call once, on telegrams of 210 and 830 bits.
 
-use balise_bits::{Bits, BitsFault, Refusal};
+use balise_bits::{Bits, BitsFault, Refusal, hex_value};
 use std::alloc::Global;
 use std::process::Abort;
 
@@ -125,18 +125,14 @@ fn numbers_are_read(rt: HostRuntime) {
     }
 }
 
+// The second number is put over the first, and over bits on either side of it.
 #[test]
-fn a_number_is_put(rt: HostRuntime) {
+fn numbers_are_put(rt: HostRuntime) {
     let mut bits = read(&rt, rt.alloc(), SHORT, 210);
     assert!(rt; bits.len() == 210);
     bits.put(17, 8, 254);
     let hex = "a1007f00a0327fffffffffffffffffffffffffffffffffffffffc0";
-    check_hex(&rt, &bits, hex)
-}
-
-#[test]
-fn a_wide_number_is_put(rt: HostRuntime) {
-    let mut bits = read(&rt, rt.alloc(), SHORT, 210);
+    check_hex(&rt, &bits, hex);
     assert!(rt; bits.len() == 210);
     bits.put(7, 32, 0x12345678);
     let hex = "a02468acf0327fffffffffffffffffffffffffffffffffffffffc0";
@@ -274,4 +270,17 @@ fn bits_are_compared(rt: HostRuntime) {
     check_same(&rt, &bits, 210);
     check_other(&rt, &bits, 209);
     check_filled(&rt, &bits);
+}
+
+#[test]
+fn each_byte_has_the_value_of_a_digit_or_none(rt: HostRuntime) {
+    let lower = b"0123456789abcdef";
+    let upper = b"0123456789ABCDEF";
+    for i in 0..16 {
+        assert!(rt; hex_value(lower[i]) == i as u8);
+        assert!(rt; hex_value(upper[i]) == i as u8);
+    }
+    for byte in b"/:@G`g \0\xff" {
+        assert!(rt; hex_value(*byte) > 15);
+    }
 }

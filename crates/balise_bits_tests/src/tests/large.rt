@@ -1,7 +1,7 @@
 //! Bits far longer than a telegram's. No contract says that memory is there, so each call that takes it
 //! is made with much.
 
-use crate::calls::{check_digits, check_hex, slice};
+use crate::tests::calls::{check_digits, check_hex, slice};
 use balise_bits::Bits;
 use std::alloc::Global;
 use std::process::Abort;

@@ -1,6 +1,6 @@
 //! Parts at the lengths at which another way of reading and putting begins, at each shift, compared bit by bit.
 
-use crate::moves::{bit_at, check_each_bit, mixed};
+use crate::tests::moves::{bit_at, check_each_bit, mixed};
 use balise_bits::Bits;
 use std::alloc::Global;
 use std::process::Abort;

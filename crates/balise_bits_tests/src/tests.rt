@@ -1,0 +1,6 @@
+//! The tests, by topic.
+
+mod calls;
+mod edges;
+mod large;
+mod moves;

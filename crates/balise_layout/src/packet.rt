@@ -198,6 +198,7 @@ impl Packet {
     }
 
     /// Exchanges the directions 0 and 1 in Q_DIR. Takes no memory.
+    #[tactic(auto, unfolding(balise_rules::specs::Variables::steers, balise_rules::specs::Variables::width_of))]
     pub fn flip_dir(&mut self)
         ensures turned { self.new ≡ turned self.old }
         ensures spelt { (version : ℕ) → IsSpelt version self.old → IsSpelt version self.new }
@@ -209,6 +210,7 @@ impl Packet {
     }
 
     /// Flips Q_LINKORIENTATION of element `k`, where it has one. Takes no memory.
+    #[tactic(auto, unfolding(balise_rules::specs::Variables::steers, balise_rules::specs::Variables::width_of))]
     pub fn flip_link(&mut self, k: u32)
         ensures flipped { self.new ≡ flipped k self.old }
         ensures spelt { (version : ℕ) → IsSpelt version self.old → IsSpelt version self.new }
@@ -220,6 +222,7 @@ impl Packet {
     }
 
     /// Sets NID_BG of element `k`, where it stands. Takes no memory.
+    #[tactic(auto, unfolding(balise_rules::specs::Variables::steers, balise_rules::specs::Variables::width_of))]
     pub fn name_link(&mut self, k: u32, number: u32)
         requires { number < 2 ^ 14 }
         ensures renamed { self.new ≡ renamed k number self.old }

@@ -2,18 +2,4 @@
 #![tactic(auto)]
 
 #[cfg(test)]
-mod bad;
-#[cfg(test)]
-mod extremes;
-#[cfg(test)]
-mod kinds;
-#[cfg(test)]
-mod known;
-#[cfg(test)]
-mod largest;
-#[cfg(test)]
-mod lent;
-#[cfg(test)]
-mod packets;
-#[cfg(test)]
-mod setting;
+mod tests;

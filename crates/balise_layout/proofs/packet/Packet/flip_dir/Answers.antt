@@ -15,14 +15,6 @@ number-dir-requires-clause-within c = dir_within c.bits.ensures.0 c.bits.result.
 pub put_field-requires-clause-stands : goal.put_field-requires-clause-stands
 put_field-requires-clause-stands c = (0, dir_stands c.bits.ensures.0 c.bits.result.now c.args.self.now c.bits.ensures.1)
 
-pub put_field-requires-clause-free : goal.put_field-requires-clause-free
-unfolding steers
-put_field-requires-clause-free c = refl
-
-pub put_field-requires-clause-fits : goal.put_field-requires-clause-fits
-unfolding width_of
-put_field-requires-clause-fits c = omega arith
-
 pub returns-then-dir-lt2-clause-turned : goal.returns-then-dir-lt2-clause-turned
 returns-then-dir-lt2-clause-turned c =
     let p = c.args.self.now in

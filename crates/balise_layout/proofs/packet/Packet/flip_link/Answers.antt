@@ -16,14 +16,6 @@ number-old-requires-clause-within c =
 pub overflow_sub-old : goal.overflow_sub-old
 overflow_sub-old c = omega (arith, c.number-old.ensures, small_bit (drop c.in-Some.at c.bits.result.now))
 
-pub put_field-requires-clause-free : goal.put_field-requires-clause-free
-unfolding steers
-put_field-requires-clause-free c = refl
-
-pub put_field-requires-clause-fits : goal.put_field-requires-clause-fits
-unfolding width_of
-put_field-requires-clause-fits c = omega arith
-
 pub returns-in-Some-clause-flipped : goal.returns-in-Some-clause-flipped
 unfolding width_of
 returns-in-Some-clause-flipped c =

@@ -6,14 +6,6 @@ use Rattle.balise_layout.specs.Held.{before}
 use Rattle.balise_layout.proofs.Values.{with_field-missing, spelt_still}
 use Rattle.balise_layout.proofs.packet.Packet.name_link.Goals as goal
 
-pub put_field-requires-clause-free : goal.put_field-requires-clause-free
-unfolding steers
-put_field-requires-clause-free c = refl
-
-pub put_field-requires-clause-fits : goal.put_field-requires-clause-fits
-unfolding width_of
-put_field-requires-clause-fits c = c.requires
-
 pub returns-in-Some-clause-spelt : goal.returns-in-Some-clause-spelt
 unfolding width_of steers
 returns-in-Some-clause-spelt c = λ version s.

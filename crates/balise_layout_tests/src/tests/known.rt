@@ -1,6 +1,6 @@
 //! Packets read, shown and listed.
 
-use crate::packets::{
+use crate::tests::packets::{
     GRADIENTS, INFILL, INFILL_ABROAD, LEVELS, LINK, LINKS, OPAQUE, RESTRICTION, REVOCATION, SPEEDS,
     check_digits, check_fields, packet_of,
 };
@@ -9,46 +9,46 @@ use balise_layout::{Id, Packet, PacketRef, Var};
 use std::alloc::Global;
 use std::process::Abort;
 
-// A packet in digits, the version of its telegram, its length, number and direction.
-pub(crate) type Row = (&'static str, u32, usize, u32, u32);
+// A packet in digits, the versions of the telegrams that it stands in, its length, number and direction.
+pub(crate) type Row = (&'static str, &'static [u32], usize, u32, u32);
 
-pub(crate) const ROWS: [Row; 12] = [
-    (LINKS, 33, 118, 5, 1),
-    (LINK, 33, 69, 5, 1),
-    (GRADIENTS, 33, 78, 21, 1),
-    (SPEEDS, 33, 125, 27, 1),
-    (SPEEDS, 16, 125, 27, 1),
-    (LEVELS, 33, 89, 41, 1),
-    (LEVELS, 16, 89, 41, 1),
-    (RESTRICTION, 16, 71, 65, 1),
-    (REVOCATION, 33, 31, 66, 1),
-    (INFILL, 33, 38, 136, 1),
-    (INFILL_ABROAD, 16, 48, 136, 1),
-    (OPAQUE, 33, 32, 44, 0),
+pub(crate) const ROWS: [Row; 10] = [
+    (LINKS, &[33], 118, 5, 1),
+    (LINK, &[33], 69, 5, 1),
+    (GRADIENTS, &[33], 78, 21, 1),
+    (SPEEDS, &[16, 33], 125, 27, 1),
+    (LEVELS, &[16, 33], 89, 41, 1),
+    (RESTRICTION, &[16], 71, 65, 1),
+    (REVOCATION, &[33], 31, 66, 1),
+    (INFILL, &[33], 38, 136, 1),
+    (INFILL_ABROAD, &[16], 48, 136, 1),
+    (OPAQUE, &[33], 32, 44, 0),
 ];
 
 // That the packet that stands alone in these bits is checked and found there.
-fn check_bits(rt: &impl Abort, bits: &Bits, row: &Row) {
-    assert!(rt; Packet::check(bits, 0, row.1) == Ok(row.2));
+fn check_bits(rt: &impl Abort, bits: &Bits, version: u32, row: &Row) {
+    assert!(rt; Packet::check(bits, 0, version) == Ok(row.2));
 }
 
-fn check_packet(rt: &impl Abort, packet: &Packet, row: &Row) {
+fn check_packet(rt: &impl Abort, packet: &Packet, version: u32, row: &Row) {
     let shown = (packet.width(), packet.number(), packet.q_dir());
     assert!(rt; shown == (row.2, row.3, row.4));
-    assert!(rt; packet.is_spelt(row.1));
+    assert!(rt; packet.is_spelt(version));
 }
 
-fn check_read(rt: &impl Abort, bits: &Bits, row: &Row) {
-    let (packet, end) = Packet::read(bits, 0, row.1).expect(rt, "memory");
+fn check_read(rt: &impl Abort, bits: &Bits, version: u32, row: &Row) {
+    let (packet, end) = Packet::read(bits, 0, version).expect(rt, "memory");
     assert!(rt; end == row.2);
-    check_packet(rt, &packet, row);
+    check_packet(rt, &packet, version, row);
     check_digits(rt, bits.allocator(), &packet, row.0)
 }
 
 fn check_row(rt: &impl Abort, alloc: Global, row: &Row) {
     let bits = Bits::digits(alloc, row.0).expect(rt, "memory");
-    check_read(rt, &bits, row);
-    check_bits(rt, &bits, row);
+    for version in row.1 {
+        check_read(rt, &bits, *version, row);
+        check_bits(rt, &bits, *version, row);
+    }
 }
 
 #[test]
@@ -62,11 +62,16 @@ fn check_copy(rt: &impl Abort, alloc: Global, packet: &Packet, digits: &str) {
     check_digits(rt, alloc, &packet.copy().expect(rt, "memory"), digits);
 }
 
+fn check_copies(rt: &impl Abort, alloc: Global, digits: &str, versions: &[u32]) {
+    for version in versions {
+        check_copy(rt, alloc, &packet_of(rt, alloc, digits, *version), digits);
+    }
+}
+
 #[test]
 fn packets_are_copied(rt: HostRuntime) {
-    let alloc = rt.alloc();
     for row in &ROWS {
-        check_copy(&rt, alloc, &packet_of(&rt, alloc, row.0, row.1), row.0);
+        check_copies(&rt, rt.alloc(), row.0, row.1);
     }
 }
 

@@ -1,7 +1,7 @@
 //! Packets that are lent: what they answer where they stand is what the packets answer.
 
-use crate::known::ROWS;
-use crate::packets::{check_digits, packet_of};
+use crate::tests::known::ROWS;
+use crate::tests::packets::{check_digits, packet_of};
 use balise_bits::Bits;
 use balise_layout::{Packet, PacketRef, Var};
 use std::alloc::Global;
@@ -85,6 +85,8 @@ fn check_places(rt: &impl Abort, alloc: Global, digits: &str, version: u32) {
 #[test]
 fn packets_are_lent_where_they_stand(rt: HostRuntime) {
     for row in &ROWS {
-        check_places(&rt, rt.alloc(), row.0, row.1);
+        for version in row.1 {
+            check_places(&rt, rt.alloc(), row.0, *version);
+        }
     }
 }

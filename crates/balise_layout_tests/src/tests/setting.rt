@@ -1,9 +1,10 @@
 //! Fields read and set, directions and links flipped, and settings refused.
 
-use crate::packets::{
+use crate::tests::packets::{
     GRADIENTS, INFILL, INFILL_ABROAD, LEVELS, LINK, LINKS, OPAQUE, RESTRICTION, REVOCATION, SPEEDS,
     check_digits, packet_of,
 };
+use balise_layout::LayoutFault::{NoSuchVariable, Steering, ValueTooWide};
 use balise_layout::{LayoutFault, Packet, Var};
 use balise_rules::Refusal;
 use std::alloc::Global;
@@ -71,42 +72,33 @@ fn fields_are_read_and_set(rt: HostRuntime) {
 }
 
 const REFUSED: [(Setting, LayoutFault); 14] = [
-    ((LINKS, 33, Var::NidBg, 2, 5), LayoutFault::NoSuchVariable),
-    ((LINKS, 33, Var::NidC, 1, 7), LayoutFault::NoSuchVariable),
-    ((LINKS, 33, Var::NidC, 0, 7), LayoutFault::Steering),
-    ((LINKS, 33, Var::NidBg, 0, 16384), LayoutFault::ValueTooWide),
-    ((GRADIENTS, 33, Var::NIter, 0, 2), LayoutFault::Steering),
-    (
-        (GRADIENTS, 33, Var::DGradient, 2, 1),
-        LayoutFault::NoSuchVariable,
-    ),
-    ((SPEEDS, 33, Var::QDiff, 0, 1), LayoutFault::Steering),
-    ((SPEEDS, 16, Var::VDiff, 0, 1), LayoutFault::NoSuchVariable),
-    ((LEVELS, 33, Var::MLeveltr, 0, 2), LayoutFault::Steering),
-    ((LEVELS, 33, Var::NidNtc, 1, 3), LayoutFault::NoSuchVariable),
-    (
-        (REVOCATION, 33, Var::NidTsr, 0, 4294967295),
-        LayoutFault::ValueTooWide,
-    ),
-    ((INFILL, 33, Var::NidC, 0, 6), LayoutFault::NoSuchVariable),
-    (
-        (INFILL_ABROAD, 33, Var::QNewcountry, 0, 0),
-        LayoutFault::Steering,
-    ),
-    ((OPAQUE, 33, Var::LPacket, 0, 9999), LayoutFault::Steering),
+    ((LINKS, 33, Var::NidBg, 2, 5), NoSuchVariable),
+    ((LINKS, 33, Var::NidC, 1, 7), NoSuchVariable),
+    ((GRADIENTS, 33, Var::DGradient, 2, 1), NoSuchVariable),
+    ((SPEEDS, 16, Var::VDiff, 0, 1), NoSuchVariable),
+    ((LEVELS, 33, Var::NidNtc, 1, 3), NoSuchVariable),
+    ((INFILL, 33, Var::NidC, 0, 6), NoSuchVariable),
+    ((LINKS, 33, Var::NidC, 0, 7), Steering),
+    ((GRADIENTS, 33, Var::NIter, 0, 2), Steering),
+    ((SPEEDS, 33, Var::QDiff, 0, 1), Steering),
+    ((LEVELS, 33, Var::MLeveltr, 0, 2), Steering),
+    ((INFILL_ABROAD, 33, Var::QNewcountry, 0, 0), Steering),
+    ((OPAQUE, 33, Var::LPacket, 0, 9999), Steering),
+    ((LINKS, 33, Var::NidBg, 0, 16384), ValueTooWide),
+    ((REVOCATION, 33, Var::NidTsr, 0, 4294967295), ValueTooWide),
 ];
 
-fn check_refused(rt: &impl Abort, alloc: Global, row: &(Setting, LayoutFault)) {
-    let (digits, version, var, k, value) = row.0;
+fn check_refused(rt: &impl Abort, alloc: Global, setting: &Setting, fault: LayoutFault) {
+    let (digits, version, var, k, value) = *setting;
     let mut packet = packet_of(rt, alloc, digits, version);
-    assert!(rt; packet.set_field(var, k, value) == Err(row.1));
+    assert!(rt; packet.set_field(var, k, value) == Err(fault));
     check_digits(rt, alloc, &packet, digits)
 }
 
 #[test]
 fn settings_are_refused(rt: HostRuntime) {
-    for row in &REFUSED {
-        check_refused(&rt, rt.alloc(), row);
+    for (setting, fault) in &REFUSED {
+        check_refused(&rt, rt.alloc(), setting, *fault);
     }
     assert!(rt; LayoutFault::Steering.refusal() == Refusal::Steering);
     let words = LayoutFault::Steering.to_string(rt.alloc());

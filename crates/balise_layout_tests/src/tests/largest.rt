@@ -2,7 +2,7 @@
 
 ghost use Rattle.std.specs.Prelude.{◌<◌};
 
-use crate::lent::check_lent;
+use crate::tests::lent::check_lent;
 use balise_bits::Bits;
 use balise_layout::{Elements, Id, MOST_ELEMENTS, Packet, Var};
 use std::alloc::Global;

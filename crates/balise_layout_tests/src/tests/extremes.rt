@@ -1,7 +1,7 @@
 //! The longest packets of a long telegram: read, with all their fields and elements.
 
-use crate::lent::check_lent;
-use crate::packets::{check_digits, check_hex, packet_of};
+use crate::tests::lent::check_lent;
+use crate::tests::packets::{check_digits, check_hex, packet_of};
 use balise_bits::Bits;
 use balise_layout::{Id, Packet, Var};
 use std::alloc::Global;
@@ -10,33 +10,25 @@ use std::process::Abort;
 // A packet 27 of two sections with 31 and 21 differences, the most that a long telegram holds: 762 bits.
 const MOST_DIFFERENCES: &str =
     "1b45f4800040f800d71d71915238be374545468516cfccb71b42083db3512525820ee78c75156e599c3e4d05848106df4d33135e291eba415d0ffffffab3a20e6386788ca70c4e9b2a9e83218a77de1b4bbd240e59248ed2a0066bbeba48b500";
+
+// A variable, how often it stands in the packet, and some of its occurrences with their values: the first, the last,
+// and those at the border of the sections.
+type Values = (Var, u32, &'static [(u32, u32)]);
+
+const DIFFERENCES: [Values; 8] = [
+    (Var::LPacket, 1, &[(0, 762)]),
+    (Var::NIter, 3, &[(0, 31), (1, 1), (2, 21)]),
+    (Var::DStatic, 2, &[(1, 32767)]),
+    (Var::VStatic, 2, &[(1, 127)]),
+    (Var::QDiff, 52, &[(51, 0)]),
+    (Var::NcCddiff, 18, &[(17, 5)]),
+    (Var::NcDiff, 34, &[(33, 14)]),
+    (Var::VDiff, 52, &[(0, 3), (30, 93), (31, 104), (51, 84)]),
+];
+
 // A packet 5 of 18 elements, four with a country, which fills a long telegram: 772 bits.
 const FULL_LINKS: &str =
     "0546088007000200883ef070b450faf018709450bbfffe546c3c7d3bfff2a138f0001992eee54643c6d7cc4ed8cfa39c2154232f800fd2cb538ba329392aff4d5bb75dcea8c478cb3d6dad05b5bb139433a9f697b0b7d0ee104a109befff78b950";
-
-// A packet 5 of 19 elements without a country, the most that a long telegram holds: 771 bits. Element k names 100 k + 1.
-const MOST_ELEMENTS: &str =
-    "05460600640002009006500cb4100cc032504019c096f0c034019102006903eb4500d409650c01ac15ef1c036032104006d070b4900dc0fa51401bc226f2c03804b10600710a2b4d00e415e51c01cc2eef3c03a06410800750d4b5100ec1c25240";
-
-// Some of the values: the first and the last of a variable, and those at the border of the sections.
-const DIFFERENCES: [(Var, u32, Option<u32>); 16] = [
-    (Var::LPacket, 0, Some(762)),
-    (Var::NIter, 0, Some(31)),
-    (Var::NIter, 1, Some(1)),
-    (Var::NIter, 2, Some(21)),
-    (Var::NIter, 3, None),
-    (Var::DStatic, 1, Some(32767)),
-    (Var::VStatic, 1, Some(127)),
-    (Var::QDiff, 51, Some(0)),
-    (Var::NcCddiff, 17, Some(5)),
-    (Var::NcDiff, 33, Some(14)),
-    (Var::NcDiff, 34, None),
-    (Var::VDiff, 0, Some(3)),
-    (Var::VDiff, 30, Some(93)),
-    (Var::VDiff, 31, Some(104)),
-    (Var::VDiff, 51, Some(84)),
-    (Var::VDiff, 52, None),
-];
 
 // The countries and numbers that the elements name in a telegram of country 5.
 const NAMED: [(u32, u32); 18] = [
@@ -97,9 +89,17 @@ fn push(rt: &impl Abort, bits: &mut Bits, var: Var, value: u32) {
     bits.push(var.width(), value).expect(rt, "memory");
 }
 
+fn check_values_of(rt: &impl Abort, packet: &Packet, row: &Values) {
+    let (var, count, values) = *row;
+    for (occurrence, value) in values.iter() {
+        assert!(rt; packet.field(var, *occurrence) == Some(*value));
+    }
+    assert!(rt; packet.field(var, count).is_none());
+}
+
 fn check_differences(rt: &impl Abort, packet: &Packet) {
-    for (var, occurrence, value) in &DIFFERENCES {
-        assert!(rt; packet.field(*var, *occurrence) == *value);
+    for row in &DIFFERENCES {
+        check_values_of(rt, packet, row);
     }
 }
 
@@ -123,6 +123,10 @@ fn a_packet_5_of_18_elements_is_read(rt: HostRuntime) {
     check_spelling(&rt, rt.alloc(), &packet, FULL_LINKS, 772, 117);
     check_named(&rt, packet.links(5).expect(&rt, "memory").as_slice());
 }
+
+// A packet 5 of 19 elements without a country, the most that a long telegram holds: 771 bits. Element k names 100 k + 1.
+const MOST_ELEMENTS: &str =
+    "05460600640002009006500cb4100cc032504019c096f0c034019102006903eb4500d409650c01ac15ef1c036032104006d070b4900dc0fa51401bc226f2c03804b10600710a2b4d00e415e51c01cc2eef3c03a06410800750d4b5100ec1c25240";
 
 fn check_most(rt: &impl Abort, links: &[Id]) {
     assert!(rt; links.len() == 19);

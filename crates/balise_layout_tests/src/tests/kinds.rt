@@ -1,6 +1,6 @@
 //! What kind of packet each is, and the laws at a packet of each layout.
 
-use crate::packets::{
+use crate::tests::packets::{
     GRADIENTS, INFILL, LEVELS, LINKS, OPAQUE, RESTRICTION, REVOCATION, SPEEDS, check_digits,
     packet_of,
 };
@@ -46,26 +46,27 @@ fn packets_are_of_their_kinds(rt: HostRuntime) {
     }
 }
 
-// A version, a packet's number, and whether the version knows it.
-const KNOWN: [(u32, u32, bool); 12] = [
-    (16, 5, true),
-    (16, 21, true),
-    (16, 65, true),
-    (16, 66, true),
-    (16, 136, true),
-    (16, 27, false),
-    (31, 41, false),
-    (32, 27, true),
-    (47, 41, true),
-    (48, 27, false),
-    (33, 44, false),
-    (33, 255, false),
+// A version, the numbers of packets that it knows, and others.
+const KNOWN: &[(u32, &[u32], &[u32])] = &[
+    (16, &[5, 21, 65, 66, 136], &[27]),
+    (31, &[], &[41]),
+    (32, &[27], &[]),
+    (33, &[], &[44, 255]),
+    (47, &[41], &[]),
+    (48, &[], &[27]),
 ];
+
+fn check_known(rt: &impl Abort, version: u32, numbers: &[u32], known: bool) {
+    for number in numbers {
+        assert!(rt; is_known(version, *number) == known);
+    }
+}
 
 #[test]
 fn versions_know_their_packets(rt: HostRuntime) {
-    for (version, number, known) in &KNOWN {
-        assert!(rt; is_known(*version, *number) == *known);
+    for (version, known, others) in KNOWN.iter() {
+        check_known(&rt, *version, *known, true);
+        check_known(&rt, *version, *others, false);
     }
 }
 

@@ -1,6 +1,6 @@
 //! Bits that are no packet.
 
-use crate::packets::REVOCATION;
+use crate::tests::packets::REVOCATION;
 use balise_bits::Bits;
 use balise_layout::{LayoutFault, Packet};
 use std::process::Abort;

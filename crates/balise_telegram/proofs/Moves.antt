@@ -1,28 +1,33 @@
 -- A packet moved: taken out and put in again at another place.
-use Rattle.std.proofs.Common.{◌≡◌, ◌∙◌, ◌⊎◌, inl, inr, ℕ, suc, ◌+◌, ◌-◌, ◌<◌, ◌≤◌, List, Bool, length, take, get_or, None, Result, Ok, Err, IsOk, OnOk, OnErr, refl, sym, ap, subst, arith}
+use Rattle.std.proofs.Common.{◌≡◌, ◌∙◌, ◌⊎◌, inl, inr, ℕ, suc, ◌+◌, ◌-◌, ◌<◌, ◌≤◌, cond, ltb, List, Bool, length, take, get_or, None, Result, Ok, Err, IsOk, OnOk, refl, sym, ap, subst, arith}
 use Rattle.std.specs.List.{insert, remove}
-use Rattle.std.proofs.lemmas.Bool.{true≢false}
+use Rattle.std.proofs.lemmas.Bool.{le-ltb, lt-ltb, ltb-false, ltb-true, true≢false}
 use Rattle.std.proofs.lemmas.List.Edits.{length-remove}
-use Rattle.std.proofs.lemmas.Result.{on_ok_weaker, on_err_weaker}
 use Rattle.balise_rules.specs.declared.tag.Tag.{Tag}
-use Rattle.balise_rules.specs.Packet.{Packet, width}
+use Rattle.balise_rules.specs.Packet.{IsSpelt, Packet, width}
 use Rattle.balise_rules.specs.Tagged.{find}
 use Rattle.balise_rules.specs.Tags.{same_tag}
-use Rattle.balise_rules.specs.Telegram.{Telegram, room, shown, used}
+use Rattle.balise_rules.specs.Telegram.{Telegram, room, shown, used, version_of}
 use Rattle.balise_rules.specs.Back.{with_packets}
 use Rattle.balise_rules.proofs.Lists.{find-without_same}
 use Rattle.balise_rules.proofs.Used.{used-without_there}
 use Rattle.balise_telegram.specs.declared.fault.TelegramFault.{TelegramFault}
 use Rattle.balise_telegram.specs.declared.telegram.edited.Edited.{Edited}
 use Rattle.balise_telegram.specs.declared.telegram.walking.Place.{Place}
-use Rattle.balise_telegram.specs.Shown.{Gap, IsKept, IsOver, IsPlace, IsShown, StandsFor, Kept}
+use Rattle.balise_telegram.specs.Moving.{moved_to}
+use Rattle.balise_telegram.specs.Shown.{Gap, Goes, IsOver, IsPlace, IsShown}
 use Rattle.balise_telegram.proofs.Tagging.{Packets, found}
 use Rattle.balise_telegram.proofs.Placing.{removed}
+use Rattle.balise_rules.proofs.Tests.{split_on}
 use Rattle.balise_telegram.proofs.Shifting.{own_tag, Once}
 use Rattle.balise_telegram.proofs.Using.{least_used, used-above, used-below}
 use Rattle.balise_telegram.proofs.Walking.{used_within}
-use Rattle.balise_telegram.proofs.Spliced.{taken_shown}
-use Rattle.balise_telegram.proofs.InAndOut.{Standing, after, gap_of, put_one}
+use Rattle.balise_telegram.proofs.Spliced.{put_shown, taken_shown}
+use Rattle.balise_telegram.proofs.InAndOut.{Standing, gap_of, standing}
+
+-- the packet that goes stands between its places
+pub goes_from : (b : List Bool) (y : Telegram) (tag : Tag) (x : Packet) (p q to : Place) (u : ℕ) → IsShown b y → Goes y tag x p q to u → Standing y tag p q u
+goes_from b y tag x p q to u s g = standing b y tag p q u s g.found g.begins g.next g.ends g.all
 
 -- a packet out of the list, and the place where it is put in again
 pub record Apart (b : List Bool) (y : Telegram) (tag : Tag) (from m to w u : ℕ) : Type 0 where
@@ -97,25 +102,45 @@ apart b b2 y tag p q to now u s t e is near =
       room = g.1;
     }
 
-after_ok : (r : Result Unit TelegramFault) (new old : Telegram) → IsOk r → after r new old ≡ new
-after_ok (Ok u) new old h = refl
-after_ok (Err e) new old h = absurd (true≢false (sym h))
+-- the place is that of the order once the packet is out
+pub once_at : (i k : ℕ) → Once i k (cond (ltb i k) (k - 1) k)
+once_at i k = split_on (ltb i k)
+    (λ e. let h = ltb-true i k e in subst (λ (b : Bool). Once i k (cond b (k - 1) k)) (sym e) (inl (h, omega (arith, h))))
+    (λ e. subst (λ (b : Bool). Once i k (cond b (k - 1) k)) (sym e) (inr (ltb-false i k e, refl)))
+
+-- and it is put in as it stood
+pub goes_item : (b : List Bool) (y : Telegram) (tag : Tag) (x : Packet) (p q to : Place) (u : ℕ) (s : IsShown b y) (g : Goes y tag x p q to u) → (tag, x) ≡ (goes_from b y tag x p q to u s g).item
+goes_item b y tag x p q to u s g =
+    let t = goes_from b y tag x p q to u s g in
+    ap (λ (z : Packet). (tag, z)) (g.packet t.item t.there) ∙ ap (λ (g : Tag). (g, t.item.1)) (own_tag tag y.packets p.index t.item t.stands)
+
+from_ok : {P : Type 0} (r : Result Unit TelegramFault) → IsOk r → OnOk r P → P
+from_ok (Ok u) h p = p
+from_ok (Err e) h p = absurd (true≢false (sym h))
+
+once_out : (from w : ℕ) (to now : Place) → Nearer from to now w → cond (ltb from to.index) (to.index - 1) to.index ≡ now.index
+once_out from w to now (inl n) =
+    let one = n.1 in
+    let less : to.index - 1 ≡ now.index = omega (arith, one) in
+    ap (λ (b : Bool). cond b (to.index - 1) to.index) (lt-ltb from to.index n.0) ∙ less
+once_out from w to now (inr n) =
+    ap (λ (b : Bool). cond b (to.index - 1) to.index) (le-ltb from to.index n.0) ∙ ap (λ (p : Place). p.index) (sym n.1)
 
 -- what the bits show, and what is kept, once the packet is put in again
-pub moved : (b b2 b3 : List Bool) (k : Kept) (y : Telegram) (tag : Tag) (p q to now : Place) (u : ℕ) (x : Packet) (e : Edited) (r : Result Unit TelegramFault) → IsShown b y → (t : Standing y tag p q u) → x ≡ t.item.1 → b2 ≡ shown (with_packets y (remove y.packets p.index)) → IsOver e (with_packets y (remove y.packets p.index)) → IsPlace y to → Nearer p.index to now (q.at - p.at) →
-    OnOk r ((z : Telegram) → IsShown b2 z → IsOver e z → Gap z now.index now.at (width x) (u - (q.at - p.at)) → b3 ≡ shown (with_packets z (insert z.packets now.index (tag, x)))) →
-    OnOk r ((z : Telegram) → IsShown b2 z → IsOver e z → Gap z now.index now.at (width x) (u - (q.at - p.at)) → IsKept k (with_packets z (insert z.packets now.index (tag, x)))) →
-    OnErr r (b3 ≡ b2) → OnErr r ((z : Telegram) → IsOver e z → IsKept k z) → IsOk r →
-    StandsFor b3 k (with_packets y (insert (remove y.packets p.index) now.index t.item))
-moved b b2 b3 k y tag p q to now u x e r s t same out over is near ok_shown ok_over err_bits err_kept ok =
+pub moved : (b b2 b3 : List Bool) (e2 e3 : Edited) (y : Telegram) (tag : Tag) (x : Packet) (p q to now : Place) (u : ℕ) (r : Result Unit TelegramFault) → IsShown b y → Goes y tag x p q to u → b2 ≡ shown (with_packets y (remove y.packets p.index)) → IsOver e2 (with_packets y (remove y.packets p.index)) → Nearer p.index to now (q.at - p.at) →
+    OnOk r ((z : Telegram) → IsShown b2 z → IsOver e2 z → Gap z now.index now.at (width x) (u - (q.at - p.at)) → b3 ≡ shown (with_packets z (insert z.packets now.index (tag, x)))) →
+    OnOk r ((z : Telegram) → IsShown b2 z → IsOver e2 z → Gap z now.index now.at (width x) (u - (q.at - p.at)) → IsOver e3 (with_packets z (insert z.packets now.index (tag, x)))) →
+    IsOk r →
+    IsShown b3 (with_packets y (moved_to p.index to.index (tag, x) y.packets)) × IsOver e3 (with_packets y (moved_to p.index to.index (tag, x) y.packets))
+moved b b2 b3 e2 e3 y tag x p q to now u r s g out over near shows keeps ok =
     let y2 = with_packets y (remove y.packets p.index) in
-    let a = apart b b2 y tag p q to now u s t out is near in
-    let item : (tag, t.item.1) ≡ t.item = ap (λ (g : Tag). (g, t.item.1)) (own_tag tag y.packets p.index t.item t.stands) in
-    let gap : Gap y2 now.index now.at (width x) (u - (q.at - p.at)) = subst (λ (z : Packet). Gap y2 now.index now.at (width z) (u - (q.at - p.at))) (sym same) a.gap in
-    let done = put_one r b2 b3 k y2 now.index (tag, t.item.1) a.shown a.absent t.spelt a.room
-    (on_ok_weaker r (λ f. f y2 a.shown over gap ∙ ap (λ (z : Packet). shown (with_packets y2 (insert y2.packets now.index (tag, z)))) same) ok_shown)
-    (on_ok_weaker r (λ f. subst (λ (z : Packet). IsKept k (with_packets y2 (insert y2.packets now.index (tag, z)))) same (f y2 a.shown over gap)) ok_over)
-    err_bits
-    (on_err_weaker r (λ f. f y2 over) err_kept) in
-    subst (λ (z : Tag × Packet). StandsFor b3 k (with_packets y (insert (remove y.packets p.index) now.index z))) item
-    (subst (λ (z : Telegram). StandsFor b3 k z) (after_ok r (with_packets y2 (insert y2.packets now.index (tag, t.item.1))) y2 ok) done)
+    let t = goes_from b y tag x p q to u s g in
+    let same : t.item.1 ≡ x = sym (g.packet t.item t.there) in
+    let a = apart b b2 y tag p q to now u s t out g.there near in
+    let gap : Gap y2 now.index now.at (width x) (u - (q.at - p.at)) = subst (λ (z : Packet). Gap y2 now.index now.at (width z) (u - (q.at - p.at))) same a.gap in
+    let spelt : IsSpelt (version_of y) x = subst (λ (z : Packet). IsSpelt (version_of y) z) same t.spelt in
+    let room : used y2.packets + width x ≤ length b2 = subst (λ (z : Packet). used y2.packets + width z ≤ length b2) same a.room in
+    let place : now.index ≡ cond (ltb p.index to.index) (to.index - 1) to.index = sym (once_out p.index (q.at - p.at) to now near) in (
+      subst (λ (m : ℕ). IsShown b3 (with_packets y (insert y2.packets m (tag, x)))) place (put_shown b2 b3 y2 now.index (tag, x) a.shown a.absent spelt room (from_ok r ok shows y2 a.shown over gap)),
+      subst (λ (m : ℕ). IsOver e3 (with_packets y (insert y2.packets m (tag, x)))) place (from_ok r ok keeps y2 a.shown over gap),
+    )

@@ -5,7 +5,7 @@ use Rattle.std.proofs.lemmas.List.{drop-drop, length-drop, length-replicate}
 use Rattle.balise_rules.specs.declared.tag.Tag.{Tag}
 use Rattle.balise_rules.specs.Bits.{num, ones, part}
 use Rattle.balise_rules.specs.Forms.{spelling}
-use Rattle.balise_rules.specs.Packet.{Packet, bits_of, field_of, width, IsSpelt, read_first}
+use Rattle.balise_rules.specs.Packet.{Packet, bits_of, field_of, width, IsSpelt}
 use Rattle.balise_rules.specs.Tags.{same_tag}
 use Rattle.balise_rules.specs.Telegram.{Telegram, header, version_of, used, packets_bits, IsLength, IsRead, read_header, read_telegram}
 use Rattle.balise_rules.specs.declared.variable.Var.{Var}

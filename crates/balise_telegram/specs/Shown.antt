@@ -1,6 +1,7 @@
 -- A telegram as it is held: the bits that it shows and, once its packets were edited, their tags and its ground.
 use Rattle.std.specs.Prelude.{◌≡◌, ◌+◌, ℕ, min, List, [], ◌∷◌, ◌++◌, All, Bool, true, length, map, take, drop, Option, Some, None, option_map, Box, slice_get, ◌≤◌}
 use Rattle.std.specs.Global.{Global}
+use Rattle.std.specs.List.{position}
 use Rattle.balise_rules.specs.declared.tag.Tag.{Tag}
 use Rattle.balise_rules.specs.Bits.{ones}
 use Rattle.balise_rules.specs.Forms.{Matches, Numbered}
@@ -82,6 +83,16 @@ pub record Gap (y : Telegram) (i at w u : ℕ) : Type 0 where
 -- At the place stands the packet with its index, or packet 255 after the last one.
 abbrev pub IsPlace : Telegram → Place → Type 0
 IsPlace y p = (p.index ≤ length y.packets) × (p.at + 8 ≡ used (take p.index y.packets))
+
+-- A packet stands between two places, and there is a place to which it goes.
+pub record Goes (y : Telegram) (tag : Tag) (x : Packet) (from after to : Place) (u : ℕ) : Type 0 where
+  pub found : Some from.index ≡ position (λ (q : Tag × Packet). same_tag tag q.0) y.packets
+  pub packet : (z : Tag × Packet) → slice_get y.packets from.index ≡ Some z → x ≡ z.1
+  pub begins : IsPlace y from
+  pub next : after.index ≡ from.index + 1
+  pub ends : IsPlace y after
+  pub there : IsPlace y to
+  pub all : u ≡ used y.packets
 
 -- how many packets stand before a place, where there is one
 abbrev pub index_of : Option Place → Option ℕ

@@ -85,6 +85,7 @@ impl Telegram {
     }
 
     /// Exchanges the directions 0 and 1 in Q_DIR of the packet with this tag, where it stands.
+    #[tactic(auto, unfolding(balise_rules::specs::Variables::steers, balise_rules::specs::Variables::width_of))]
     pub fn flip_dir(&mut self, tag: PacketTag)
         ensures { self.new ≡ with_changed tag turned self.old }
     {
@@ -98,6 +99,7 @@ impl Telegram {
     }
 
     /// Flips Q_LINKORIENTATION of element `k` of the packet with this tag, where it stands.
+    #[tactic(auto, unfolding(balise_rules::specs::Variables::steers, balise_rules::specs::Variables::width_of))]
     pub fn flip_link(&mut self, tag: PacketTag, k: u32)
         ensures { self.new ≡ with_changed tag (flipped k) self.old }
     {
@@ -111,6 +113,7 @@ impl Telegram {
     }
 
     /// Sets NID_BG, of 14 bits, of element `k` of the packet with this tag, where it stands.
+    #[tactic(auto, unfolding(balise_rules::specs::Variables::steers, balise_rules::specs::Variables::width_of))]
     pub fn name_link(&mut self, tag: PacketTag, k: u32, number: u32)
         requires { number < 2 ^ 14 }
         ensures { self.new ≡ with_changed tag (renamed k number) self.old }

@@ -9,8 +9,8 @@ ghost use Rattle.balise_rules.specs.Tags.{same_tag};
 ghost use Rattle.balise_rules.specs.Telegram.{room, shown, used, version_of, Telegram};
 ghost use Rattle.balise_rules.specs.declared.tag.Tag.{Tag};
 ghost use Rattle.balise_telegram.specs.Changes.{InsertsOrWants, OrWants};
-ghost use Rattle.balise_telegram.specs.Moving.{inserted, place_after, place_before, Shifts, ShiftsBefore, TakesOut};
-ghost use Rattle.balise_telegram.specs.Shown.{index_of, Gap, IsOver, IsPlace, IsShown, Spot};
+ghost use Rattle.balise_telegram.specs.Moving.{inserted, moved_to, place_after, place_before, Shifts, ShiftsBefore, TakesOut};
+ghost use Rattle.balise_telegram.specs.Shown.{index_of, Gap, Goes, IsOver, IsPlace, IsShown, Spot};
 ghost use Rattle.balise_telegram.specs.declared.telegram.walking.Place.{Place};
 
 use crate::PacketTag;
@@ -150,24 +150,15 @@ impl Telegram {
         let next = self.tag_at(after);
         let packet = self.lent(from).to_packet()?;
         let used = self.end().at + 8;
-        let width = after.at - from.at;
         let kept = self.edited.take();
         let mut edited = edited_or_read(kept, &self.packed)?;
-        cut_out(&mut self.packed, &mut edited, from, width, used);
-        // A packet that stood before the new place is no longer counted. There is room for its tag.
-        let place = if from.index < to.index {
-            Place {
-                index: to.index - 1,
-                at: to.at - width,
-            }
-        } else {
-            to
-        };
-        let _done = put_between(
+        move_between(
             &mut self.packed,
             &mut edited,
-            place,
-            used - width,
+            from,
+            after,
+            to,
+            used,
             tag,
             &packet,
         );
@@ -237,6 +228,36 @@ impl Telegram {
             None => Some(self.end()),
         }
     }
+}
+
+// Moves the packet between two places to another place, which is as it is before the packet goes.
+fn move_between(
+    bits: &mut Bits,
+    edited: &mut Edited,
+    from: Place,
+    after: Place,
+    to: Place,
+    used: usize,
+    tag: PacketTag,
+    packet: &Packet,
+)
+    requires { (y : Telegram) × IsShown bits.old y × IsOver edited.old y × Goes y tag packet.now from after to used }
+    ensures shown { (y : Telegram) → IsShown bits.old y → IsOver edited.old y → Goes y tag packet.now from after to used → IsShown bits.new (with_packets y (moved_to from.index to.index (tag, packet.now) y.packets)) }
+    ensures over { (y : Telegram) → IsShown bits.old y → IsOver edited.old y → Goes y tag packet.now from after to used → IsOver edited.new (with_packets y (moved_to from.index to.index (tag, packet.now) y.packets)) }
+{
+    let width = after.at - from.at;
+    cut_out(bits, edited, from, width, used);
+    // A place after the packet is nearer once the packet is out.
+    let place = if from.index < to.index {
+        Place {
+            index: to.index - 1,
+            at: to.at - width,
+        }
+    } else {
+        to
+    };
+    // There is room for its tag.
+    let _done = put_between(bits, edited, place, used - width, tag, packet);
 }
 
 // Takes the packet at a place out: what stands after it is moved over it, and the bits that are freed are the ground's.

@@ -1,6 +1,5 @@
-use Rattle.std.proofs.Common.{◌≡◌, subst, arith}
-use Rattle.balise_rules.specs.Telegram.{Telegram}
-use Rattle.balise_telegram.specs.Shown.{seen, Kept, IsKept, IsOver, IsShown}
+use Rattle.std.proofs.Common.{subst, arith}
+use Rattle.balise_telegram.specs.Shown.{seen, Kept, IsKept, IsOver}
 use Rattle.balise_telegram.proofs.Walking.{shown_size, used_within}
 use Rattle.balise_telegram.proofs.telegram.Telegram.end.Goals as goal
 

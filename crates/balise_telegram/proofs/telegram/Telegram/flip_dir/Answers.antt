@@ -52,14 +52,6 @@ put_field-requires-clause-stands c =
     let r : IsShown b y = subst (λ (x : Telegram). IsShown b x) c.self.view_is (c.self.invariant.shown) in
     (c.args.tag, 0, dir_place b y c.args.tag c.in-Some.packet r e)
 
-pub put_field-requires-clause-free : goal.put_field-requires-clause-free
-unfolding steers
-put_field-requires-clause-free c = refl
-
-pub put_field-requires-clause-fits : goal.put_field-requires-clause-fits
-unfolding width_of
-put_field-requires-clause-fits c = omega arith
-
 pub returns-then-dir-lt2 : goal.returns-then-dir-lt2
 unfolding width_of
 returns-then-dir-lt2 c =

@@ -33,14 +33,6 @@ overflow_sub-old c = omega (arith, c.number-old.ensures, small_bit (drop c.in-So
 pub put_field-requires-clause-stands : goal.put_field-requires-clause-stands
 put_field-requires-clause-stands c = (c.args.tag, c.args.k, sym (c.in-Some-place_in.ensures c.args.tag (sym c.in-Some.ensures.place)))
 
-pub put_field-requires-clause-free : goal.put_field-requires-clause-free
-unfolding steers
-put_field-requires-clause-free c = refl
-
-pub put_field-requires-clause-fits : goal.put_field-requires-clause-fits
-unfolding width_of
-put_field-requires-clause-fits c = omega arith
-
 pub returns-in-Some-place_in : goal.returns-in-Some-place_in
 unfolding width_of
 returns-in-Some-place_in c =

@@ -15,14 +15,6 @@ returns-in_default c = absent c.args.tag (renamed c.args.k c.args.number) c.args
 pub put_field-requires-clause-stands : goal.put_field-requires-clause-stands
 put_field-requires-clause-stands c = (c.args.tag, c.args.k, sym (c.in-Some-place_in.ensures c.args.tag (sym c.in-Some.ensures.place)))
 
-pub put_field-requires-clause-free : goal.put_field-requires-clause-free
-unfolding steers
-put_field-requires-clause-free c = refl
-
-pub put_field-requires-clause-fits : goal.put_field-requires-clause-fits
-unfolding width_of
-put_field-requires-clause-fits c = c.requires
-
 pub returns-in-Some-place_in : goal.returns-in-Some-place_in
 returns-in-Some-place_in c = c.put_field.ensures c.args.tag c.args.k (sym (c.in-Some-place_in.ensures c.args.tag (sym c.in-Some.ensures.place)))
 

@@ -1,4 +1,4 @@
-use Rattle.std.proofs.Common.{◌≡◌, ◌∙◌, ◌≤◌, ◌+◌, Option, Some, IfSome, ap, sym, subst, arith}
+use Rattle.std.proofs.Common.{◌≡◌, ◌≤◌, ◌+◌, Option, Some, IfSome, ap, sym, subst, arith}
 use Rattle.std.proofs.lemmas.Result.{on_ok_weaker, on_err_weaker}
 use Rattle.std.specs.Box.{with_value}
 use Rattle.std.specs.List.{insert}
@@ -34,6 +34,12 @@ put_between-done-requires c =
     let g = gap_of b y c.in-Some.place.index c.in-Some.place.at (c.end-used.result.at + 8) (width c.args.packet) o.shown at.0 at.1 c.end-used.ensures.at fits in
     (y, o.shown, over, g.0)
 
+stands : (c : goal.Joined-done) → StandsFor c.self.inside.packed c.self.inside.edited c.args.self.now
+stands c = subst (λ (z : Telegram). StandsFor c.self.inside.packed c.self.inside.edited z) c.self.view_is c.self.invariant
+
+fits : (c : goal.Joined-done) → width c.args.packet ≤ room c.args.self.now
+fits c = omega (arith, c.if-len-used.false, c.len.ensures, c.width.ensures, (stands c).shown.ground, c.end-used.ensures.at)
+
 abbrev wanted : goal.Joined-done → Telegram
 wanted c = after c.put_between-done.result (with_packets c.args.self.now (insert c.args.self.now.packets c.in-Some.place.index (c.args.tag, c.args.packet))) c.args.self.now
 
@@ -41,12 +47,11 @@ held : (c : goal.Joined-done) → StandsFor c.put_between-done.new.bits (Some (w
 held c =
     let b = c.self.inside.packed in
     let y = c.args.self.now in
-    let o : StandsFor b c.self.inside.edited y = subst (λ (z : Telegram). StandsFor b c.self.inside.edited z) c.self.view_is c.self.invariant in
+    let o = stands c in
     let kept : StandsFor b c.take-kept.result y = subst (λ (k : Kept). StandsFor b k y) (sym c.take-kept.ensures.value) o in
     let over : IsOver c.deref_mut.result.now y = subst (λ (e : Edited). IsOver e y) (sym c.deref_mut.ensures.value) (c.in-Ok.ensures.ok y kept) in
     let at : IsPlace y c.in-Some.place = subst (λ (p : Option Place). IfSome p (λ q. IsPlace y q)) c.in-Some.is c.requires.within in
-    let fits : width c.args.packet ≤ room y = omega (arith, c.if-len-used.false, c.len.ensures, c.width.ensures, o.shown.ground, c.end-used.ensures.at) in
-    let g = gap_of b y c.in-Some.place.index c.in-Some.place.at (c.end-used.result.at + 8) (width c.args.packet) o.shown at.0 at.1 c.end-used.ensures.at fits in
+    let g = gap_of b y c.in-Some.place.index c.in-Some.place.at (c.end-used.result.at + 8) (width c.args.packet) o.shown at.0 at.1 c.end-used.ensures.at (fits c) in
     put_one c.put_between-done.result b c.put_between-done.new.bits (Some (with_value c.in-Ok.edited c.put_between-done.new.edited)) y c.in-Some.place.index (c.args.tag, c.args.packet) o.shown c.requires.new c.requires.spelt g.1
     (on_ok_weaker c.put_between-done.result (λ f. f y o.shown over g.0) c.put_between-done.ensures.shown)
     (on_ok_weaker c.put_between-done.result (λ f. f y o.shown over g.0) c.put_between-done.ensures.over)
@@ -59,13 +64,9 @@ invariant_of-self-2 c = (is_again c.put_between-done.new.bits (Some (with_value 
 pub returns : goal.returns
 returns c =
     let y = c.args.self.now in
-    let o : StandsFor c.self.inside.packed c.self.inside.edited y = subst (λ (z : Telegram). StandsFor c.self.inside.packed c.self.inside.edited z) c.self.view_is c.self.invariant in
-    let at : IsPlace y c.in-Some.place = subst (λ (p : Option Place). IfSome p (λ q. IsPlace y q)) c.in-Some.is c.requires.within in
-    let fits : width c.args.packet ≤ room y = omega (arith, c.if-len-used.false, c.len.ensures, c.width.ensures, o.shown.ground, c.end-used.ensures.at) in
-    let k = Some (with_value c.in-Ok.edited c.put_between-done.new.edited) in
     let now : seen c.put_between-done.new.bits (Some (with_value c.in-Ok.edited c.put_between-done.new.edited)) ≡ wanted c = (is_again c.put_between-done.new.bits (Some (with_value c.in-Ok.edited c.put_between-done.new.edited)) (wanted c) (held c)).1 in
     elim c.match-done.branch [
-      | in-Ok-done+in-Heap-1 w ↦ put_ok (index_of c.args.place) c.in-Some.place.index c.args.tag c.args.packet y _ c.put_between-done.result c.match-done.result _ _ (ap index_of c.in-Some.is) fits w.in-Ok-done.is w.result-is now
-      | in-Ok-done+in-Inline-1 w ↦ put_ok (index_of c.args.place) c.in-Some.place.index c.args.tag c.args.packet y _ c.put_between-done.result c.match-done.result _ _ (ap index_of c.in-Some.is) fits w.in-Ok-done.is w.result-is now
+      | in-Ok-done+in-Heap-1 w ↦ put_ok (index_of c.args.place) c.in-Some.place.index c.args.tag c.args.packet y _ c.put_between-done.result c.match-done.result _ _ (ap index_of c.in-Some.is) (fits c) w.in-Ok-done.is w.result-is now
+      | in-Ok-done+in-Inline-1 w ↦ put_ok (index_of c.args.place) c.in-Some.place.index c.args.tag c.args.packet y _ c.put_between-done.result c.match-done.result _ _ (ap index_of c.in-Some.is) (fits c) w.in-Ok-done.is w.result-is now
       | in-Err-done w ↦ put_wants (index_of c.args.place) c.in-Some.place.index c.args.tag c.args.packet y _ c.put_between-done.result c.match-done.result _ w.in-Err-done.is w.result-is c.put_between-done.ensures.fault now
     ]

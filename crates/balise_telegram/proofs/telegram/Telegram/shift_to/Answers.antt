@@ -1,23 +1,22 @@
-use Rattle.std.proofs.Common.{◌≡◌, ◌∙◌, ◌⊎◌, inl, inr, ℕ, suc, ◌+◌, ◌-◌, ◌<◌, Option, Some, Ok, IfSome, slice_get, option_map, vec_len, vec_capacity, refl, ap, sym, subst, add-one, arith}
+use Rattle.std.proofs.Common.{◌≡◌, ◌∙◌, ◌⊎◌, inl, inr, ℕ, suc, ◌+◌, ◌-◌, cond, ltb, Option, Some, Ok, IfSome, slice_get, option_map, refl, ap, sym, subst, add-one, arith}
 use Rattle.std.specs.List.{insert, remove}
 use Rattle.std.specs.Box.{with_value}
 use Rattle.balise_rules.specs.declared.tag.Tag.{Tag}
-use Rattle.balise_rules.specs.Packet.{Packet, width}
+use Rattle.balise_rules.specs.Packet.{Packet}
 use Rattle.balise_rules.specs.Telegram.{Telegram}
 use Rattle.balise_rules.specs.Back.{with_packets}
 use Rattle.balise_telegram.specs.declared.telegram.edited.Edited.{Edited}
 use Rattle.balise_telegram.specs.declared.telegram.walking.Place.{Place}
-use Rattle.balise_telegram.specs.Moving.{Shifts, ShiftsBefore}
-use Rattle.balise_telegram.specs.Shown.{index_of, Gap, Kept, IsPlace, StandsFor, IsOver, IsShown}
+use Rattle.balise_telegram.specs.Moving.{moved_to, Shifts, ShiftsBefore}
+use Rattle.balise_telegram.specs.Shown.{index_of, seen, Goes, Kept, IsPlace, StandsFor, IsOver, IsShown}
 use Rattle.balise_telegram.proofs.Shifting as behind
 use Rattle.balise_telegram.proofs.ShiftingBefore as before
 use Rattle.balise_telegram.proofs.Seen.{is_again}
-use Rattle.balise_telegram.proofs.Spliced.{spot_fits}
-use Rattle.balise_telegram.proofs.InAndOut.{standing}
+use Rattle.balise_telegram.proofs.InAndOut.{Standing}
 use Rattle.balise_telegram.proofs.Walking.{few}
-use Rattle.balise_telegram.proofs.Moves.{apart, moved, nearer_below, once, wide_below, Nearer}
+use Rattle.balise_telegram.proofs.Moves.{goes_from, goes_item, once_at}
 use Rattle.balise_telegram.proofs.telegram.Telegram.shift_to.Goals as goal
-use Rattle.balise_telegram.proofs.telegram.Telegram.shift_to.Goals.{then-to-from-via-then-to-from, then-to-from-via-else-to-from+then-to-from-2, then-from-to, else-from-to}
+use Rattle.balise_telegram.proofs.telegram.Telegram.shift_to.Goals.{then-to-from-via-then-to-from, then-to-from-via-else-to-from+then-to-from-2}
 
 pub returns-in_default-clause-after : goal.returns-in_default-clause-after
 returns-in_default-clause-after c = λ a e. inr (behind.no_packet c.args.tag a c.args.self.now c.in_default.ensures.place, refl)
@@ -54,132 +53,87 @@ returns-then-to-from-clause-before c =
     let same : (to ≡ from) ⊎ (to ≡ suc from) = elim c.then-to-from.branch [ then-to-from-via-then-to-from w ↦ inl w.if-to-from.true | then-to-from-via-else-to-from+then-to-from-2 w ↦ inr (w.if-to-from-2.true ∙ add-one from) ] in
     λ n e. inr (before.same_spots c.args.tag n c.args.self.now from to c.in-Some.ensures.place (ap index_of (sym c.in-Some-place.is) ∙ e) same, refl)
 
-pub overflow_sub-width : goal.overflow_sub-width
-overflow_sub-width c =
+over : (c : goal.Joined-packet-2) → IsOver c.deref_mut.result.now c.args.self.now
+over c =
     let b = c.self.inside.packed in
     let y = c.args.self.now in
-    let s : IsShown b y = subst (λ (z : Telegram). IsShown b z) c.self.view_is c.self.invariant.shown in
-    let t = standing b y c.args.tag c.in-Some.from c.after-after.result (c.end-used.result.at + 8) s c.in-Some.ensures.place c.in-Some.ensures.stands.0 c.after-after.ensures.index c.after-after.ensures.place c.end-used.ensures.at in
-    let wide = t.wide in
-    omega (arith, wide)
-
-pub cut_out-requires : goal.cut_out-requires
-cut_out-requires c =
-    let b = c.self.inside.packed in
-    let y = c.args.self.now in
-    let from = c.in-Some.from in
     let o : StandsFor b c.self.inside.edited y = subst (λ (z : Telegram). StandsFor b c.self.inside.edited z) c.self.view_is c.self.invariant in
     let kept : StandsFor b c.take-kept.result y = subst (λ (k : Kept). StandsFor b k y) (sym c.take-kept.ensures.value) o in
-    let over : IsOver c.deref_mut.result.now y = subst (λ (e : Edited). IsOver e y) (sym c.deref_mut.ensures.value) (c.in_ok-edited.ensures.ok y kept) in
-    let t = standing b y c.args.tag c.in-Some.from c.after-after.result (c.end-used.result.at + 8) o.shown c.in-Some.ensures.place c.in-Some.ensures.stands.0 c.after-after.ensures.index c.after-after.ensures.place c.end-used.ensures.at in
-    (y, o.shown, over, t.spot)
+    subst (λ (e : Edited). IsOver e y) (sym c.deref_mut.ensures.value) (c.in_ok-edited.ensures.ok y kept)
 
-pub overflow_sub-place-then-from-to : goal.overflow_sub-place-then-from-to
-overflow_sub-place-then-from-to c =
+goes : (c : goal.Joined-packet-2) → Goes c.args.self.now c.args.tag c.in_ok-packet.packet c.in-Some.from c.after-after.result c.in-Some-place.to (c.end-used.result.at + 8)
+goes c = record {
+  found = c.in-Some.ensures.place;
+  packet = λ z e. c.in_ok-packet.ensures.ok ∙ c.lent.ensures z e;
+  begins = c.in-Some.ensures.stands.0;
+  next = c.after-after.ensures.index;
+  ends = c.after-after.ensures.place;
+  there = subst (λ (p : Option Place). IfSome p (λ q. IsPlace c.args.self.now q)) c.in-Some-place.is c.requires.within;
+  all = c.end-used.ensures.at;
+}
+
+shown_of : (c : goal.Joined-packet-2) → IsShown c.self.inside.packed c.args.self.now
+shown_of c = subst (λ (z : Telegram). IsShown c.self.inside.packed z) c.self.view_is c.self.invariant.shown
+
+abbrev wanted : goal.Joined-packet-2 → Telegram
+wanted c = with_packets c.args.self.now (moved_to c.in-Some.from.index c.in-Some-place.to.index (c.args.tag, c.in_ok-packet.packet) c.args.self.now.packets)
+
+held : (c : goal.Joined-packet-2) → StandsFor c.move_between.new.bits (Some (with_value c.in_ok-edited.edited c.move_between.new.edited)) (wanted c)
+held c = record {
+  shown = c.move_between.ensures.shown c.args.self.now (shown_of c) (over c) (goes c);
+  kept = c.move_between.ensures.over c.args.self.now (shown_of c) (over c) (goes c);
+}
+
+pub move_between-requires : goal.move_between-requires
+move_between-requires c =
     let b = c.self.inside.packed in
     let y = c.args.self.now in
-    let s : IsShown b y = subst (λ (z : Telegram). IsShown b z) c.self.view_is c.self.invariant.shown in
-    let t = standing b y c.args.tag c.in-Some.from c.after-after.result (c.end-used.result.at + 8) s c.in-Some.ensures.place c.in-Some.ensures.stands.0 c.after-after.ensures.index c.after-after.ensures.place c.end-used.ensures.at in
-    let at : IsPlace y c.in-Some-place.to = subst (λ (p : Option Place). IfSome p (λ q. IsPlace y q)) c.in-Some-place.is c.requires.within in
-    wide_below y c.args.tag c.in-Some.from c.after-after.result c.in-Some-place.to (c.end-used.result.at + 8) t c.if-from-to.true at
-
-pub overflow_sub-used : goal.overflow_sub-used
-overflow_sub-used c =
-    let b = c.self.inside.packed in
-    let y = c.args.self.now in
-    let from = c.in-Some.from in
     let o : StandsFor b c.self.inside.edited y = subst (λ (z : Telegram). StandsFor b c.self.inside.edited z) c.self.view_is c.self.invariant in
     let kept : StandsFor b c.take-kept.result y = subst (λ (k : Kept). StandsFor b k y) (sym c.take-kept.ensures.value) o in
-    let over : IsOver c.deref_mut.result.now y = subst (λ (e : Edited). IsOver e y) (sym c.deref_mut.ensures.value) (c.in_ok-edited.ensures.ok y kept) in
-    let t = standing b y c.args.tag c.in-Some.from c.after-after.result (c.end-used.result.at + 8) o.shown c.in-Some.ensures.place c.in-Some.ensures.stands.0 c.after-after.ensures.index c.after-after.ensures.place c.end-used.ensures.at in
-    let f = spot_fits b y from.index from.at (c.after-after.result.at - from.at) (c.end-used.result.at + 8) o.shown t.spot in
-    omega (arith, f.end)
-
-pub put_between-done-requires : goal.put_between-done-requires
-put_between-done-requires c =
-    let b = c.self.inside.packed in
-    let y = c.args.self.now in
-    let from = c.in-Some.from in
-    let o : StandsFor b c.self.inside.edited y = subst (λ (z : Telegram). StandsFor b c.self.inside.edited z) c.self.view_is c.self.invariant in
-    let kept : StandsFor b c.take-kept.result y = subst (λ (k : Kept). StandsFor b k y) (sym c.take-kept.ensures.value) o in
-    let over : IsOver c.deref_mut.result.now y = subst (λ (e : Edited). IsOver e y) (sym c.deref_mut.ensures.value) (c.in_ok-edited.ensures.ok y kept) in
-    let t = standing b y c.args.tag c.in-Some.from c.after-after.result (c.end-used.result.at + 8) o.shown c.in-Some.ensures.place c.in-Some.ensures.stands.0 c.after-after.ensures.index c.after-after.ensures.place c.end-used.ensures.at in
-    let y2 = with_packets y (remove y.packets from.index) in
-    let out = c.cut_out.ensures.shown y o.shown over t.spot in
-    let over2 : IsOver c.deref_mut-2.result.now y2 = subst (λ (e : Edited). IsOver e y2) (sym c.deref_mut-2.ensures.value) (c.cut_out.ensures.over y o.shown over t.spot) in
-    let at : IsPlace y c.in-Some-place.to = subst (λ (p : Option Place). IfSome p (λ q. IsPlace y q)) c.in-Some-place.is c.requires.within in
-    let near : Nearer from.index c.in-Some-place.to c.if-from-to.place (c.after-after.result.at - from.at) = elim c.if-from-to.branch [ then-from-to w ↦ nearer_below from.index _ c.in-Some-place.to c.if-from-to.place w.if-from-to.true w.place-is | else-from-to w ↦ inr (w.if-from-to.false, w.place-is) ] in
-    let same : c.in_ok-packet.packet ≡ t.item.1 = c.in_ok-packet.ensures.ok ∙ c.lent.ensures t.item t.there in
-    let a = apart b c.cut_out.new.bits y c.args.tag from c.after-after.result c.in-Some-place.to c.if-from-to.place (c.end-used.result.at + 8) o.shown t out at near in
-    (y2, a.shown, over2, subst (λ (z : Packet). Gap y2 c.if-from-to.place.index c.if-from-to.place.at (width z) ((c.end-used.result.at + 8) - (c.after-after.result.at - from.at))) (sym same) a.gap)
+    let over : IsOver c.deref_mut.result.now y = subst (λ (e : Edited). IsOver e y) (sym c.deref_mut.ensures.value) (c.in_ok-edited.ensures.ok y kept) in (
+      y,
+      o.shown,
+      over,
+      record {
+        found = c.in-Some.ensures.place;
+        packet = λ z e. c.in_ok-packet.ensures.ok ∙ c.lent.ensures z e;
+        begins = c.in-Some.ensures.stands.0;
+        next = c.after-after.ensures.index;
+        ends = c.after-after.ensures.place;
+        there = subst (λ (p : Option Place). IfSome p (λ q. IsPlace y q)) c.in-Some-place.is c.requires.within;
+        all = c.end-used.ensures.at;
+      },
+    )
 
 pub invariant_of-self-2 : goal.invariant_of-self-2
-invariant_of-self-2 c =
-    let b = c.self.inside.packed in
-    let y = c.args.self.now in
-    let from = c.in-Some.from in
-    let o : StandsFor b c.self.inside.edited y = subst (λ (z : Telegram). StandsFor b c.self.inside.edited z) c.self.view_is c.self.invariant in
-    let kept : StandsFor b c.take-kept.result y = subst (λ (k : Kept). StandsFor b k y) (sym c.take-kept.ensures.value) o in
-    let over : IsOver c.deref_mut.result.now y = subst (λ (e : Edited). IsOver e y) (sym c.deref_mut.ensures.value) (c.in_ok-edited.ensures.ok y kept) in
-    let t = standing b y c.args.tag c.in-Some.from c.after-after.result (c.end-used.result.at + 8) o.shown c.in-Some.ensures.place c.in-Some.ensures.stands.0 c.after-after.ensures.index c.after-after.ensures.place c.end-used.ensures.at in
-    let y2 = with_packets y (remove y.packets from.index) in
-    let out = c.cut_out.ensures.shown y o.shown over t.spot in
-    let over2 : IsOver c.deref_mut-2.result.now y2 = subst (λ (e : Edited). IsOver e y2) (sym c.deref_mut-2.ensures.value) (c.cut_out.ensures.over y o.shown over t.spot) in
-    let at : IsPlace y c.in-Some-place.to = subst (λ (p : Option Place). IfSome p (λ q. IsPlace y q)) c.in-Some-place.is c.requires.within in
-    let near : Nearer from.index c.in-Some-place.to c.if-from-to.place (c.after-after.result.at - from.at) = elim c.if-from-to.branch [ then-from-to w ↦ nearer_below from.index _ c.in-Some-place.to c.if-from-to.place w.if-from-to.true w.place-is | else-from-to w ↦ inr (w.if-from-to.false, w.place-is) ] in
-    let same : c.in_ok-packet.packet ≡ t.item.1 = c.in_ok-packet.ensures.ok ∙ c.lent.ensures t.item t.there in
-    let spare = subst (λ (e : Edited). vec_len e.tags < vec_capacity e.tags) (sym c.deref_mut-2.ensures.value) c.cut_out.ensures.spare in
-    let held = moved b c.cut_out.new.bits c.put_between-done.new.bits (Some (with_value (with_value c.in_ok-edited.edited c.cut_out.new.edited) c.put_between-done.new.edited)) y c.args.tag from c.after-after.result c.in-Some-place.to c.if-from-to.place (c.end-used.result.at + 8) c.in_ok-packet.packet c.deref_mut-2.result.now c.put_between-done.result o.shown t same out over2 at near
-    c.put_between-done.ensures.shown c.put_between-done.ensures.over c.put_between-done.ensures.bits c.put_between-done.ensures.kept (c.put_between-done.ensures.room spare) in
-    let seen_now = is_again c.put_between-done.new.bits (Some (with_value (with_value c.in_ok-edited.edited c.cut_out.new.edited) c.put_between-done.new.edited)) (with_packets y (insert (remove y.packets from.index) c.if-from-to.place.index t.item)) held in
-    seen_now.0
+invariant_of-self-2 c = (is_again c.move_between.new.bits (Some (with_value c.in_ok-edited.edited c.move_between.new.edited)) (wanted c) (held c)).0
+
+was : (c : goal.Joined-packet-2) → c.tag_at-next.result ≡ option_map (λ (q : Tag × Packet). q.0) (slice_get c.args.self.now.packets (suc c.in-Some.from.index))
+was c = c.tag_at-next.ensures ∙ ap (λ (k : ℕ). option_map (λ (q : Tag × Packet). q.0) (slice_get c.args.self.now.packets k)) (c.after-after.ensures.index ∙ add-one c.in-Some.from.index)
+
+now_is : (c : goal.Joined-packet-2) → seen c.move_between.new.bits (Some (with_value c.in_ok-edited.edited c.move_between.new.edited)) ≡ wanted c
+now_is c = (is_again c.move_between.new.bits (Some (with_value c.in_ok-edited.edited c.move_between.new.edited)) (wanted c) (held c)).1
+
+abbrev standing_of : (c : goal.Joined-packet-2) → Standing c.args.self.now c.args.tag c.in-Some.from c.after-after.result (c.end-used.result.at + 8)
+standing_of c = goes_from c.self.inside.packed c.args.self.now c.args.tag c.in_ok-packet.packet c.in-Some.from c.after-after.result c.in-Some-place.to (c.end-used.result.at + 8) (shown_of c) (goes c)
+
+in_its_place : (c : goal.Joined-packet-2) → (wanted c).packets ≡ insert (remove c.args.self.now.packets c.in-Some.from.index) (cond (ltb c.in-Some.from.index c.in-Some-place.to.index) (c.in-Some-place.to.index - 1) c.in-Some-place.to.index) (standing_of c).item
+in_its_place c = ap (insert (remove c.args.self.now.packets c.in-Some.from.index) (cond (ltb c.in-Some.from.index c.in-Some-place.to.index) (c.in-Some-place.to.index - 1) c.in-Some-place.to.index)) (goes_item c.self.inside.packed c.args.self.now c.args.tag c.in_ok-packet.packet c.in-Some.from c.after-after.result c.in-Some-place.to (c.end-used.result.at + 8) (shown_of c) (goes c))
 
 pub returns-clause-after : goal.returns-clause-after
 returns-clause-after c =
-    let b = c.self.inside.packed in
     let y = c.args.self.now in
-    let from = c.in-Some.from in
-    let o : StandsFor b c.self.inside.edited y = subst (λ (z : Telegram). StandsFor b c.self.inside.edited z) c.self.view_is c.self.invariant in
-    let kept : StandsFor b c.take-kept.result y = subst (λ (k : Kept). StandsFor b k y) (sym c.take-kept.ensures.value) o in
-    let over : IsOver c.deref_mut.result.now y = subst (λ (e : Edited). IsOver e y) (sym c.deref_mut.ensures.value) (c.in_ok-edited.ensures.ok y kept) in
-    let t = standing b y c.args.tag c.in-Some.from c.after-after.result (c.end-used.result.at + 8) o.shown c.in-Some.ensures.place c.in-Some.ensures.stands.0 c.after-after.ensures.index c.after-after.ensures.place c.end-used.ensures.at in
-    let y2 = with_packets y (remove y.packets from.index) in
-    let out = c.cut_out.ensures.shown y o.shown over t.spot in
-    let over2 : IsOver c.deref_mut-2.result.now y2 = subst (λ (e : Edited). IsOver e y2) (sym c.deref_mut-2.ensures.value) (c.cut_out.ensures.over y o.shown over t.spot) in
-    let at : IsPlace y c.in-Some-place.to = subst (λ (p : Option Place). IfSome p (λ q. IsPlace y q)) c.in-Some-place.is c.requires.within in
-    let near : Nearer from.index c.in-Some-place.to c.if-from-to.place (c.after-after.result.at - from.at) = elim c.if-from-to.branch [ then-from-to w ↦ nearer_below from.index _ c.in-Some-place.to c.if-from-to.place w.if-from-to.true w.place-is | else-from-to w ↦ inr (w.if-from-to.false, w.place-is) ] in
-    let same : c.in_ok-packet.packet ≡ t.item.1 = c.in_ok-packet.ensures.ok ∙ c.lent.ensures t.item t.there in
-    let spare = subst (λ (e : Edited). vec_len e.tags < vec_capacity e.tags) (sym c.deref_mut-2.ensures.value) c.cut_out.ensures.spare in
-    let held = moved b c.cut_out.new.bits c.put_between-done.new.bits (Some (with_value (with_value c.in_ok-edited.edited c.cut_out.new.edited) c.put_between-done.new.edited)) y c.args.tag from c.after-after.result c.in-Some-place.to c.if-from-to.place (c.end-used.result.at + 8) c.in_ok-packet.packet c.deref_mut-2.result.now c.put_between-done.result o.shown t same out over2 at near
-    c.put_between-done.ensures.shown c.put_between-done.ensures.over c.put_between-done.ensures.bits c.put_between-done.ensures.kept (c.put_between-done.ensures.room spare) in
-    let seen_now = is_again c.put_between-done.new.bits (Some (with_value (with_value c.in_ok-edited.edited c.cut_out.new.edited) c.put_between-done.new.edited)) (with_packets y (insert (remove y.packets from.index) c.if-from-to.place.index t.item)) held in
-    let was = c.tag_at-next.ensures ∙ ap (λ (k : ℕ). option_map (λ (q : Tag × Packet). q.0) (slice_get y.packets k)) (c.after-after.ensures.index ∙ add-one from.index) in
-    λ a e.
-    subst (λ (z : Telegram). Shifts c.args.tag a y (Ok c.tag_at-next.result) z) (sym seen_now.1)
-    (behind.shifted y.head y.packets (insert (remove y.packets from.index) c.if-from-to.place.index t.item) y.padding y c.args.tag a from.index c.in-Some-place.to.index c.if-from-to.place.index t.item c.tag_at-next.result refl o.shown.tags t.stands
-    (ap index_of (sym c.in-Some-place.is) ∙ e) c.if-to-from.false (λ (d : c.in-Some-place.to.index ≡ suc from.index). c.if-to-from-2.false (d ∙ sym (add-one from.index))) was refl (once from.index (c.after-after.result.at - from.at) c.in-Some-place.to c.if-from-to.place near))
+    let from = c.in-Some.from.index in
+    let to = c.in-Some-place.to.index in λ a e.
+    subst (λ (z : Telegram). Shifts c.args.tag a y (Ok c.tag_at-next.result) z) (sym (now_is c))
+    (behind.shifted y.head y.packets (wanted c).packets y.padding y c.args.tag a from to _ (standing_of c).item c.tag_at-next.result refl (shown_of c).tags (standing_of c).stands
+    (ap index_of (sym c.in-Some-place.is) ∙ e) c.if-to-from.false (λ (d : to ≡ suc from). c.if-to-from-2.false (d ∙ sym (add-one from))) (was c) (in_its_place c) (once_at from to))
 
 pub returns-clause-before : goal.returns-clause-before
 returns-clause-before c =
-    let b = c.self.inside.packed in
     let y = c.args.self.now in
-    let from = c.in-Some.from in
-    let o : StandsFor b c.self.inside.edited y = subst (λ (z : Telegram). StandsFor b c.self.inside.edited z) c.self.view_is c.self.invariant in
-    let kept : StandsFor b c.take-kept.result y = subst (λ (k : Kept). StandsFor b k y) (sym c.take-kept.ensures.value) o in
-    let over : IsOver c.deref_mut.result.now y = subst (λ (e : Edited). IsOver e y) (sym c.deref_mut.ensures.value) (c.in_ok-edited.ensures.ok y kept) in
-    let t = standing b y c.args.tag c.in-Some.from c.after-after.result (c.end-used.result.at + 8) o.shown c.in-Some.ensures.place c.in-Some.ensures.stands.0 c.after-after.ensures.index c.after-after.ensures.place c.end-used.ensures.at in
-    let y2 = with_packets y (remove y.packets from.index) in
-    let out = c.cut_out.ensures.shown y o.shown over t.spot in
-    let over2 : IsOver c.deref_mut-2.result.now y2 = subst (λ (e : Edited). IsOver e y2) (sym c.deref_mut-2.ensures.value) (c.cut_out.ensures.over y o.shown over t.spot) in
-    let at : IsPlace y c.in-Some-place.to = subst (λ (p : Option Place). IfSome p (λ q. IsPlace y q)) c.in-Some-place.is c.requires.within in
-    let near : Nearer from.index c.in-Some-place.to c.if-from-to.place (c.after-after.result.at - from.at) = elim c.if-from-to.branch [ then-from-to w ↦ nearer_below from.index _ c.in-Some-place.to c.if-from-to.place w.if-from-to.true w.place-is | else-from-to w ↦ inr (w.if-from-to.false, w.place-is) ] in
-    let same : c.in_ok-packet.packet ≡ t.item.1 = c.in_ok-packet.ensures.ok ∙ c.lent.ensures t.item t.there in
-    let spare = subst (λ (e : Edited). vec_len e.tags < vec_capacity e.tags) (sym c.deref_mut-2.ensures.value) c.cut_out.ensures.spare in
-    let held = moved b c.cut_out.new.bits c.put_between-done.new.bits (Some (with_value (with_value c.in_ok-edited.edited c.cut_out.new.edited) c.put_between-done.new.edited)) y c.args.tag from c.after-after.result c.in-Some-place.to c.if-from-to.place (c.end-used.result.at + 8) c.in_ok-packet.packet c.deref_mut-2.result.now c.put_between-done.result o.shown t same out over2 at near
-    c.put_between-done.ensures.shown c.put_between-done.ensures.over c.put_between-done.ensures.bits c.put_between-done.ensures.kept (c.put_between-done.ensures.room spare) in
-    let seen_now = is_again c.put_between-done.new.bits (Some (with_value (with_value c.in_ok-edited.edited c.cut_out.new.edited) c.put_between-done.new.edited)) (with_packets y (insert (remove y.packets from.index) c.if-from-to.place.index t.item)) held in
-    let was = c.tag_at-next.ensures ∙ ap (λ (k : ℕ). option_map (λ (q : Tag × Packet). q.0) (slice_get y.packets k)) (c.after-after.ensures.index ∙ add-one from.index) in
-    λ a e.
-    subst (λ (z : Telegram). ShiftsBefore c.args.tag a y (Ok c.tag_at-next.result) z) (sym seen_now.1)
-    (before.shifted y.head y.packets (insert (remove y.packets from.index) c.if-from-to.place.index t.item) y.padding y c.args.tag a from.index c.in-Some-place.to.index c.if-from-to.place.index t.item c.tag_at-next.result refl o.shown.tags t.stands
-    (ap index_of (sym c.in-Some-place.is) ∙ e) c.if-to-from.false (λ (d : c.in-Some-place.to.index ≡ suc from.index). c.if-to-from-2.false (d ∙ sym (add-one from.index))) was refl (once from.index (c.after-after.result.at - from.at) c.in-Some-place.to c.if-from-to.place near))
+    let from = c.in-Some.from.index in
+    let to = c.in-Some-place.to.index in λ a e.
+    subst (λ (z : Telegram). ShiftsBefore c.args.tag a y (Ok c.tag_at-next.result) z) (sym (now_is c))
+    (before.shifted y.head y.packets (wanted c).packets y.padding y c.args.tag a from to _ (standing_of c).item c.tag_at-next.result refl (shown_of c).tags (standing_of c).stands
+    (ap index_of (sym c.in-Some-place.is) ∙ e) c.if-to-from.false (λ (d : to ≡ suc from). c.if-to-from-2.false (d ∙ sym (add-one from))) (was c) (in_its_place c) (once_at from to))

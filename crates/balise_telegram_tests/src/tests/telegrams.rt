@@ -1,9 +1,9 @@
 //! Telegrams of known digits, each read and shown again.
 
-use crate::changes::LINKING;
-use crate::full::SHORT;
-use crate::packets::{COLOURED, ONE_PACKET};
-use crate::telegram::{EDITED, two_packets};
+use crate::tests::changes::LINKING;
+use crate::tests::full::SHORT;
+use crate::tests::packets::{COLOURED, ONE_PACKET};
+use crate::tests::telegram::{EDITED, two_packets};
 use balise_telegram::{Bits, PacketTag, Refusal, Telegram, TelegramFault, Var};
 use std::alloc::Global;
 use std::process::Abort;

@@ -1,6 +1,6 @@
 //! Headers of a short and a long telegram.
 
-use crate::telegrams::{TWO_PACKETS, telegram_of};
+use crate::tests::telegrams::{TWO_PACKETS, telegram_of};
 use balise_telegram::{Header, Telegram};
 use std::process::Abort;
 

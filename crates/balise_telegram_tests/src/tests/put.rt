@@ -1,33 +1,9 @@
 //! Packets put into a telegram, taken out of it and handed back.
 
-use crate::packets::{EXCHANGED, ONE_PACKET, Outcome, is_back, read_packet};
-use crate::telegrams::{TWO_PACKETS, shows, telegram_of};
+use crate::tests::packets::{EXCHANGED, ONE_PACKET, Outcome, is_back, read_packet};
+use crate::tests::telegrams::{TWO_PACKETS, shows, telegram_of};
 use balise_telegram::{Bits, Packet, PacketTag, Telegram, TelegramFault};
 use std::process::Abort;
-
-/// Puts a packet in after the anchor, under a new tag.
-pub(crate) fn put_after(
-    rt: &impl Abort,
-    telegram: &mut Telegram,
-    anchor: Option<PacketTag>,
-    tag: PacketTag,
-    packet: Packet,
-) -> Outcome {
-    assert!(rt; telegram.packet(tag).is_none() && packet.is_spelt(telegram.version()));
-    telegram.insert_after(anchor, tag, packet)
-}
-
-/// Puts a packet in before the neighbour, under a new tag.
-pub(crate) fn put_before(
-    rt: &impl Abort,
-    telegram: &mut Telegram,
-    next: Option<PacketTag>,
-    tag: PacketTag,
-    packet: Packet,
-) -> Outcome {
-    assert!(rt; telegram.packet(tag).is_none() && packet.is_spelt(telegram.version()));
-    telegram.put_before(next, tag, packet)
-}
 
 /// Takes a packet out that stands before this one.
 pub(crate) fn taken(
@@ -41,7 +17,7 @@ pub(crate) fn taken(
     packet
 }
 
-/// Puts a packet in before the one beside it, or after it.
+/// Puts a packet in before the one beside it, or after it, under a new tag.
 pub(crate) fn put_beside(
     rt: &impl Abort,
     telegram: &mut Telegram,
@@ -50,10 +26,11 @@ pub(crate) fn put_beside(
     tag: PacketTag,
     packet: Packet,
 ) -> Outcome {
+    assert!(rt; telegram.packet(tag).is_none() && packet.is_spelt(telegram.version()));
     if ahead {
-        put_before(rt, telegram, beside, tag, packet)
+        telegram.put_before(beside, tag, packet)
     } else {
-        put_after(rt, telegram, beside, tag, packet)
+        telegram.insert_after(beside, tag, packet)
     }
 }
 

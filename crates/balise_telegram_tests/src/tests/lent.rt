@@ -1,10 +1,10 @@
 //! Packets lent from a telegram: by tag, by place and one after another.
 
-use crate::full::{FULL, LONG, SHORT};
-use crate::kinds::{EACH_KIND, Kept, PACKETS, TELEGRAMS};
-use crate::packets::ONE_PACKET;
-use crate::put::put_before;
-use crate::telegrams::{TWO_PACKETS, check_shown, telegram_of};
+use crate::tests::full::{FULL, LONG, SHORT};
+use crate::tests::kinds::{EACH_KIND, Kept, PACKETS, TELEGRAMS};
+use crate::tests::packets::ONE_PACKET;
+use crate::tests::put::put_beside;
+use crate::tests::telegrams::{TWO_PACKETS, check_shown, telegram_of};
 use balise_telegram::{Bits, PacketRef, PacketTag, Packets, Telegram};
 use std::alloc::Global;
 use std::process::Abort;
@@ -132,7 +132,7 @@ fn check_lent(rt: &impl Abort, telegram: &Telegram, is_new: bool) {
 /// Takes the first packet out and puts it in last, under a new tag.
 fn renew(rt: &impl Abort, telegram: &mut Telegram, i: u32) {
     let (packet, _) = telegram.take(tag_at(i, false)).expect(rt, "a packet");
-    assert!(rt; put_before(rt, telegram, None, tag_at(i, true), packet).is_ok());
+    assert!(rt; put_beside(rt, telegram, true, None, tag_at(i, true), packet).is_ok());
 }
 
 /// That a telegram lends its packets as it was read, and once each has a new tag.

@@ -1,6 +1,6 @@
 //! What turning and renumbering change, with digits made by hand.
 
-use crate::telegrams::{check_shown, telegram_of};
+use crate::tests::telegrams::{check_shown, telegram_of};
 use balise_telegram::{Id, PacketTag, Telegram};
 use std::process::Abort;
 

@@ -2,9 +2,9 @@
 //!
 //! In a plain run each is done. `rt try --test --fail-alloc N` makes the Nth allocation fail.
 
-use crate::packets::{EXCHANGED, ONE_PACKET, has_order, shift};
-use crate::put::put_before;
-use crate::telegrams::TWO_PACKETS;
+use crate::tests::packets::{EXCHANGED, ONE_PACKET, has_order, shift};
+use crate::tests::put::put_beside;
+use crate::tests::telegrams::TWO_PACKETS;
 use balise_telegram::{Bits, Packet, PacketTag, Telegram, TelegramFault, Var};
 use std::alloc::Global;
 use std::process::Abort;
@@ -22,6 +22,14 @@ fn read(alloc: Global, text: &str) -> Option<Telegram> {
         Ok(telegram) => Some(telegram),
         Err(_) => None,
     }
+}
+
+/// One with the first packet alone, one with both, and one of these digits.
+fn read_three(alloc: Global, text: &str) -> Option<(Telegram, Telegram, Telegram)> {
+    let one = read(alloc, ONE_PACKET)?;
+    let two = read(alloc, TWO_PACKETS)?;
+    let telegram = read(alloc, text)?;
+    Some((one, two, telegram))
 }
 
 /// Whether a telegram shows the bits of another one, and has these restrictions in order. Takes no memory.
@@ -42,7 +50,7 @@ fn check_put(
     one: &Telegram,
     two: &Telegram,
 ) {
-    match put_before(rt, telegram, None, SECOND, packet) {
+    match put_beside(rt, telegram, true, None, SECOND, packet) {
         Ok(()) => assert!(rt; is_like(telegram, two, &[5, 7])),
         Err((fault, packet)) => {
             assert!(rt; fault == TelegramFault::OutOfMemory);
@@ -67,13 +75,7 @@ fn check_take(rt: &impl Abort, telegram: &mut Telegram, one: &Telegram, two: &Te
 
 #[test]
 fn takes_a_packet_out_or_leaves_it(rt: HostRuntime) {
-    let Some(one) = read(rt.alloc(), ONE_PACKET) else {
-        return;
-    };
-    let Some(two) = read(rt.alloc(), TWO_PACKETS) else {
-        return;
-    };
-    let Some(mut telegram) = read(rt.alloc(), TWO_PACKETS) else {
+    let Some((one, two, mut telegram)) = read_three(rt.alloc(), TWO_PACKETS) else {
         return;
     };
     check_take(&rt, &mut telegram, &one, &two);
@@ -92,13 +94,7 @@ fn second(two: &Telegram) -> Option<Packet> {
 
 #[test]
 fn puts_a_packet_in_or_hands_it_back(rt: HostRuntime) {
-    let Some(one) = read(rt.alloc(), ONE_PACKET) else {
-        return;
-    };
-    let Some(two) = read(rt.alloc(), TWO_PACKETS) else {
-        return;
-    };
-    let Some(mut telegram) = read(rt.alloc(), ONE_PACKET) else {
+    let Some((one, two, mut telegram)) = read_three(rt.alloc(), ONE_PACKET) else {
         return;
     };
     let Some(packet) = second(&two) else {

@@ -1,8 +1,8 @@
 //! Telegrams with packets of each kind.
 
-use crate::changes::NAMED;
-use crate::full::{FULL, LONG, SHORT, holds};
-use crate::telegrams::telegram_of;
+use crate::tests::changes::NAMED;
+use crate::tests::full::{FULL, LONG, SHORT, holds};
+use crate::tests::telegrams::telegram_of;
 use balise_telegram::{Id, PacketTag, Telegram};
 use std::alloc::Global;
 use std::process::Abort;
@@ -11,35 +11,23 @@ use std::process::Abort;
 pub(crate) const EACH_KIND: &str =
     "a1007f80a03241503b204b20300c88c0819000c98c05408a81f400c98c00aa04e4000414204b1fe3681f500005020cb244820fa0c4301e2940b2806421200c82000a20a047414064012c0842403e0b10809803244203080c032160020d2ffad2d2d2d2d2d2d2d2d0";
 
-/// The same in version 1.0, in which 27 and 41 are not known.
-const EARLIER_VERSION: &str =
-    "90007f80a03241503b204b20300c88c0819000c98c05408a81f400c98c00aa04e4000414204b1fe3681f500005020cb244820fa0c4301e2940b2806421200c82000a20a047414064012c0842403e0b10809803244203080c032160020d2ffad2d2d2d2d2d2d2d2d0";
-
 /// The same packets and another one of 73 bits, so that no bit is left.
 const EACH_KIND_FILLED: &str =
     "a1007f80a03241503b204b20300c88c0819000c98c05408a81f400c98c00aa04e4000414204b1fe3681f500005020cb244820fa0c4301e2940b2806421200c82000a20a047414064012c0842403e0b10809803244203080c032160020d2962049b5ad6b5ad6b5bfc";
 
-/// A packet 5 of 18 elements, so that no bit is left.
-const ELEMENTS: &str =
-    "a1007f80a0324151822001c00080220fbc1c2d143ebc061c25142effff951b0f1f4efffca84e3c000664bbb95190f1b5f313b633e8e7085508cbe003f4b2d4e2e8ca4e4abfd356edd773aa311e32cf5b6b416d6ec4e50cea7da5ec2df43b84128426fbffde2e57fc";
-
-/// A packet 27 of 52 differences.
-const DIFFERENCES: &str =
-    "a1007f80a03246d17d2000103e0035c75c64548e2f8dd15151a145b3f32dc6d0820f6cd449496083b9e31d455b96670f9341612041b7d34cc4d78a47ae905743fffffeace88398e19e2329c313a6caa7a0c8629df786d2ef4903964923b4a8019aefae922d4ffffc";
-
-/// One packet 66, and coloured padding.
-const COLOURED: &str = "a1007f80a03250900f82ffda5a5a5a5a5a5a5a5a5a5a5a5a5a5a40";
-
 pub(crate) const TELEGRAMS: [&str; 9] = [
     EACH_KIND,
-    EARLIER_VERSION,
+    // The same in version 1.0, in which 27 and 41 are not known.
+    "90007f80a03241503b204b20300c88c0819000c98c05408a81f400c98c00aa04e4000414204b1fe3681f500005020cb244820fa0c4301e2940b2806421200c82000a20a047414064012c0842403e0b10809803244203080c032160020d2ffad2d2d2d2d2d2d2d2d0",
     EACH_KIND_FILLED,
     ELEMENTS,
-    DIFFERENCES,
+    // A packet 27 of 52 differences.
+    "a1007f80a03246d17d2000103e0035c75c64548e2f8dd15151a145b3f32dc6d0820f6cd449496083b9e31d455b96670f9341612041b7d34cc4d78a47ae905743fffffeace88398e19e2329c313a6caa7a0c8629df786d2ef4903964923b4a8019aefae922d4ffffc",
     FULL,
     LONG,
     SHORT,
-    COLOURED,
+    // One packet 66, and coloured padding.
+    "a1007f80a03250900f82ffda5a5a5a5a5a5a5a5a5a5a5a5a5a5a40",
 ];
 
 /// What the elements of another country name.
@@ -98,6 +86,10 @@ fn check_elements(rt: &impl Abort, telegram: &mut Telegram) {
 fn names_the_packets_that_have_elements(rt: HostRuntime) {
     check_elements(&rt, &mut telegram_of(&rt, rt.alloc(), EACH_KIND));
 }
+
+/// A packet 5 of 18 elements, so that no bit is left.
+const ELEMENTS: &str =
+    "a1007f80a0324151822001c00080220fbc1c2d143ebc061c25142effff951b0f1f4efffca84e3c000664bbb95190f1b5f313b633e8e7085508cbe003f4b2d4e2e8ca4e4abfd356edd773aa311e32cf5b6b416d6ec4e50cea7da5ec2df43b84128426fbffde2e57fc";
 
 /// The digits of a telegram, and what it holds: packets, and bits used and left of so many.
 type Row = (&'static str, usize, usize, usize, usize);

@@ -1,9 +1,9 @@
 //! The fullest telegrams: 33 packets, and packets as long as the room. No contract says that memory is
 //! there, so each call that takes it is made on them.
 
-use crate::packets::{Moved, check_moves, read_packet};
-use crate::put::{hands_back, put_after, put_before, put_beside};
-use crate::telegrams::{check_shown, shows, telegram_of};
+use crate::tests::packets::{Moved, check_moves, read_packet};
+use crate::tests::put::{hands_back, put_beside};
+use crate::tests::telegrams::{check_shown, shows, telegram_of};
 use balise_telegram::{Bits, Packet, PacketTag, Telegram, TelegramFault};
 use std::alloc::Global;
 use std::process::Abort;
@@ -81,7 +81,7 @@ fn move_after(
     last: Option<PacketTag>,
 ) {
     let packet = taken(rt, from, PacketTag::Base(place));
-    assert!(rt; put_after(rt, to, last, PacketTag::Fresh(place), packet).is_ok());
+    assert!(rt; put_beside(rt, to, false, last, PacketTag::Fresh(place), packet).is_ok());
 }
 
 /// Moves 33 packets into another telegram, from the first one on.
@@ -109,7 +109,7 @@ fn move_before(
     first: Option<PacketTag>,
 ) {
     let packet = taken(rt, from, PacketTag::Base(place));
-    assert!(rt; put_before(rt, to, first, tag, packet).is_ok());
+    assert!(rt; put_beside(rt, to, true, first, tag, packet).is_ok());
 }
 
 /// Moves 33 packets into another telegram, from the last one on.

@@ -1,9 +1,9 @@
 //! Packets taken out and put in, with digits made by hand.
 
-use crate::full::SHORT;
-use crate::put::{hands_back, put_beside};
-use crate::telegram::{EDITED, two_packets};
-use crate::telegrams::{TWO_PACKETS, check_shown, shows, telegram_of};
+use crate::tests::full::SHORT;
+use crate::tests::put::{hands_back, put_beside};
+use crate::tests::telegram::{EDITED, two_packets};
+use crate::tests::telegrams::{TWO_PACKETS, check_shown, shows, telegram_of};
 use balise_telegram::{Bits, Packet, PacketTag, Telegram, TelegramFault, Var};
 use std::alloc::Global;
 use std::process::Abort;

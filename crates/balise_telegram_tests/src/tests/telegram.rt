@@ -1,11 +1,11 @@
 //! A telegram of two packets as it was read, and the same one after an edit: questions, changes in place, copies and
 //! digits.
 
-use crate::changes::{FLIPPED, HEADER_PUT, LINKING, NAMED, RENAMED, TURNED, has_links};
-use crate::full::{FULL, holds};
-use crate::packets::EXCHANGED;
-use crate::put::{put_after, taken};
-use crate::telegrams::{
+use crate::tests::changes::{FLIPPED, HEADER_PUT, LINKING, NAMED, RENAMED, TURNED, has_links};
+use crate::tests::full::{FULL, holds};
+use crate::tests::packets::EXCHANGED;
+use crate::tests::put::{put_beside, taken};
+use crate::tests::telegrams::{
     HeadSet, SET, TWO_PACKETS, check_shown, sets, sets_head, shows, telegram_of,
 };
 use balise_telegram::{PacketRef, PacketTag, Telegram, Var};
@@ -195,7 +195,7 @@ fn check_element(rt: &impl Abort, telegram: &mut Telegram) {
 fn edit_one(rt: &impl Abort, telegram: &mut Telegram) {
     let element = PacketTag::Base(0);
     let packet = taken(rt, telegram, element, None);
-    assert!(rt; put_after(rt, telegram, None, element, packet).is_ok());
+    assert!(rt; put_beside(rt, telegram, false, None, element, packet).is_ok());
 }
 
 fn check_edited_element(rt: &impl Abort, telegram: &mut Telegram) {

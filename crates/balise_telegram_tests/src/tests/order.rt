@@ -1,9 +1,9 @@
 //! Each packet of five moved to each place, compared with a list of tags.
 
-use crate::kinds::EACH_KIND;
-use crate::packets::shift;
-use crate::telegram::EDITED;
-use crate::telegrams::telegram_of;
+use crate::tests::kinds::EACH_KIND;
+use crate::tests::packets::shift;
+use crate::tests::telegram::EDITED;
+use crate::tests::telegrams::telegram_of;
 use balise_telegram::{Bits, PacketTag, Telegram, TelegramFault};
 use std::alloc::Global;
 use std::process::Abort;

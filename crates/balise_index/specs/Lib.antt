@@ -6,6 +6,7 @@ pub mod InOrder
 pub mod LentEntry
 pub mod LentValue
 pub mod LinkSet
+pub mod Narrow
 pub mod Places
 pub mod Rows
 pub mod TagHashes

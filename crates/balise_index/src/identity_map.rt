@@ -1,5 +1,6 @@
 //! Values under identities.
 
+mod narrow;
 mod rows;
 
 ghost use Rattle.std.specs.Prelude.{◌≡◌, ◌≤◌, [], length, option_map, slice_get, IfOk, None, OnErr, OnOk, Some};
@@ -12,6 +13,7 @@ ghost use Rattle.balise_index.specs.IdentityMap.{IsPlaced};
 ghost use Rattle.balise_index.specs.LentValue.{lends_value};
 
 use balise_rules::Id;
+use narrow::Narrow;
 use rows::{cell, make_cell, set_cell};
 use std::alloc::{AllocError, Global};
 use std::marker::Model;
@@ -20,19 +22,23 @@ use std::marker::Model;
 /// of identities that aren't held say anything.
 #[derive(Drop)]
 pub struct IdentityMap<V> {
-    slots: Vec<(Id, V)>,
+    // The identity of each slot, and its value. As two lists they need no padding.
+    ids: Vec<Narrow>,
+    values: Vec<V>,
     rows: Vec<Vec<u32>>,
 }
 
 impl<V> Model for IdentityMap<V> {
+    ghost use Rattle.std.specs.Prelude.{◌≡◌, length};
     ghost use Rattle.balise_index.specs.IdentityMap.{IsPlaced};
     ghost use Rattle.balise_index.specs.Identities.{IndexOf};
+    ghost use Rattle.balise_index.specs.Narrow.{slots_of};
 
     ghost Value = { IndexOf V };
 
-    ghost view = { λ m. m.slots.items };
+    ghost view = { λ m. slots_of m.ids.items m.values.items };
 
-    ghost invariant = { λ m. IsPlaced m.slots.items m.rows.items };
+    ghost invariant = { λ m. (length m.ids.items ≡ length m.values.items) × IsPlaced (slots_of m.ids.items m.values.items) m.rows.items };
 }
 
 impl<V> IdentityMap<V> {
@@ -41,7 +47,8 @@ impl<V> IdentityMap<V> {
         ensures { result ≡ [] }
     {
         IdentityMap {
-            slots: Vec::new(alloc),
+            ids: Vec::new(alloc),
+            values: Vec::new(alloc),
             rows: Vec::new(alloc),
         }
     }
@@ -50,10 +57,7 @@ impl<V> IdentityMap<V> {
     pub fn get(&self, id: Id) -> Option<&V>
         ensures value { option_copied result ≡ indexed self.now id }
     {
-        match self.slots.get(place(&self.slots, &self.rows, id)) {
-            Some(slot) => Some(&slot.1),
-            None => None,
-        }
+        self.values.get(self.place(id))
     }
 
     /// The value under an identity, to change.
@@ -61,29 +65,49 @@ impl<V> IdentityMap<V> {
         ensures* writes_back { sem 𝓛 (lends_value V.row self.entry id result) }
         ensures value { option_copied_mut result ≡ indexed self.old id }
     {
-        let i = place(&self.slots, &self.rows, id);
-        match self.slots.get_mut(i) {
-            Some(slot) => Some(&mut slot.1),
-            None => None,
+        let i = self.place(id);
+        self.values.get_mut(i)
+    }
+
+    // The place of an identity's slot, or the end.
+    fn place(&self, id: Id) -> usize
+        ensures { slice_get self.now result ≡ option_map (λ v. (id, v)) (indexed self.now id) }
+    {
+        let Some(i) = cell(&self.rows, id) else {
+            return self.ids.len();
+        };
+        let Some(held) = self.ids.get(i as usize) else {
+            return self.ids.len();
+        };
+        if held.wide() == id {
+            i as usize
+        } else {
+            self.ids.len()
         }
     }
 }
 
 impl<V: Drop> IdentityMap<V> {
-    /// Puts a value in under an identity that has none. Leaves all as before if an allocation fails.
+    /// Puts a value in under an identity that has none. Leaves all as before if an allocation fails, and if the country or
+    /// the number is above 65,535. No telegram has such an identity: the standard has 10 and 14 bits for them.
     pub fn insert(&mut self, id: Id, value: V) -> Result<(), AllocError>
         requires { indexed self.old id ≡ None }
         ensures updates { OnOk result (Updates self.old self.new id (Some value)) }
         ensures err { OnErr result (self.new ≡ self.old) }
     {
-        let i = self.slots.len();
+        let Some(narrow) = Narrow::of(id) else {
+            return Err(AllocError);
+        };
+        let i = self.ids.len();
         if i >= 4294967295 {
             return Err(AllocError);
         }
-        self.slots.reserve(1)?;
+        self.ids.reserve(1)?;
+        self.values.reserve(1)?;
         make_cell(&mut self.rows, id)?;
         set_cell(&mut self.rows, id, i as u32);
-        let _ = self.slots.push((id, value));
+        let _ = self.ids.push(narrow);
+        let _ = self.values.push(value);
         Ok(())
     }
 
@@ -92,28 +116,15 @@ impl<V: Drop> IdentityMap<V> {
         ensures value { result ≡ indexed self.old id }
         ensures updates { Updates self.old self.new id None }
     {
-        let i = place(&self.slots, &self.rows, id);
-        if i >= self.slots.len() {
+        let i = self.place(id);
+        if i >= self.ids.len() {
             return None;
         }
-        let (_, value) = self.slots.swap_remove(i);
-        if i < self.slots.len() {
-            set_cell(&mut self.rows, self.slots[i].0, i as u32);
+        let _ = self.ids.swap_remove(i);
+        let value = self.values.swap_remove(i);
+        if i < self.ids.len() {
+            set_cell(&mut self.rows, self.ids[i].wide(), i as u32);
         }
         Some(value)
     }
-}
-
-// The place of an identity's slot, or the end.
-fn place<V>(slots: &Vec<(Id, V)>, rows: &Vec<Vec<u32>>, id: Id) -> usize
-    requires { IsPlaced slots.now.items rows.now.items }
-    ensures { slice_get slots.now.items result ≡ option_map (λ v. (id, v)) (indexed slots.now.items id) }
-{
-    let Some(i) = cell(rows, id) else {
-        return slots.len();
-    };
-    let Some((held, _)) = slots.get(i as usize) else {
-        return slots.len();
-    };
-    if *held == id { i as usize } else { slots.len() }
 }

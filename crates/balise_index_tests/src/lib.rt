@@ -3,12 +3,4 @@
 #![tactic(auto)]
 
 #[cfg(test)]
-mod blocks;
-#[cfg(test)]
-mod identities;
-#[cfg(test)]
-mod links;
-#[cfg(test)]
-mod maps;
-#[cfg(test)]
-mod memory;
+mod tests;

@@ -1,5 +1,5 @@
 -- A block cut in two.
-use Rattle.std.proofs.Common.{◌≡◌, ◌∙◌, ℕ, zero, suc, ◌+◌, ◌-◌, ◌≤◌, ◌<◌, List, [], ◌∷◌, ◌++◌, length, take, refl, sym, ap, arith, append_assoc, length-append, slice_index_or, slice_set, vec_capacity, subst, insert}
+use Rattle.std.proofs.Common.{◌≡◌, ◌∙◌, ℕ, zero, suc, ◌+◌, ◌≤◌, ◌<◌, List, [], ◌∷◌, ◌++◌, length, take, refl, sym, ap, arith, append_assoc, length-append, slice_index_or, slice_set, vec_capacity, subst, insert}
 use Rattle.balise_rules.specs.declared.tag.Tag.{Tag}
 use Rattle.balise_index.specs.declared.tag_list.Block.{Block}
 use Rattle.balise_index.specs.Blocks.{flat, Laid, before, IsCut}

@@ -1,5 +1,5 @@
 -- Where blocks of tags begin and end.
-use Rattle.std.proofs.Common.{◌≡◌, ℕ, zero, suc, ◌+◌, ◌-◌, ◌≤◌, ◌<◌, List, [], ◌∷◌, length, take, refl, sym, arith, length-append, slice_index_or, vec_capacity, subst}
+use Rattle.std.proofs.Common.{◌≡◌, ℕ, zero, suc, ◌+◌, ◌≤◌, ◌<◌, List, [], ◌∷◌, length, take, refl, sym, arith, length-append, slice_index_or, vec_capacity, subst}
 use Rattle.balise_index.specs.declared.tag_list.Block.{Block}
 use Rattle.balise_index.specs.Blocks.{flat, Laid, before}
 

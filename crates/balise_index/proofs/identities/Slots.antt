@@ -1,5 +1,5 @@
 -- Slots, and the cells that say where they are.
-use Rattle.std.proofs.Common.{◌≡◌, ◌≢◌, ◌∙◌, ℕ, zero, suc, true, false, List, [], ◌∷◌, Option, Some, None, length, option_map, slice_get, refl, sym, ap, arith}
+use Rattle.std.proofs.Common.{◌≡◌, ◌∙◌, ℕ, zero, suc, true, false, List, [], ◌∷◌, Option, Some, None, length, option_map, slice_get, refl, sym, ap, arith}
 use Rattle.std.specs.Option.{is_some}
 use Rattle.std.specs.declared.vec.Vec.{Vec}
 use Rattle.std.proofs.lemmas.Bool.{true≢false}
@@ -17,7 +17,7 @@ abbrev pub pair : {V : Type 0} → Id → V → Id × V
 pair q v = (q, v)
 
 -- by what an option is
-by_option : {A P : Type 0} (o : Option A) → (o ≡ None → P) → ((x : A) → o ≡ Some x → P) → P
+pub by_option : {A P : Type 0} (o : Option A) → (o ≡ None → P) → ((x : A) → o ≡ Some x → P) → P
 by_option None n s = n refl
 by_option (Some x) n s = s x refl
 

@@ -1,20 +1,19 @@
-use Rattle.std.proofs.Common.{◌≡◌, ◌∙◌, Some, None, slice_get, sym, ap, arith}
-use Rattle.std.specs.Option.{is_some}
-use Rattle.std.proofs.lemmas.Grind.{common_steps}
-use Rattle.std.proofs.lemmas.Option.{gets}
+use Rattle.std.proofs.Common.{◌≡◌, ◌∙◌, Bor, option_map, slice_get, sym, ap, subst}
 use Rattle.balise_index.specs.Identities.{indexed}
-use Rattle.balise_index.proofs.identities.Slots.{at_place, no_place}
+use Rattle.balise_index.specs.Narrow.{slots_of}
+use Rattle.balise_index.proofs.identities.TwoLists.{item_read, value_there}
 use Rattle.balise_index.proofs.identity_map.IdentityMap.get.Goals as goal
 
-pub returns-in-Some : goal.returns-in-Some
-returns-in-Some g c =
-    let xs = c.self.inside.slots.items in
-    let e : slice_get xs c.place.result ≡ Some c.in-Some.slot.now = grind (arith, common_steps, gets) in
-    let a = at_place xs c.args.id c.in-Some.slot.now (sym e ∙ c.place.ensures) in
-    record { value = sym a.1 ∙ ap (λ l. indexed l c.args.id) c.self.view_is }
-
-pub returns-in-None : goal.returns-in-None
-returns-in-None g c =
-    let xs = c.self.inside.slots.items in
-    let n : slice_get xs c.place.result ≡ None = grind (arith, common_steps, gets) in
-    record { value = sym (no_place xs c.args.id (sym (ap is_some c.place.ensures) ∙ ap is_some n)) ∙ ap (λ l. indexed l c.args.id) c.self.view_is }
+pub returns : goal.returns
+returns g c =
+    let ns = c.self.inside.ids.items in
+    let vs = c.self.inside.values.items in
+    let xs = slots_of ns vs in
+    let i = c.place.result in
+    let id = c.args.id in
+    let at : slice_get xs i ≡ option_map (λ v. (id, v)) (indexed xs id) = subst (λ l. slice_get l i ≡ option_map (λ v. (id, v)) (indexed l id)) (sym c.self.view_is) c.place.ensures in
+    record {
+      value = item_read (λ (x : Bor _). x.now) c.deref.result.now i c.get.result c.get.ensures.lookup.0 c.get.ensures.lookup.1
+          ∙ ap (λ l. slice_get l i) c.deref.ensures.value
+          ∙ value_there ns vs i id (indexed xs id) c.self.invariant.0 at ∙ ap (λ l. indexed l id) c.self.view_is;
+    }

@@ -1,42 +1,33 @@
-use Rattle.std.proofs.Common.{◌≡◌, ◌∙◌, Some, None, cond, slice_get, slice_set, refl, sym, ap, arith, subst}
+use Rattle.std.proofs.Common.{◌≡◌, ◌∙◌, MutBor, Some, cond, option_map, slice_get, refl, sym, ap}
+use Rattle.std.proofs.Math.ListN.{length-set}
 use Rattle.std.specs.Option.{is_some}
-use Rattle.std.proofs.lemmas.Bool.{true≢false}
-use Rattle.std.proofs.lemmas.Grind.{common_steps}
-use Rattle.std.proofs.lemmas.Option.{gets}
-use Rattle.balise_rules.specs.declared.identity.Id.{Id}
-use Rattle.balise_index.specs.Identities.{indexed, is_id, Updates}
-use Rattle.balise_index.proofs.identities.Slots.{at_place, no_place}
-use Rattle.balise_index.proofs.identities.Written.{placed_set, updates_set}
+use Rattle.balise_index.specs.Identities.{indexed, is_id}
+use Rattle.balise_index.specs.Narrow.{slots_of}
+use Rattle.balise_index.proofs.identities.TwoLists.{item_read, value_there, placed_written, updates_written}
 use Rattle.balise_index.proofs.identity_map.IdentityMap.get_mut.Goals as goal
 
 pub invariant_of-self-lent : goal.invariant_of-self-lent
-invariant_of-self-lent g c = λ w.
-    let xs = c.self.inside.slots.items in
-    let e : slice_get xs c.place-i.result ≡ Some c.in-Some.slot.now = grind (arith, common_steps, gets) in
-    placed_set xs c.self.inside.rows.items c.self.invariant c.place-i.result c.in-Some.slot.now e w
+invariant_of-self-lent g c = λ r. (
+  λ w. (
+    c.self.invariant.0 ∙ sym (length-set c.self.inside.values.items c.place-i.result w),
+    placed_written c.self.inside.ids.items c.self.inside.values.items c.self.inside.rows.items c.self.invariant.0 c.self.invariant.1 c.place-i.result w,
+  ),
+  c.self.invariant,
+)
 
-pub returns-in-Some : goal.returns-in-Some
-returns-in-Some g c =
-    let xs = c.self.inside.slots.items in
+pub returns : goal.returns
+returns g c =
+    let ns = c.self.inside.ids.items in
+    let vs = c.self.inside.values.items in
+    let xs = slots_of ns vs in
     let i = c.place-i.result in
-    let s = c.in-Some.slot.now in
-    let e : slice_get xs i ≡ Some s = grind (arith, common_steps, gets) in
-    let a = at_place xs c.args.id s (sym e ∙ c.place-i.ensures) in (
+    let id = c.args.id in
+    let at : slice_get xs i ≡ option_map (λ v. (id, v)) (indexed xs id) = c.place-i.ensures in (
       (
         refl,
-        (λ w h q. subst (λ (k : Id). Updates xs (slice_set xs i (s.0, w)) k (Some w)) a.0 (updates_set xs c.self.inside.rows.items c.self.invariant i s e w) q
-            ∙ ap (λ l. cond (is_id c.args.id q) (Some w) (indexed l q)) c.self.view_is),
-        refl,
+        λ w h q. updates_written ns vs c.self.inside.rows.items c.self.invariant.0 c.self.invariant.1 i w id at (ap (λ l. is_some (indexed l id)) c.self.view_is ∙ h) q
+            ∙ ap (λ l. cond (is_id id q) (Some w) (indexed l q)) c.self.view_is,
+        c.self.view_is,
       ),
-      record { writes_back = tt; value = sym a.1 ∙ ap (λ l. indexed l c.args.id) c.self.view_is },
-    )
-
-pub returns-in-None : goal.returns-in-None
-returns-in-None g c =
-    let xs = c.self.inside.slots.items in
-    let n : slice_get xs c.place-i.result ≡ None = grind (arith, common_steps, gets) in
-    let a = no_place xs c.args.id (sym (ap is_some c.place-i.ensures) ∙ ap is_some n) in
-    let b : indexed c.args.self.now c.args.id ≡ None = ap (λ l. indexed l c.args.id) (sym c.self.view_is) ∙ a in (
-      (refl, λ w h. absurd (true≢false (sym h ∙ ap is_some b)), c.self.view_is),
-      record { writes_back = tt; value = sym b },
+      record { writes_back = tt; value = item_read (λ (x : MutBor _). x.now) vs i c.get_mut.result c.get_mut.ensures.item.0 c.get_mut.ensures.item.1 ∙ value_there ns vs i id (indexed xs id) c.self.invariant.0 at ∙ ap (λ l. indexed l id) c.self.view_is },
     )

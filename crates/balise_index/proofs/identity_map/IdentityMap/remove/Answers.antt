@@ -1,61 +1,64 @@
-use Rattle.std.proofs.Common.{◌≡◌, ◌∙◌, ◌<◌, ◌≤◌, ◌-◌, Some, None, cond, length, slice_get, slice_index_or, refl, sym, ap, arith, subst}
-use Rattle.std.proofs.lemmas.Option.{slice_get_read, get_or_from_slice_get}
+use Rattle.std.proofs.Common.{◌≡◌, ◌∙◌, Some, None, cond, option_map, slice_get, sym, ap, arith, subst}
+use Rattle.std.specs.Option.{is_some}
 use Rattle.balise_rules.specs.declared.identity.Id.{Id}
 use Rattle.balise_rules.specs.Tags.{same_id}
 use Rattle.balise_index.specs.Identities.{indexed, is_id, Updates}
-use Rattle.balise_index.specs.IdentityMap.{IsPlaced}
+use Rattle.balise_index.specs.Narrow.{slots_of}
 use Rattle.balise_index.specs.Rows.{cell_of}
-use Rattle.std.specs.List.{swap_remove}
-use Rattle.balise_index.proofs.identities.Slots.{at_place}
-use Rattle.balise_index.proofs.identities.Taken.{moved, moved_here, placed_last, placed_moved, updates_out}
+use Rattle.balise_index.proofs.identities.TakenOut.{not_there, updates_none, placed_end, updates_end, end_cell, taken_value, placed_within, updates_within}
+use Rattle.balise_index.proofs.identities.TwoLists.{length_slots}
 use Rattle.balise_index.proofs.identity_map.IdentityMap.remove.Goals.{then-i-len-2, else-i-len-2}
 use Rattle.balise_index.proofs.identity_map.IdentityMap.remove.Goals as goal
 
+pub returns-then-i-len-clause-value : goal.returns-then-i-len-clause-value
+returns-then-i-len-clause-value g c =
+    let id = c.args.id in
+    let at = subst (λ l. slice_get l c.place-i.result ≡ option_map (λ v. (id, v)) (indexed l id)) (sym c.self.view_is) c.place-i.ensures in
+    let none = not_there c.self.inside.ids.items c.self.inside.values.items c.place-i.result id c.self.invariant.0 (omega (arith, c.if-i-len.true, c.len.ensures, c.self.inside.ids.ok.0)) at in
+    sym none ∙ ap (λ l. indexed l id) c.self.view_is
+
+pub returns-then-i-len-clause-updates : goal.returns-then-i-len-clause-updates
+returns-then-i-len-clause-updates g c = updates_none c.args.self.now c.args.id (sym (returns-then-i-len-clause-value g c))
+
+pub overflow_cast-i : goal.overflow_cast-i
+overflow_cast-i g c = omega (arith, c.if-i-len.false, c.len.ensures, c.self.inside.ids.ok.0, length_slots c.self.inside.ids.items c.self.inside.values.items c.self.invariant.0, c.self.invariant.1.few)
+
+pub set_cell-requires : goal.set_cell-requires
+set_cell-requires g c =
+    let there = end_cell c.self.inside.ids.items c.swap_remove.new.self.items c.self.inside.values.items c.swap_remove-value.new.self.items c.self.inside.rows.items c.self.invariant.0 c.self.invariant.1 c.place-i.result c.swap_remove.result c.swap_remove-value.result (omega (arith, c.if-i-len.false, c.len.ensures, c.self.inside.ids.ok.0))
+    c.swap_remove.ensures.value c.swap_remove-value.ensures.value c.swap_remove.ensures.items c.swap_remove-value.ensures.items c.index.result.now (omega (arith, c.if-i-len-2.true, c.len-2.ensures, c.swap_remove.ensures.len, c.self.inside.ids.ok.0)) c.index.ensures in
+    ap is_some (ap (cell_of c.self.inside.rows.items) c.wide.ensures ∙ there)
+
 pub invariant_of-self : goal.invariant_of-self
 invariant_of-self g c =
-    let xs = c.self.inside.slots.items in
-    let rows = c.self.inside.rows.items in
-    let i = c.place-i.result in
-    let s = c.swap_remove-value.result in
-    let here : slice_get xs i ≡ Some s = slice_get_read xs (length xs) i s refl (omega (arith, c.if-i-len.false, c.len.ensures, c.self.inside.slots.ok.0)) c.swap_remove-value.ensures.value in
-    let e : c.swap_remove-value.new.self.items ≡ swap_remove xs i s = c.swap_remove-value.ensures.items in
-    let short : length (swap_remove xs i s) ≤ length xs = omega (arith, ap length e, c.swap_remove-value.ensures.len, c.self.inside.slots.ok.0, c.swap_remove-value.new.self.ok.0) in
-    let less : i < length xs - 1 = omega (arith, c.if-i-len-2.true, c.len-2.ensures, c.swap_remove-value.ensures.len, c.self.inside.slots.ok.0) in
-    let d = c.index.result.now in
-    let m : d ≡ moved xs rows c.self.invariant i s here = c.index.ensures ∙ ap (λ l. slice_index_or l i d) e ∙ get_or_from_slice_get (swap_remove xs i s) i (moved xs rows c.self.invariant i s here) d (moved_here xs rows c.self.invariant i s here less) in
-    let cells = c.set_cell.new.rows.items in
-    let set : (q : Id) → cell_of cells q ≡ cond (same_id (moved xs rows c.self.invariant i s here).0 q) (Some i) (cell_of rows q) = λ q. c.set_cell.ensures q ∙ ap (λ (z : Id × _). cond (same_id z.0 q) (Some i) (cell_of rows q)) m in
-    subst (λ l. IsPlaced l cells) (sym e) (placed_moved xs rows c.self.invariant i s here cells short set)
+    let placed = placed_within c.self.inside.ids.items c.swap_remove.new.self.items c.self.inside.values.items c.swap_remove-value.new.self.items c.self.inside.rows.items c.self.invariant.0 c.self.invariant.1 c.place-i.result c.swap_remove.result c.swap_remove-value.result (omega (arith, c.if-i-len.false, c.len.ensures, c.self.inside.ids.ok.0))
+    c.swap_remove.ensures.value c.swap_remove-value.ensures.value c.swap_remove.ensures.items c.swap_remove-value.ensures.items c.index.result.now (omega (arith, c.if-i-len-2.true, c.len-2.ensures, c.swap_remove.ensures.len, c.self.inside.ids.ok.0)) c.index.ensures c.set_cell.new.rows.items (λ p. c.set_cell.ensures p ∙ ap (λ (z : Id). cond (same_id z p) (Some c.place-i.result) (cell_of c.self.inside.rows.items p)) c.wide.ensures) in
+    (placed.0, placed.1)
+
+pub invariant_of-self-else-i-len-2 : goal.invariant_of-self-else-i-len-2
+invariant_of-self-else-i-len-2 g c =
+    placed_end c.self.inside.ids.items c.swap_remove.new.self.items c.self.inside.values.items c.swap_remove-value.new.self.items c.self.inside.rows.items c.self.invariant.0 c.self.invariant.1 c.place-i.result c.swap_remove.result c.swap_remove-value.result (omega (arith, c.if-i-len.false, c.len.ensures, c.self.inside.ids.ok.0))
+    c.swap_remove.ensures.value c.swap_remove-value.ensures.value c.swap_remove.ensures.items c.swap_remove-value.ensures.items (omega (arith, c.if-i-len-2.false, c.len-2.ensures, c.swap_remove.ensures.len, c.self.inside.ids.ok.0))
 
 pub returns-clause-value : goal.returns-clause-value
 returns-clause-value g c =
-    let xs = c.self.inside.slots.items in
-    let i = c.place-i.result in
-    let s = c.swap_remove-value.result in
-    let here : slice_get xs i ≡ Some s = slice_get_read xs (length xs) i s refl (omega (arith, c.if-i-len.false, c.len.ensures, c.self.inside.slots.ok.0)) c.swap_remove-value.ensures.value in
-    let a = at_place xs c.args.id s (sym here ∙ c.place-i.ensures) in
-    sym a.1 ∙ ap (λ l. indexed l c.args.id) c.self.view_is
+    let id = c.args.id in
+    let at = subst (λ l. slice_get l c.place-i.result ≡ option_map (λ v. (id, v)) (indexed l id)) (sym c.self.view_is) c.place-i.ensures in
+    let taken = taken_value c.self.inside.ids.items c.swap_remove.new.self.items c.self.inside.values.items c.swap_remove-value.new.self.items c.self.inside.rows.items c.self.invariant.0 c.self.invariant.1 c.place-i.result c.swap_remove.result c.swap_remove-value.result (omega (arith, c.if-i-len.false, c.len.ensures, c.self.inside.ids.ok.0))
+    c.swap_remove.ensures.value c.swap_remove-value.ensures.value c.swap_remove.ensures.items c.swap_remove-value.ensures.items id at in
+    sym taken.1 ∙ ap (λ l. indexed l id) c.self.view_is
 
 pub returns-clause-updates : goal.returns-clause-updates
 returns-clause-updates g c q =
-    let xs = c.self.inside.slots.items in
-    let rows = c.self.inside.rows.items in
-    let i = c.place-i.result in
-    let s = c.swap_remove-value.result in
-    let here : slice_get xs i ≡ Some s = slice_get_read xs (length xs) i s refl (omega (arith, c.if-i-len.false, c.len.ensures, c.self.inside.slots.ok.0)) c.swap_remove-value.ensures.value in
-    let e : c.swap_remove-value.new.self.items ≡ swap_remove xs i s = c.swap_remove-value.ensures.items in
-    let short : length (swap_remove xs i s) ≤ length xs = omega (arith, ap length e, c.swap_remove-value.ensures.len, c.self.inside.slots.ok.0, c.swap_remove-value.new.self.ok.0) in
-    let a = at_place xs c.args.id s (sym here ∙ c.place-i.ensures) in
-    let back = ap (λ l. cond (is_id c.args.id q) None (indexed l q)) c.self.view_is in
+    let id = c.args.id in
+    let back = ap (λ l. cond (is_id id q) None (indexed l q)) c.self.view_is in
+    let at = subst (λ l. slice_get l c.place-i.result ≡ option_map (λ v. (id, v)) (indexed l id)) (sym c.self.view_is) c.place-i.ensures in
+    let taken = taken_value c.self.inside.ids.items c.swap_remove.new.self.items c.self.inside.values.items c.swap_remove-value.new.self.items c.self.inside.rows.items c.self.invariant.0 c.self.invariant.1 c.place-i.result c.swap_remove.result c.swap_remove-value.result (omega (arith, c.if-i-len.false, c.len.ensures, c.self.inside.ids.ok.0)) c.swap_remove.ensures.value c.swap_remove-value.ensures.value c.swap_remove.ensures.items c.swap_remove-value.ensures.items id at in
+    let new = slots_of c.swap_remove.new.self.items c.swap_remove-value.new.self.items in
+    let to_it = subst (λ (k : Id). Updates (slots_of c.self.inside.ids.items c.self.inside.values.items) new k None) taken.0 in
     elim c.if-i-len-2.branch [
       | then-i-len-2 w ↦
-          let less : i < length xs - 1 = omega (arith, w.if-i-len-2.true, c.len-2.ensures, c.swap_remove-value.ensures.len, c.self.inside.slots.ok.0) in
-          let d = w.index.result.now in
-          let m : d ≡ moved xs rows c.self.invariant i s here = w.index.ensures ∙ ap (λ l. slice_index_or l i d) e ∙ get_or_from_slice_get (swap_remove xs i s) i (moved xs rows c.self.invariant i s here) d (moved_here xs rows c.self.invariant i s here less) in
-          let cells = w.set_cell.new.rows.items in
-          let set : (q : Id) → cell_of cells q ≡ cond (same_id (moved xs rows c.self.invariant i s here).0 q) (Some i) (cell_of rows q) = λ q. w.set_cell.ensures q ∙ ap (λ (z : Id × _). cond (same_id z.0 q) (Some i) (cell_of rows q)) m in
-          ap (λ l. indexed l q) (w.self-is ∙ e) ∙ subst (λ (k : Id). Updates xs (swap_remove xs i s) k None) a.0 (updates_out xs rows c.self.invariant i s here cells (placed_moved xs rows c.self.invariant i s here cells short set)) q ∙ back
+          ap (λ m. indexed m q) w.self-is ∙ to_it (updates_within c.self.inside.ids.items c.swap_remove.new.self.items c.self.inside.values.items c.swap_remove-value.new.self.items c.self.inside.rows.items c.self.invariant.0 c.self.invariant.1 c.place-i.result c.swap_remove.result c.swap_remove-value.result (omega (arith, c.if-i-len.false, c.len.ensures, c.self.inside.ids.ok.0)) c.swap_remove.ensures.value c.swap_remove-value.ensures.value c.swap_remove.ensures.items c.swap_remove-value.ensures.items w.index.result.now (omega (arith, w.if-i-len-2.true, c.len-2.ensures, c.swap_remove.ensures.len, c.self.inside.ids.ok.0)) w.index.ensures w.set_cell.new.rows.items (λ p. w.set_cell.ensures p ∙ ap (λ (z : Id). cond (same_id z p) (Some c.place-i.result) (cell_of c.self.inside.rows.items p)) w.wide.ensures)) q ∙ back
       | else-i-len-2 w ↦
-          let past : length xs - 1 ≤ i = omega (arith, w.if-i-len-2.false, c.len-2.ensures, c.swap_remove-value.ensures.len, c.self.inside.slots.ok.0) in
-          ap (λ l. indexed l q) (w.self-is ∙ e) ∙ subst (λ (k : Id). Updates xs (swap_remove xs i s) k None) a.0 (updates_out xs rows c.self.invariant i s here rows (placed_last xs rows c.self.invariant i s here short past)) q ∙ back
+          ap (λ m. indexed m q) w.self-is ∙ to_it (updates_end c.self.inside.ids.items c.swap_remove.new.self.items c.self.inside.values.items c.swap_remove-value.new.self.items c.self.inside.rows.items c.self.invariant.0 c.self.invariant.1 c.place-i.result c.swap_remove.result c.swap_remove-value.result (omega (arith, c.if-i-len.false, c.len.ensures, c.self.inside.ids.ok.0)) c.swap_remove.ensures.value c.swap_remove-value.ensures.value c.swap_remove.ensures.items c.swap_remove-value.ensures.items (omega (arith, w.if-i-len-2.false, c.len-2.ensures, c.swap_remove.ensures.len, c.self.inside.ids.ok.0))) q ∙ back
     ]

@@ -37,12 +37,11 @@ invariant_of-self g c =
 pub returns : goal.returns
 returns g c =
     let held = c.self.inside.held.entries in
+    let all = all_there c.self.invariant in
     let gs = c.self.inside.order.items in
-    let n : find same_tag c.args.tag held ≡ None = sym (found-order held gs c.args.tag c.self.invariant) ∙ ap (λ v. find same_tag c.args.tag v.entries) c.self.view_is ∙ c.requires.new in
-    let w : c.args.i ≤ length gs = omega (arith, c.requires.within, ap (λ v. length v.entries) c.self.view_is, length-order held gs (all_there c.self.invariant)) in
-    let more : 0 < spare c.self.inside.held = omega (arith, ap (λ v. v.spare) c.self.view_is, c.requires.room.1) in
-    let items : c.insert.new.self.items ≡ insert gs c.args.i c.args.tag = c.insert.ensures in
-    let put = on_ok c.insert-2.result (c.insert-2.ensures.succeeds more) c.insert-2.ensures.updates in
-    ap (in_order c.insert-2.new.self.entries) items
-    ∙ insert-order held c.insert-2.new.self.entries c.args.tag c.args.value put.0 gs c.args.i (among-none held gs c.args.tag c.self.invariant n) (all_there c.self.invariant) w
+    let put = on_ok c.insert-2.result (c.insert-2.ensures.succeeds (omega (arith, ap (λ v. v.spare) c.self.view_is, c.requires.room.1))) c.insert-2.ensures.updates in
+    let within : c.args.i ≤ length gs = omega (arith, c.requires.within, ap (λ v. length v.entries) c.self.view_is, length-order held gs all) in
+    let new : find same_tag c.args.tag held ≡ None = sym (found-order held gs c.args.tag c.self.invariant) ∙ ap (λ v. find same_tag c.args.tag v.entries) c.self.view_is ∙ c.requires.new in
+    ap (in_order c.insert-2.new.self.entries) c.insert.ensures
+    ∙ insert-order held c.insert-2.new.self.entries c.args.tag c.args.value put.0 gs c.args.i (among-none held gs c.args.tag c.self.invariant new) all within
     ∙ ap (λ v. insert v.entries c.args.i (c.args.tag, c.args.value)) c.self.view_is

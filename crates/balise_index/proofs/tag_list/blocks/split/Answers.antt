@@ -34,11 +34,10 @@ cut_at-requires-2-clause-part c =
 
 pub returns-then-at-half-clause-there : goal.returns-then-at-half-clause-there
 returns-then-at-half-clause-there c =
-    let f = found c.args.b c.args.blocks.now.items c.index.result.now c.requires.laid c.requires.there.within c.index.ensures in
     let cut = c.cut_at-2.ensures in
     record {
+      begun = omega (arith, cut.second, c.if-at-half.true, (found c.args.b c.args.blocks.now.items c.index.result.now c.requires.laid c.requires.there.within c.index.ensures).start, c.requires.there.begun);
       within = omega (arith, cut.more, c.requires.there.within);
-      begun = omega (arith, cut.second, c.if-at-half.true, f.start, c.requires.there.begun);
       end = omega (arith, cut.third, c.requires.there.end);
     }
 
@@ -51,11 +50,10 @@ returns-then-at-half-clause-room c =
 pub returns-else-at-half-clause-there : goal.returns-else-at-half-clause-there
 returns-else-at-half-clause-there c =
     let f = found c.args.b c.args.blocks.now.items c.index.result.now c.requires.laid c.requires.there.within c.index.ensures in
-    let cut = c.cut_at-2.ensures in
     record {
-      within = omega (arith, cut.more, c.requires.there.within);
-      begun = omega (arith, cut.first, c.requires.there.begun);
-      end = omega (arith, cut.second, c.if-at-half.false, f.start, c.requires.there.begun);
+      within = omega (arith, c.cut_at-2.ensures.more, c.requires.there.within);
+      begun = omega (arith, c.cut_at-2.ensures.first, c.requires.there.begun);
+      end = omega (arith, c.cut_at-2.ensures.second, c.if-at-half.false, f.start, c.requires.there.begun);
     }
 
 pub returns-else-at-half-clause-room : goal.returns-else-at-half-clause-room

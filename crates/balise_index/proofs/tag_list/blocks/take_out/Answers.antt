@@ -18,39 +18,35 @@ remove-requires c =
 pub loop-k-init : goal.loop-k-init
 loop-k-init c =
     let bs = c.args.blocks.now.items in
-    let b = c.args.b in
     let x = c.index_mut.result.now in
     let y : Block = record { start = x.start; tags = c.remove.new.self } in
-    let f = found b bs c.index.result.now c.requires.laid c.requires.there.within c.index.ensures in
-    let m = found b bs x c.requires.laid c.requires.there.within c.index_mut.ensures.value in
+    let m = found c.args.b bs x c.requires.laid c.requires.there.within c.index_mut.ensures.value in
     let less : length x.tags.items ≡ length y.tags.items + 1 = omega (arith, c.remove.ensures.len, x.tags.ok.0, c.remove.new.self.ok.0) in
     let like : Like x y = record { start = refl; few = omega (arith, less, m.few); room = omega (arith, m.room, c.remove.ensures.capacity) } in
+    let f = found c.args.b bs c.index.result.now c.requires.laid c.requires.there.within c.index.ensures in
     let start : c.index.result.now.start ≡ x.start = omega (arith, f.start, m.start) in
+    let items = c.remove.ensures.items ∙ ap (λ (n : ℕ). remove x.tags.items (c.args.i - n)) start in
     record {
-      moved = lowered_first b bs x c.requires.there.within c.index_mut.ensures.value y c.requires.laid like less;
-      taken = taken_first b bs x c.requires.there.within c.index_mut.ensures.value y c.requires.laid like c.args.i c.requires.there.begun c.requires.less (c.remove.ensures.items ∙ ap (λ (n : ℕ). remove x.tags.items (c.args.i - n)) start);
       len = refl;
       capacity = refl;
+      moved = lowered_first c.args.b bs x c.requires.there.within c.index_mut.ensures.value y c.requires.laid like less;
+      taken = taken_first c.args.b bs x c.requires.there.within c.index_mut.ensures.value y c.requires.laid like c.args.i c.requires.there.begun c.requires.less items;
     }
 
 pub overflow_sub-index_mut : goal.overflow_sub-index_mut
 overflow_sub-index_mut c =
-    let bs = c.loop-k.blocks.items in
-    let k = c.loop-k.k in
-    let here : k < length bs = omega (arith, c.loop-k-test.true, c.len-k-end.ensures, c.loop-k.invariant.len, c.loop-k.blocks.ok.0) in
-    omega (arith, lowered_start k bs c.index_mut-in-loop-k.result.now here c.index_mut-in-loop-k.ensures.value c.loop-k.invariant.moved)
+    let here : c.loop-k.k < length c.loop-k.blocks.items = omega (arith, c.loop-k-test.true, c.len-k-end.ensures, c.loop-k.invariant.len, c.loop-k.blocks.ok.0) in
+    omega (arith, lowered_start c.loop-k.k c.loop-k.blocks.items c.index_mut-in-loop-k.result.now here c.index_mut-in-loop-k.ensures.value c.loop-k.invariant.moved)
 
 pub loop-k-preserved : goal.loop-k-preserved
 loop-k-preserved c =
-    let bs = c.loop-k.blocks.items in
-    let k = c.loop-k.k in
+    let here : c.loop-k.k < length c.loop-k.blocks.items = omega (arith, c.loop-k-test.true, c.len-k-end.ensures, c.loop-k.invariant.len, c.loop-k.blocks.ok.0) in
     let x = c.index_mut-in-loop-k.result.now in
-    let here : k < length bs = omega (arith, c.loop-k-test.true, c.len-k-end.ensures, c.loop-k.invariant.len, c.loop-k.blocks.ok.0) in
     record {
-      moved = lowered_next k bs x here c.index_mut-in-loop-k.ensures.value c.loop-k.invariant.moved;
-      taken = same_next k bs x here c.index_mut-in-loop-k.ensures.value (x.start - 1) ∙ c.loop-k.invariant.taken;
       len = c.loop-k.invariant.len;
       capacity = c.loop-k.invariant.capacity;
+      moved = lowered_next c.loop-k.k c.loop-k.blocks.items x here c.index_mut-in-loop-k.ensures.value c.loop-k.invariant.moved;
+      taken = same_next c.loop-k.k c.loop-k.blocks.items x here c.index_mut-in-loop-k.ensures.value (x.start - 1) ∙ c.loop-k.invariant.taken;
     }
 
 pub returns-clause-laid : goal.returns-clause-laid

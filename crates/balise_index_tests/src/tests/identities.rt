@@ -59,6 +59,29 @@ fn the_first_and_the_last_identity(rt: HostRuntime) {
     check_ends(&rt, rt.alloc());
 }
 
+/// The largest identity of a telegram and the largest that is held. Above that each is refused, and all stays.
+fn check_largest(rt: &impl Abort, alloc: Global) {
+    let (last, held) = (id(1023, 16383), id(65535, 65535));
+    let too_large = [
+        id(65536, 0),
+        id(0, 65536),
+        id(66559, 81919),
+        id(131071, 65535),
+    ];
+    let mut map = IdentityMap::new(alloc);
+    assert!(rt; put(&mut map, last, 1) & put(&mut map, held, 2));
+    for above in &too_large {
+        assert!(rt; !put(&mut map, *above, 3) & value(&map, *above).is_none());
+    }
+    assert!(rt; value(&map, id(0, 0)).is_none());
+    assert!(rt; (map.remove(last) == Some(1)) & (map.remove(held) == Some(2)));
+}
+
+#[test]
+fn the_largest_identities(rt: HostRuntime) {
+    check_largest(&rt, rt.alloc());
+}
+
 fn check_written(rt: &impl Abort, alloc: Global) {
     let mut map = IdentityMap::new(alloc);
     assert!(rt; put(&mut map, id(5, 100), 1) & put(&mut map, id(5, 101), 2));

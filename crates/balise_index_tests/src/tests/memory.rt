@@ -2,9 +2,9 @@
 //!
 //! In a plain run each is done. `rt try --test --fail-alloc N` makes the Nth allocation fail.
 
-use crate::identities::{id, put as put_under, value};
-use crate::links::nth;
-use crate::maps::{has, put};
+use crate::tests::identities::{id, put as put_under, value};
+use crate::tests::links::nth;
+use crate::tests::maps::{has, put};
 use balise_index::{IdentityMap, LinkPlace, Links, OrderedMap};
 use balise_rules::{Id, Tag};
 use std::alloc::Global;

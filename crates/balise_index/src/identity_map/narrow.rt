@@ -1,0 +1,39 @@
+//! An identity in four bytes.
+
+ghost use Rattle.std.specs.Prelude.{◌≡◌, IfSome};
+ghost use Rattle.balise_index.specs.Narrow.{wide};
+
+use balise_rules::Id;
+
+/// An identity whose country and number fit 16 bits each. The standard has 10 and 14 bits for them, so each identity of a
+/// telegram does.
+#[derive(Clone, Copy, Debug, PartialEq, Eq)]
+pub(super) struct Narrow {
+    country: u16,
+    number: u16,
+}
+
+impl Narrow {
+    /// The narrow form of an identity, if it has one.
+    pub(super) fn of(id: Id) -> Option<Narrow>
+        ensures { IfSome result (λ n. wide n ≡ id) }
+    {
+        let Ok(country) = u16::try_from(id.country) else {
+            return None;
+        };
+        let Ok(number) = u16::try_from(id.number) else {
+            return None;
+        };
+        Some(Narrow { country, number })
+    }
+
+    /// The identity.
+    pub(super) fn wide(self) -> Id
+        ensures { result ≡ wide self }
+    {
+        Id {
+            country: self.country as u32,
+            number: self.number as u32,
+        }
+    }
+}

@@ -1,0 +1,7 @@
+//! The tests, by topic.
+
+mod blocks;
+mod identities;
+mod links;
+mod maps;
+mod memory;

@@ -21,6 +21,8 @@ use Rattle.balise_cli.specs.declared.fault.RunFault.TheVariants.{OutOfMemory}
 use Rattle.balise_cli.specs.declared.journal_reader.JournalEnd.{JournalEnd}
 use Rattle.balise_cli.specs.declared.journal_reader.JournalEnd.TheVariants as journal
 use Rattle.balise_cli.specs.declared.journal_reader.JournalReader.{JournalReader}
+use Rattle.balise_cli.specs.declared.journal_reader.JournalStep.{JournalStep}
+use Rattle.balise_cli.specs.declared.journal_reader.JournalStep.TheVariants as step
 use Rattle.balise_cli.specs.declared.plan_reader.Place.{Place}
 use Rattle.balise_cli.specs.declared.plan_reader.Place.TheVariants as place
 use Rattle.balise_cli.specs.declared.plan_reader.PlanEnd.{PlanEnd}
@@ -64,10 +66,13 @@ abbrev pub plan_read : PlanReader → Option PlanEnd → Read
 plan_read r end = plan_read_as (plan_phase r) r.plan end
 
 -- the same of a line of the journal
-abbrev pub journal_read : JournalReader → Option JournalEnd → Read
-journal_read r None = Good (journal_phase r)
-journal_read r (Some (journal.Bad n refusal)) = Bad n refusal
-journal_read r (Some journal.Edits) = Good (Commands r.opening.state false)
+abbrev pub journal_end : JournalEnd → Read
+journal_end (journal.Bad n refusal) = Bad n refusal
+journal_end (journal.Edits session) = Good (Commands session.state false)
+
+abbrev pub journal_step : JournalStep → Read
+journal_step (step.On r) = Good (journal_phase r)
+journal_step (step.Over end) = journal_end end
 
 -- a journal begins over a plan, or its next serial isn't one that a journal has
 abbrev pub Begins : Plan → Head → Result JournalReader Refusal → Type 0

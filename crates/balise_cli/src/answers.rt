@@ -14,10 +14,8 @@ ghost use Rattle.balise_text.specs.Requests.{call};
 ghost use Rattle.balise_text.specs.Reviews.{review_line};
 ghost use Rattle.balise_text.specs.Texts.{text_of};
 
-use balise_edits::review;
-use balise_history::{Command, Id, Plan, Refusal, Session};
+use balise_history::{Command, Id, Plan, Refusal, ReviewLine, Session, review};
 use balise_lines::{Counted, WriteFault};
-use balise_rules::ReviewLine;
 use balise_text::{Reply, Request, check_request, put_reply, put_review, read_request};
 use std::alloc::Global;
 use std::io::Write;

@@ -5,8 +5,7 @@ ghost use Rattle.balise_cli.specs.PlanRead.{Grows};
 ghost use Rattle.balise_rules.specs.Opening.{opened_at};
 ghost use Rattle.balise_rules.specs.Session.{opened};
 
-use balise_history::{Opening, Plan, Refusal, Session};
-use balise_plan::GroupReader;
+use balise_history::{GroupReader, Opening, Plan, Refusal, Session};
 use std::alloc::Global;
 use std::marker::Model;
 use std::mem;

@@ -2,7 +2,7 @@
 
 ghost use Rattle.std.specs.Prelude.{◌≡◌, IfErr, IfOk};
 ghost use Rattle.balise_cli.specs.Output.{InJournal, read_line};
-ghost use Rattle.balise_cli.specs.Phases.{journal_phase, journal_read};
+ghost use Rattle.balise_cli.specs.Phases.{journal_phase, journal_step};
 ghost use Rattle.balise_text.specs.declared.section.Section.TheVariants.{Entries};
 
 use crate::fault::RunFault;
@@ -10,11 +10,18 @@ use balise_history::{Opening, Refusal, Session};
 use balise_text::{JournalLine, Section, Version, read_journal_line};
 use std::alloc::Global;
 
-/// How the journal ends: it is refused, and this line is named; or the commands begin.
-#[derive(Clone, Copy)]
+/// How the journal ends: it is refused, and this line is named; or the commands begin, over this session.
+#[derive(Drop)]
 pub(crate) enum JournalEnd {
     Bad(u64, Refusal),
-    Edits,
+    Edits(Session),
+}
+
+/// What a line leaves: the journal goes on after it, or ends there.
+#[derive(Drop)]
+pub(crate) enum JournalStep {
+    On(JournalReader),
+    Over(JournalEnd),
 }
 
 /// The journal, as far as it was read: what may come there, and the session so far.
@@ -37,38 +44,32 @@ impl JournalReader {
 
     /// Reads the line of this number: the journal goes on after it, or ends there.
     pub(crate) fn read(
-        &mut self,
+        self,
         alloc: Global,
         number: u64,
         line: &[u8],
-    ) -> Result<Option<JournalEnd>, RunFault>
-        ensures ok { IfOk result (λ end. read_line (journal_phase self.old) number line.now ≡ journal_read self.new end) }
+    ) -> Result<JournalStep, RunFault>
+        ensures ok { IfOk result (λ step. read_line (journal_phase self) number line.now ≡ journal_step step) }
         ensures fault { IfErr result (λ e. e ≡ RunFault.OutOfMemory) }
     {
-        match read_journal_line(alloc, self.section, line) {
-            Ok(JournalLine::Entry(entry)) => match self.opening.entry(entry) {
-                Ok(()) => Ok(None),
+        let JournalReader { section, opening } = self;
+        match read_journal_line(alloc, section, line) {
+            Ok(JournalLine::Entry(entry)) => match opening.entry(entry) {
+                Ok(opening) => Ok(JournalStep::On(JournalReader { section, opening })),
                 Err(Refusal::OutOfMemory) => Err(RunFault::OutOfMemory),
-                Err(refusal) => Ok(Some(JournalEnd::Bad(number, refusal))),
+                Err(refusal) => Ok(JournalStep::Over(JournalEnd::Bad(number, refusal))),
             },
-            Ok(JournalLine::Undone(serial)) => match self.opening.undone(serial) {
-                Ok(()) => {
-                    self.section = Section::Undone;
-                    Ok(None)
-                }
+            Ok(JournalLine::Undone(serial)) => match opening.undone(serial) {
+                Ok(opening) => Ok(JournalStep::On(JournalReader {
+                    section: Section::Undone,
+                    opening,
+                })),
                 Err(Refusal::OutOfMemory) => Err(RunFault::OutOfMemory),
-                Err(refusal) => Ok(Some(JournalEnd::Bad(number, refusal))),
+                Err(refusal) => Ok(JournalStep::Over(JournalEnd::Bad(number, refusal))),
             },
-            Ok(JournalLine::Edits) => Ok(Some(JournalEnd::Edits)),
+            Ok(JournalLine::Edits) => Ok(JournalStep::Over(JournalEnd::Edits(opening.done()))),
             Err(Refusal::OutOfMemory) => Err(RunFault::OutOfMemory),
-            Err(refusal) => Ok(Some(JournalEnd::Bad(number, refusal))),
+            Err(refusal) => Ok(JournalStep::Over(JournalEnd::Bad(number, refusal))),
         }
-    }
-
-    /// The session that the journal gives.
-    pub(crate) fn session(self) -> Session
-        ensures { result.state ≡ self.opening.state }
-    {
-        self.opening.done()
     }
 }

@@ -22,6 +22,7 @@ mod status;
 
 // The program over its words and its three streams.
 mod command_line;
+mod on_system;
 mod program;
 
 pub use balise_arguments::{ArgsFault, Flags, flags};

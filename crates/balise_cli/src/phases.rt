@@ -1,13 +1,13 @@
 //! The phases of a run, each a loop over lines: the plan, the journal, the commands.
 
 ghost use Rattle.std.specs.Prelude.{◌≡◌, IfErr, IfOk, OnOk};
-ghost use Rattle.balise_cli.specs.Phases.{commands_phase, journal_phase, journal_read, plan_phase, plan_read};
+ghost use Rattle.balise_cli.specs.Phases.{commands_phase, journal_end, journal_phase, plan_phase, plan_read};
 ghost use Rattle.balise_cli.specs.Progress.{FailsAhead, ReadsAs, RunsOn};
 ghost use Rattle.balise_lines.specs.Reading.{OverAtEnd, Took};
 
 use crate::commands::Commands;
 use crate::fault::RunFault;
-use crate::journal_reader::{JournalEnd, JournalReader};
+use crate::journal_reader::{JournalEnd, JournalReader, JournalStep};
 use crate::plan_reader::{PlanEnd, PlanReader};
 use crate::status::Status;
 use balise_arguments::Flags;
@@ -65,13 +65,14 @@ pub(crate) fn read_plan<R: Read>(
 pub(crate) fn read_journal<R: Read>(
     alloc: Global,
     lines: &mut Lines,
-    journal: &mut JournalReader,
+    journal: JournalReader,
     reader: &mut Counted<R>,
 ) -> Result<JournalEnd, RunFault>
     requires over { OverAtEnd lines.old (R.remaining reader.old.inner) }
     ensures over { OverAtEnd lines.new (R.remaining reader.new.inner) }
-    ensures reads { ReadsAs (journal_phase journal.old) lines.old lines.new R.remaining reader.old reader.new result (λ end. journal_read journal.new (Some end)) }
+    ensures reads { ReadsAs (journal_phase journal) lines.old lines.new R.remaining reader.old reader.new result journal_end }
 {
+    let mut journal = journal;
     'lines: loop {
         let number = lines.number();
         match next(lines, reader) {
@@ -79,8 +80,8 @@ pub(crate) fn read_journal<R: Read>(
             Ok(Next::End) => return Ok(JournalEnd::Bad(number, Refusal::BadLine)),
             Ok(Next::Line { is_ended: _ }) => match journal.read(alloc, number, lines.line()) {
                 Err(fault) => return Err(fault),
-                Ok(Some(end)) => return Ok(end),
-                Ok(None) => {}
+                Ok(JournalStep::Over(end)) => return Ok(end),
+                Ok(JournalStep::On(more)) => journal = more,
             },
         }
     }

@@ -96,18 +96,18 @@ fn run_journal<R: Read, W: Write>(
     alloc: Global,
     flags: Flags,
     lines: &mut Lines,
-    mut journal: JournalReader,
+    journal: JournalReader,
     reader: &mut Counted<R>,
     writer: &mut Counted<W>,
 ) -> Result<Status, RunFault>
     requires over { OverAtEnd lines.old (R.remaining reader.old.inner) }
     ensures { RunsOn flags (journal_phase journal) lines.old R.remaining W.contents reader.old reader.new writer.old writer.new result }
 {
-    match read_journal(alloc, lines, &mut journal, reader) {
+    match read_journal(alloc, lines, journal, reader) {
         Err(fault) => Err(fault),
         Ok(JournalEnd::Bad(number, refusal)) => refuse(writer, number, refusal),
-        Ok(JournalEnd::Edits) => {
-            run_commands(alloc, flags, lines, journal.session(), reader, writer)
+        Ok(JournalEnd::Edits(session)) => {
+            run_commands(alloc, flags, lines, session, reader, writer)
         }
     }
 }

@@ -1,5 +1,5 @@
 -- Only a deletion and a removal note what they take out; and what an entry says where its edit was the last one, or is the next one.
-use Rattle.std.proofs.Common.{◌≡◌, ◌∙◌, ℕ, Bool, true, false, Option, Some, None, refl, sym, ap, subst}
+use Rattle.std.proofs.Common.{◌≡◌, ◌∙◌, ℕ, false, Option, Some, None, refl, sym, ap, subst}
 use Rattle.balise_rules.specs.declared.tag.Tag.{Tag}
 use Rattle.balise_rules.specs.declared.variable.Var.{Var}
 use Rattle.balise_rules.specs.Tagged.{find, behind}
@@ -13,15 +13,10 @@ use Rattle.balise_rules.specs.Doing.{done}
 use Rattle.balise_rules.specs.Back.{back}
 use Rattle.balise_rules.specs.Paths.{Entry}
 use Rattle.balise_edit_laws.specs.GoesBack.{AsksBack}
-use Rattle.balise_edits.specs.Standing.{changed_to, IsLast, IsNext}
+use Rattle.balise_edits.specs.Notes.{takes_out}
+use Rattle.balise_edits.specs.Standing.{changed_to, IsLast}
 use Rattle.balise_edits.proofs.Standing.{last_asks}
 use Rattle.balise_plan.specs.Held as held
-
--- whether an edit takes something out of the plan
-abbrev pub takes_out : Edit → Bool
-takes_out (DeletePacket g t p) = true
-takes_out (DropGroup g) = true
-takes_out e = false
 
 abbrev IsBare : Note → Type 0
 IsBare m = without_content m ≡ m
@@ -82,9 +77,6 @@ pub bare_last : (f : Entry) (e : Edit) (groups : Plan) → f.0.1 ≡ e → takes
 bare_last f e groups is h l =
     let bare : without_content (noted f.0.1 l.before) ≡ noted f.0.1 l.before = bare_noted f.0.1 l.before (ap takes_out is ∙ h) in
     ap (λ m. (f.0, m)) (sym l.noted_there ∙ sym bare ∙ ap without_content l.noted_there)
-
-pub bare_next : (f : Entry) (e : Edit) (groups : Plan) → f.0.1 ≡ e → takes_out e ≡ false → IsNext f groups → f ≡ (f.0, noted f.0.1 groups)
-bare_next f e groups is h n = ap (λ m. (f.0, m)) (sym n.noted_there ∙ bare_noted f.0.1 groups (ap takes_out is ∙ h))
 
 -- ---- the edit of an entry, where it is told apart
 

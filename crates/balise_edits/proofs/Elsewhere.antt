@@ -4,7 +4,6 @@ use Rattle.std.proofs.lemmas.Bool.{eqb-true, true≢false}
 use Rattle.balise_rules.specs.declared.variable.Var.TheVariants.{NidBg, QLinkorientation, QDir, MDup}
 use Rattle.balise_rules.specs.declared.identity.Id.{Id}
 use Rattle.balise_rules.specs.declared.tag.Tag.{Tag}
-use Rattle.balise_rules.specs.declared.tag.Tag.TheVariants.{Fresh}
 use Rattle.balise_rules.specs.Tags.{same_tag, same_var}
 use Rattle.balise_rules.specs.Edits.{Edit, SetVar, SetHead, InsertPacket, DeletePacket, MovePacket, AddGroup, DropGroup, Renumber, TurnGroup}
 use Rattle.balise_rules.specs.Paths.{Path, Entry, At, Nth, Of, Turn, After, Front, Whose, anchor, neighbour, changes, needs, ids, meet, meets_any, any_meets, room_apart, apart}
@@ -12,29 +11,14 @@ use Rattle.balise_rules.specs.Behind.{anchored}
 use Rattle.balise_rules.proofs.Tests.{equal_yes, flip_no, split_keys, test-sym, tag_test, nat_test}
 use Rattle.balise_strike_laws.proofs.Symmetry.{symmetric}
 use Rattle.balise_edits.specs.declared.home.Home.{Home}
-use Rattle.balise_edits.specs.Homes.{are_named, at_group, home_of, elsewhere, in_telegram, low}
+use Rattle.balise_edits.specs.Homes.{Lying, OfTelegram, OfGroup, lying, home_lying, home_of, are_named, elsewhere, low}
 
--- where an edit lies, by whole tags
-data Lying : Type 0 where
-  Telegram : Tag → ℕ → Bool → Lying
-  Group : Tag → Lying
-
-abbrev lying : ℕ → Edit → List Id → Lying
-lying s (SetVar g t p v k n) is = Telegram g t (are_named is)
-lying s (SetHead g t v n) is = Telegram g t (are_named is)
-lying s (InsertPacket g t a x) is = Telegram g t (are_named is)
-lying s (DeletePacket g t p) is = Telegram g t (are_named is)
-lying s (MovePacket g t p a) is = Telegram g t (are_named is)
-lying s (AddGroup a bs) is = Group (Fresh s)
-lying s (DropGroup g) is = Group g
-lying s (Renumber g n) is = Group g
-lying s (TurnGroup g) is = Group g
-
+-- by whole tags
 abbrev far : Lying → Lying → Bool
-far (Telegram g t m) (Telegram h u n) = not (same_tag g h && eqb t u)
-far (Telegram g t m) (Group h) = not m && not (same_tag g h)
-far (Group h) (Telegram g t m) = not m && not (same_tag g h)
-far (Group g) (Group h) = false
+far (OfTelegram g t m) (OfTelegram h u n) = not (same_tag g h && eqb t u)
+far (OfTelegram g t m) (OfGroup h) = not m && not (same_tag g h)
+far (OfGroup h) (OfTelegram g t m) = not m && not (same_tag g h)
+far (OfGroup g) (OfGroup h) = false
 
 abbrev Each : (Path → Type 0) → List Path → Type 0
 Each P [] = Unit {0}
@@ -162,8 +146,8 @@ alone-head g t false = tt
 
 -- where the places of an entry lie
 abbrev Lies : Lying → Entry → Type 0
-Lies (Telegram g t n) e = Each (Inside g t) (changes e) × Each (Beside g t) (needs e) × (n ≡ false → Each (Alone g t) (needs e))
-Lies (Group h) e = Each (Round h) (changes e) × Each (Round h) (needs e)
+Lies (OfTelegram g t n) e = Each (Inside g t) (changes e) × Each (Beside g t) (needs e) × (n ≡ false → Each (Alone g t) (needs e))
+Lies (OfGroup h) e = Each (Round h) (changes e) × Each (Round h) (needs e)
 
 abbrev lies_at : Entry → Lying
 lies_at e = lying e.0.0 e.0.1 e.1.names
@@ -202,26 +186,26 @@ clears e f a b r =
     ap (λ x. not x && (not (any_meets (needs e) (changes f)) && room_apart e.0.1 f.0.1)) a
     ∙ ap (λ x. not x && room_apart e.0.1 f.0.1) b ∙ r
 
-beside-group : (g h : Tag) → (t : ℕ) → (n : Bool) → (e f : Entry) → Lies (Telegram g t n) e → Lies (Group h) f → n ≡ false → same_tag g h ≡ false → room_apart e.0.1 f.0.1 ≡ true → apart e f ≡ true
+beside-group : (g h : Tag) → (t : ℕ) → (n : Bool) → (e f : Entry) → Lies (OfTelegram g t n) e → Lies (OfGroup h) f → n ≡ false → same_tag g h ≡ false → room_apart e.0.1 f.0.1 ≡ true → apart e f ≡ true
 beside-group g h t n e f a b none other r = clears e f
     (none-meet (far-alone other) (changes e) (changes f ++ needs f) (each-alone g t (changes e) a.0) (each-both (Round h) (changes f) (needs f) b.0 b.1))
     (none-meet (far-alone other) (needs e) (changes f) (a.2 none) b.0) r
 
 from-lies : (h k : Lying) → (e f : Entry) → Lies h e → Lies k f → far h k ≡ true → room_apart e.0.1 f.0.1 ≡ true → room_apart f.0.1 e.0.1 ≡ true → apart e f ≡ true
-from-lies (Telegram g t m) (Telegram g1 t1 n) e f a b d r q =
+from-lies (OfTelegram g t m) (OfTelegram g1 t1 n) e f a b d r q =
     let no : (same_tag g g1 && eqb t t1) ≡ false = not-true _ d in
     clears e f
     (none-meet (far-inside no) (changes e) (changes f ++ needs f) a.0 (each-both (Beside g1 t1) (changes f) (needs f) (each-beside g1 t1 (changes f) b.0) b.1))
     (none-meet (far-beside no) (needs e) (changes f) a.1 b.0) r
-from-lies (Telegram g t m) (Group h) e f a b d r q = let w = neither m (same_tag g h) d in beside-group g h t m e f a b w.0 w.1 r
-from-lies (Group h) (Telegram g t m) e f a b d r q = let w = neither m (same_tag g h) d in symmetric e f ∙ beside-group g h t m f e b a w.0 w.1 q
-from-lies (Group g) (Group h) e f a b d r q = absurd (cc)
+from-lies (OfTelegram g t m) (OfGroup h) e f a b d r q = let w = neither m (same_tag g h) d in beside-group g h t m e f a b w.0 w.1 r
+from-lies (OfGroup h) (OfTelegram g t m) e f a b d r q = let w = neither m (same_tag g h) d in symmetric e f ∙ beside-group g h t m f e b a w.0 w.1 q
+from-lies (OfGroup g) (OfGroup h) e f a b d r q = absurd (cc)
 
 turned-round : (h k : Lying) → far h k ≡ true → far k h ≡ true
-turned-round (Telegram g t m) (Telegram g1 t1 n) d = ap not (other-way g g1 t t1) ∙ d
-turned-round (Telegram g t m) (Group h) d = d
-turned-round (Group h) (Telegram g t m) d = d
-turned-round (Group g) (Group h) d = d
+turned-round (OfTelegram g t m) (OfTelegram g1 t1 n) d = ap not (other-way g g1 t t1) ∙ d
+turned-round (OfTelegram g t m) (OfGroup h) d = d
+turned-round (OfGroup h) (OfTelegram g t m) d = d
+turned-round (OfGroup g) (OfGroup h) d = d
 
 apart-far : (e f : Entry) → far (lies_at e) (lies_at f) ≡ true → apart e f ≡ true
 apart-far e f d = from-lies (lies_at e) (lies_at f) e f (lies e) (lies f) d
@@ -229,21 +213,6 @@ apart-far e f d = from-lies (lies_at e) (lies_at f) e f (lies e) (lies f) d
     (room-elsewhere f.0.0 e.0.0 f.0.1 e.0.1 f.1.names e.1.names (turned-round (lies_at e) (lies_at f) d))
 
 -- ---- the same by homes, which have less of the tags
-
-abbrev home_lying : Lying → Home
-home_lying (Telegram g t n) = in_telegram g t n
-home_lying (Group g) = at_group g
-
-homes : (s : ℕ) → (e : Edit) → (is : List Id) → home_of s e is ≡ home_lying (lying s e is)
-homes s (SetVar g t p v k n) is = refl
-homes s (SetHead g t v n) is = refl
-homes s (InsertPacket g t a x) is = refl
-homes s (DeletePacket g t p) is = refl
-homes s (MovePacket g t p a) is = refl
-homes s (AddGroup a bs) is = refl
-homes s (DropGroup g) is = refl
-homes s (Renumber g n) is = refl
-homes s (TurnGroup g) is = refl
 
 -- two tags that are one have one number
 low-same : (g h : Tag) → eqb (low g) (low h) ≡ false → same_tag g h ≡ false
@@ -262,32 +231,23 @@ one-same true c f h = absurd (cc)
 one-same false c f h = ap not (f refl)
 
 far-lying : (h k : Lying) → elsewhere (home_lying h) (home_lying k) ≡ true → far h k ≡ true
-far-lying (Telegram g t true) (Telegram g1 t1 true) d = both-same (eqb (low g) (low g1)) (eqb (t % 256) (t1 % 256)) (same_tag g g1) (eqb t t1) (low-same g g1) (last-same t t1) d
-far-lying (Telegram g t true) (Telegram g1 t1 false) d = both-same (eqb (low g) (low g1)) (eqb (t % 256) (t1 % 256)) (same_tag g g1) (eqb t t1) (low-same g g1) (last-same t t1) d
-far-lying (Telegram g t false) (Telegram g1 t1 true) d = both-same (eqb (low g) (low g1)) (eqb (t % 256) (t1 % 256)) (same_tag g g1) (eqb t t1) (low-same g g1) (last-same t t1) d
-far-lying (Telegram g t false) (Telegram g1 t1 false) d = both-same (eqb (low g) (low g1)) (eqb (t % 256) (t1 % 256)) (same_tag g g1) (eqb t t1) (low-same g g1) (last-same t t1) d
-far-lying (Telegram g t true) (Group h) d = absurd (cc)
-far-lying (Telegram g t false) (Group h) d = one-same (eqb (low g) (low h)) (same_tag g h) (low-same g h) d
-far-lying (Group h) (Telegram g t true) d = absurd (cc)
-far-lying (Group h) (Telegram g t false) d = one-same (eqb (low h) (low g)) (same_tag g h) (λ n. low-same g h (flip_no nat_test (low h) (low g) n)) d
-far-lying (Group g) (Group h) d = absurd (cc)
+far-lying (OfTelegram g t true) (OfTelegram g1 t1 true) d = both-same (eqb (low g) (low g1)) (eqb (t % 256) (t1 % 256)) (same_tag g g1) (eqb t t1) (low-same g g1) (last-same t t1) d
+far-lying (OfTelegram g t true) (OfTelegram g1 t1 false) d = both-same (eqb (low g) (low g1)) (eqb (t % 256) (t1 % 256)) (same_tag g g1) (eqb t t1) (low-same g g1) (last-same t t1) d
+far-lying (OfTelegram g t false) (OfTelegram g1 t1 true) d = both-same (eqb (low g) (low g1)) (eqb (t % 256) (t1 % 256)) (same_tag g g1) (eqb t t1) (low-same g g1) (last-same t t1) d
+far-lying (OfTelegram g t false) (OfTelegram g1 t1 false) d = both-same (eqb (low g) (low g1)) (eqb (t % 256) (t1 % 256)) (same_tag g g1) (eqb t t1) (low-same g g1) (last-same t t1) d
+far-lying (OfTelegram g t true) (OfGroup h) d = absurd (cc)
+far-lying (OfTelegram g t false) (OfGroup h) d = one-same (eqb (low g) (low h)) (same_tag g h) (low-same g h) d
+far-lying (OfGroup h) (OfTelegram g t true) d = absurd (cc)
+far-lying (OfGroup h) (OfTelegram g t false) d = one-same (eqb (low h) (low g)) (same_tag g h) (λ n. low-same g h (flip_no nat_test (low h) (low g) n)) d
+far-lying (OfGroup g) (OfGroup h) d = absurd (cc)
 
 abbrev pub home_at : Entry → Home
 home_at e = home_of e.0.0 e.0.1 e.1.names
 
 pub apart_elsewhere : (e f : Entry) → elsewhere (home_at e) (home_at f) ≡ true → apart e f ≡ true
-apart_elsewhere e f d = apart-far e f (far-lying (lies_at e) (lies_at f)
-    (sym (ap (λ h. elsewhere h (home_lying (lies_at f))) (homes e.0.0 e.0.1 e.1.names)
-    ) ∙ (sym (ap (elsewhere (home_at e)) (homes f.0.0 f.0.1 f.1.names)) ∙ d)))
+apart_elsewhere e f d = apart-far e f (far-lying (lies_at e) (lies_at f) d)
 
 -- another anchor leaves an edit where it lies
 pub home_anchored : (s : ℕ) → (a : Option Tag) → (e : Edit) → (is : List Id) → home_of s (anchored a e) is ≡ home_of s e is
 home_anchored s a (InsertPacket g t b x) is = refl
-home_anchored s a (MovePacket g t p b) is = refl
-home_anchored s a (AddGroup b bs) is = refl
-home_anchored s a (SetVar g t p v k n) is = refl
-home_anchored s a (SetHead g t v n) is = refl
-home_anchored s a (DeletePacket g t p) is = refl
-home_anchored s a (DropGroup g) is = refl
-home_anchored s a (Renumber g n) is = refl
-home_anchored s a (TurnGroup g) is = refl
+home_anchored s a e is = refl

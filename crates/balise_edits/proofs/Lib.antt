@@ -5,6 +5,7 @@ pub mod Elsewhere
 pub mod Standing
 pub mod PutIn
 pub mod Free
+pub mod TakingBack
 pub mod Oriented
 pub mod SetNames
 pub mod Bare

@@ -4,7 +4,7 @@ use Rattle.std.specs.Prelude.{Option, Some, None, slice_get}
 use Rattle.balise_rules.specs.declared.variable.Var.TheVariants.{NidBg, QLinkorientation, QDir, MDup}
 use Rattle.balise_rules.specs.declared.identity.Id.{Id}
 use Rattle.balise_rules.specs.Tags.{same_var}
-use Rattle.balise_rules.specs.Edits.{SetVar, SetHead, InsertPacket, DeletePacket, MovePacket, AddGroup, DropGroup, Renumber, TurnGroup}
+use Rattle.balise_rules.specs.Edits.{SetVar, SetHead}
 use Rattle.balise_rules.specs.Paths.{Part, Path, Entry, At, Nth, Of, Turn, Whose, same_part, changes, needs, ids, meet, meets_any, any_meets, room_apart, apart}
 use Rattle.balise_edits.specs.Needs.{needed_place, needed_names, listed, left_out, but, clear}
 use Rattle.balise_edits.proofs.Steps.{drop-here, drop-none}
@@ -22,13 +22,7 @@ by-head false x = refl
 pub needs_split : (e : Entry) → needs e ≡ listed (needed_place e) ++ ids (needed_names e)
 needs_split ((s, SetVar g t p v k n), m) = by-var (same_var QDir v) (same_var QLinkorientation v) (same_var NidBg v) (At g ∷ Turn ∷ []) (At g ∷ Nth t ∷ At p ∷ Of NidBg ∷ Nth k ∷ []) m.names
 needs_split ((s, SetHead g t v n), m) = by-head (same_var MDup v) (At g ∷ Turn ∷ [])
-needs_split ((s, InsertPacket g t a x), m) = refl
-needs_split ((s, DeletePacket g t p), m) = refl
-needs_split ((s, MovePacket g t p a), m) = refl
-needs_split ((s, AddGroup a bs), m) = refl
-needs_split ((s, DropGroup g), m) = refl
-needs_split ((s, Renumber g n), m) = refl
-needs_split ((s, TurnGroup g), m) = refl
+needs_split ((s, e), m) = refl
 
 or-assoc : (a b c : Bool) → (a || (b || c)) ≡ ((a || b) || c)
 or-assoc true b c = refl

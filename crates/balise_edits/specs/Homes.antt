@@ -1,5 +1,5 @@
 -- Where an edit lies.
-use Rattle.std.specs.Prelude.{ℕ, Bool, true, false, ◌&&◌, ◌%◌, not, cond, eqb, length, List}
+use Rattle.std.specs.Prelude.{ℕ, Bool, false, ◌&&◌, ◌%◌, not, cond, eqb, length, List}
 use Rattle.balise_rules.specs.declared.tag.Tag.{Tag}
 use Rattle.balise_rules.specs.declared.tag.Tag.TheVariants.{Base, Fresh}
 use Rattle.balise_rules.specs.declared.identity.Id.{Id}
@@ -25,17 +25,30 @@ in_telegram g t named = record { group = low g; telegram = t % 256; extent = con
 abbrev pub at_group : Tag → Home
 at_group g = record { group = low g; telegram = 0; extent = Group }
 
--- where an edit under a serial lies, which noted that these identities are named
+-- what an edit is of: a telegram, with identities or without, or a group
+pub data Lying : Type 0 where
+  OfTelegram : Tag → ℕ → Bool → Lying
+  OfGroup : Tag → Lying
+
+-- the same of an edit under a serial, which noted that these identities are named
+abbrev pub lying : ℕ → Edit → List Id → Lying
+lying s (SetVar g t p v k n) is = OfTelegram g t (are_named is)
+lying s (SetHead g t v n) is = OfTelegram g t (are_named is)
+lying s (InsertPacket g t a x) is = OfTelegram g t (are_named is)
+lying s (DeletePacket g t p) is = OfTelegram g t (are_named is)
+lying s (MovePacket g t p a) is = OfTelegram g t (are_named is)
+lying s (AddGroup a bs) is = OfGroup (Fresh s)
+lying s (DropGroup g) is = OfGroup g
+lying s (Renumber g n) is = OfGroup g
+lying s (TurnGroup g) is = OfGroup g
+
+-- where it lies
+abbrev pub home_lying : Lying → Home
+home_lying (OfTelegram g t named) = in_telegram g t named
+home_lying (OfGroup g) = at_group g
+
 abbrev pub home_of : ℕ → Edit → List Id → Home
-home_of s (SetVar g t p v k n) is = in_telegram g t (are_named is)
-home_of s (SetHead g t v n) is = in_telegram g t (are_named is)
-home_of s (InsertPacket g t a x) is = in_telegram g t (are_named is)
-home_of s (DeletePacket g t p) is = in_telegram g t (are_named is)
-home_of s (MovePacket g t p a) is = in_telegram g t (are_named is)
-home_of s (AddGroup a bs) is = at_group (Fresh s)
-home_of s (DropGroup g) is = at_group g
-home_of s (Renumber g n) is = at_group g
-home_of s (TurnGroup g) is = at_group g
+home_of s e is = home_lying (lying s e is)
 
 -- whether edits are seen to be apart by what they are of, and whether their groups and telegrams may be one
 abbrev pub apart_by : Extent → Extent → Bool → Bool → Bool

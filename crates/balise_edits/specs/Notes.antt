@@ -1,5 +1,5 @@
 -- The notes of this crate as those of the rules, and which edits have which.
-use Rattle.std.specs.Prelude.{◌≡◌, List, Option}
+use Rattle.std.specs.Prelude.{◌≡◌, Bool, true, false, List, Option}
 use Rattle.balise_rules.specs.declared.identity.Id.{Id}
 use Rattle.balise_rules.specs.Packet.{Packet}
 use Rattle.balise_rules.specs.Plan.{Group}
@@ -75,3 +75,9 @@ with_packet x m = record m { packet = x }
 
 abbrev pub with_group : Option Group → notes.Note → notes.Note
 with_group ys m = record m { group = ys }
+
+-- whether an edit takes something out of the plan
+abbrev pub takes_out : rules.Edit → Bool
+takes_out (rules.DeletePacket g t p) = true
+takes_out (rules.DropGroup g) = true
+takes_out e = false

@@ -1,13 +1,14 @@
 //! Edits done, taken back and done again: three tables of the nine kinds.
 
-ghost use Rattle.std.specs.Prelude.{◌≡◌, ◌<◌, ◌^◌, true, Some, IfOk, IsOk, IsOkUnless, OnErr, OnOk};
+ghost use Rattle.std.specs.Prelude.{◌≡◌, ◌<◌, ◌^◌, false, true, Some, IfOk, IsOk, IsOkUnless, OnErr, OnOk};
 ghost use Rattle.balise_rules.specs.Accepting.{Spelt, Unused};
 ghost use Rattle.balise_rules.specs.Back.{back};
 ghost use Rattle.balise_rules.specs.Doing.{done};
 ghost use Rattle.balise_rules.specs.Notes.{noted, without_content};
 ghost use Rattle.balise_rules.specs.Session.{needs_no_memory};
+ghost use Rattle.balise_plan.specs.Held.{DoesAlways};
 ghost use Rattle.balise_edits.specs.Edits.{edit_of};
-ghost use Rattle.balise_edits.specs.Notes.{note_of, Suits};
+ghost use Rattle.balise_edits.specs.Notes.{note_of, takes_out, Suits};
 ghost use Rattle.balise_edits.specs.Standing.{changed_to, Applies, DoesAgain, DoesItem, IsLast, IsNext, TakesBack};
 
 use crate::edit::Edit;
@@ -78,6 +79,7 @@ fn noted(plan: &mut Plan, edit: &Edit, serial: u32) -> Result<Note, Refusal>
     ensures does { DoesItem (serial, edit_of edit.now) plan.old result plan.new }
     ensures noted { IfOk result (λ m. note_of m ≡ noted (edit_of edit.now) plan.old.groups) }
     ensures suits { IfOk result (λ m. Suits (edit_of edit.now) m) }
+    ensures always { needs_no_memory (Some (serial, edit_of edit.now)) ≡ true → DoesAlways (edit_of edit.now) plan.old result plan.new }
 {
     let alloc = plan.allocator();
     match *edit {
@@ -143,23 +145,24 @@ fn once_more(plan: &mut Plan, entry: &mut Entry) -> Result<(), Refusal>
     ensures always { needs_no_memory (Some entry.old.0) ≡ true → IsOk result }
 {
     match *entry.edit() {
-        Edit::SetVar {
-            g,
-            t,
-            p,
-            var,
-            k,
-            value,
-        } => fields::set_var_again(plan, entry, g, t, p, var, k, value),
-        Edit::SetHead { g, t, var, value } => {
-            fields::set_head_again(plan, entry, g, t, var, value)
-        }
         Edit::InsertPacket { .. } => packets::insert_again(plan, entry),
         Edit::DeletePacket { g, t, p } => packets::delete_again(plan, entry, g, t, p),
-        Edit::MovePacket { g, t, p, after } => packets::shift_again(plan, entry, g, t, p, after),
         Edit::AddGroup { .. } => groups::add_again(plan, entry),
         Edit::DropGroup { g } => groups::drop_again(plan, entry, g),
-        Edit::Renumber { g, number } => names::renumber_again(plan, entry, g, number),
-        Edit::TurnGroup { g } => turns::turn_again(plan, entry, g),
+        _ => repeated(plan, entry),
     }
+}
+
+// Does an entry's edit again that takes nothing out. What it notes is what the entry has.
+fn repeated(plan: &mut Plan, entry: &Entry) -> Result<(), Refusal>
+    requires count { plan.old.changes < 2 ^ 63 }
+    requires next { IsNext entry.now plan.old.groups }
+    requires bare { takes_out entry.now.0.1 ≡ false }
+    ensures again { DoesAgain entry.now plan.old result entry.now plan.new }
+    ensures always { needs_no_memory (Some entry.now.0) ≡ true → IsOk result }
+{
+    if let Err(fault) = noted(plan, entry.edit(), entry.serial()) {
+        return Err(fault);
+    }
+    Ok(())
 }

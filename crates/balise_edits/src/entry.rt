@@ -70,13 +70,18 @@ impl Entry {
         ensures ok { IfOk result (λ entry. entry ≡ self.now) }
         ensures fault { IsOkUnless result Refusal.OutOfMemory }
     {
-        let mut done = placed(*Box::allocator(&self.done), self.done.edit.copy()?)?;
+        let mut done = placed(self.allocator(), self.done.edit.copy()?)?;
         done.note = self.done.note.copy()?;
         Ok(Entry {
             serial: self.serial,
             home: self.home,
             done,
         })
+    }
+
+    /// What it takes memory from.
+    pub(crate) fn allocator(&self) -> Global {
+        *Box::allocator(&self.done)
     }
 
     /// Its serial.

@@ -96,11 +96,11 @@ impl Entry {
     }
 
     /// Its line in a journal.
-    pub fn line(&self, alloc: Global) -> Result<Line, Refusal>
+    pub fn line(&self) -> Result<Line, Refusal>
         ensures ok { IfOk result (λ line. line_in line ≡ line_of self.now) }
         ensures fault { IsOkUnless result Refusal.OutOfMemory }
     {
-        let edit = self.edit().line(alloc)?;
+        let edit = self.edit().line(self.allocator())?;
         let noted = self.noted();
         Ok(Line {
             serial: self.serial(),

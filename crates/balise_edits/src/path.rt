@@ -8,7 +8,7 @@ use balise_rules::{Id, Tag, Var};
 
 /// A place of a plan: what an edit changes, or needs as it is. It leads from a group down to what it stands for.
 #[derive(Clone, Copy, PartialEq, Eq)]
-pub(crate) enum Path {
+pub enum Path {
     /// A group, or a part of it.
     Group(Tag, InGroup),
     /// What comes directly after the start of the plan.
@@ -21,7 +21,7 @@ pub(crate) enum Path {
 
 /// A group, or a part of it.
 #[derive(Clone, Copy, PartialEq, Eq)]
-pub(crate) enum InGroup {
+pub enum InGroup {
     /// The whole group, with its two sides.
     Whole,
     /// What comes directly after it.
@@ -38,7 +38,7 @@ pub(crate) enum InGroup {
 
 /// A part of a telegram.
 #[derive(Clone, Copy, PartialEq, Eq)]
-pub(crate) enum InTelegram {
+pub enum InTelegram {
     /// A field of the header.
     Head(Var),
     /// What comes directly after the header: the first packet's place.
@@ -51,7 +51,7 @@ pub(crate) enum InTelegram {
 
 /// A packet, or a part of it.
 #[derive(Clone, Copy, PartialEq, Eq)]
-pub(crate) enum InPacket {
+pub enum InPacket {
     /// The whole packet, with its two sides.
     Whole,
     /// What comes directly after it.

@@ -1,5 +1,5 @@
 -- What each call answers and leaves, over the values that are held.
-use Rattle.std.proofs.Common.{Option, Bool, true, false, not, IsTrue, ◌≡◌, ◌+◌, ◌∙◌, inl, inr, ℕ, zero, suc, eqb, List, [], ◌∷◌, ◌++◌, Some, None, Ok, length, take, drop, map, find, slice_get, refl, sym, ap, subst, arith, add-one}
+use Rattle.std.proofs.Common.{Option, Bool, true, false, not, IsTrue, ◌≡◌, ◌+◌, ◌∙◌, inl, inr, ℕ, zero, suc, eqb, List, [], ◌∷◌, ◌++◌, Some, None, Ok, length, take, drop, map, find, slice_get, refl, sym, ap, subst, arith, add-one, Result, Err}
 use Rattle.std.proofs.lemmas.Grind.{common_steps}
 use Rattle.balise_rules.specs.declared.tag.Tag.TheVariants.{Base}
 use Rattle.balise_rules.specs.declared.refusal.Refusal.{Refusal}
@@ -23,6 +23,7 @@ use Rattle.balise_strike_laws.specs.InSession.{left_of}
 use Rattle.balise_strike_laws.specs.Redoing.{Answer}
 use Rattle.balise_strike_laws.proofs.SessionsKept.{sessions_kept}
 use Rattle.balise_strike_laws.proofs.SessionStrikes.{hung-empty}
+use Rattle.balise_history.specs.Tests.{MayRunOut, StrikeMayRunOut}
 use Rattle.balise_history.specs.Lists.{History, Gone, items_of, removed_of, entries_hung, place_of, top_serial, Ascends, TakesOut, PutsBack}
 use Rattle.balise_history.specs.Held.{Edited, state_at, seen, Holds, IsHeld, Accepts, Refuses}
 use Rattle.balise_history.proofs.Adding.{added}
@@ -287,3 +288,17 @@ pub strike-wants : (p : Plan) (h : History) (next n serial : ℕ) (e : Entry) (q
 strike-wants p h next n serial e q k r o g s w t =
     let f = found-item serial h.standing e (ap (find (λ (x : Entry). eqb serial x.0.0)) o.noted_there ∙ found-in p h next n serial e o g s) in
     (inl (t.0, subst (λ (x : Option Item). IsTrue (not (needs_no_memory x))) (sym f) (may-want (needs_no_memory (Some e.0)) w)), same-view p q h k next t.1 t.2)
+
+-- memory ran out before a later entry that depends on it was met
+pub strike-may-run-out : (p : Plan) (h : History) (next n serial : ℕ) (e : Entry) → HeldIn p h next → slice_get h.standing n ≡ Some e → e.0.0 ≡ serial → MayRunOut e (drop (suc n) h.standing) →
+    StrikeMayRunOut serial (back_along h.standing p.groups) (items_of h.standing)
+strike-may-run-out p h next n serial e o g s m =
+    let base = back_along h.standing p.groups in
+    let es = entries base (items_of h.standing) in
+    let w = there base p.groups h.standing h.stack next n e o g in
+    let q : later serial es ≡ drop (suc n) h.standing = ap (λ (k : ℕ). later k es) (sym s) ∙ w.later_are in
+    (e, (found-in p h next n serial e o g s, subst (MayRunOut e) (sym q) m))
+
+-- the only refusal that is out of memory
+pub out-of-memory : {A : Type 0} (x : Refusal) → ◌≡◌ {A = Result A Refusal} (Err x) (Err OutOfMemory) → x ≡ OutOfMemory
+out-of-memory x h = cc

@@ -16,3 +16,7 @@ pub mod Few
 pub mod Reading
 pub mod Stacked
 pub mod Lines
+pub mod Unmaking
+pub mod Fitting
+pub mod Tested
+pub mod Resolved

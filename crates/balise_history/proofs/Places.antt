@@ -4,25 +4,16 @@ use Rattle.std.proofs.lemmas.Bool.Decides.{nat_tests}
 use Rattle.balise_rules.specs.declared.identity.Id.{Id}
 use Rattle.balise_rules.specs.declared.tag.Tag.{Tag}
 use Rattle.balise_rules.specs.declared.refusal.Refusal.{Refusal}
-use Rattle.balise_rules.specs.declared.refusal.Refusal.TheVariants.{NoSuchGroup, NoSuchPacket}
+use Rattle.balise_rules.specs.declared.refusal.Refusal.TheVariants.{NoSuchPacket}
 use Rattle.balise_rules.specs.Refusals.{and_then}
-use Rattle.balise_rules.specs.Addresses.{anchor_at, find_group, find_packet, FoundPacket, move_to, edit_of, AskMove}
+use Rattle.balise_rules.specs.Addresses.{anchor_at, find_packet, FoundPacket, move_to, edit_of, AskMove}
 use Rattle.balise_rules.specs.Edits.{MovePacket}
-use Rattle.balise_rules.specs.Plan.{Plan, Group, group_named}
+use Rattle.balise_rules.specs.Plan.{Plan}
 use Rattle.balise_rules.specs.Tagged.{find, without, Distinct}
 use Rattle.balise_rules.specs.Tags.{same_tag}
 use Rattle.balise_rules.proofs.Cases.{unsome}
 use Rattle.balise_rules.proofs.Tests.{split_on, tag_test, split_keys}
 use Rattle.std.specs.Prelude.{Result, Ok, ok_or}
-use Rattle.balise_plan.specs.Held.{tag_named}
-
--- the group of an identity that has a tag
-pub group-tagged : (i : Id) (plan : Plan) (g : Tag) → tag_named i plan ≡ Some g → (ys : Group) × (find_group i plan ≡ Ok (g, ys))
-group-tagged i plan g e = by (group_named i plan) refl e
-  where
-    by : (o : Option (Tag × Group)) → group_named i plan ≡ o → option_map (λ (y : Tag × Group). y.0) o ≡ Some g → (ys : Group) × (find_group i plan ≡ Ok (g, ys))
-    by None h e = absurd cc
-    by (Some z) h e = (z.1, ap (λ o. ok_or o NoSuchGroup) h ∙ ap (λ (t : Tag). Ok (t, z.1)) (unsome e))
 
 module _ {A : Type 0} where
   -- what isn't there is left out by leaving nothing out

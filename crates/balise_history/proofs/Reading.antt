@@ -1,5 +1,5 @@
 -- What stays within its bounds where a journal is read.
-use Rattle.std.proofs.Common.{◌≡◌, ◌<◌, ◌+◌, ◌∙◌, inl, inr, ⊎_elim, ℕ, suc, eqb, List, [], ◌∷◌, true, Option, Some, None, Result, Ok, Err, OnOk, find, length, refl, sym, ap, subst, arith}
+use Rattle.std.proofs.Common.{◌≡◌, ◌<◌, ◌+◌, ◌∙◌, ⊎_elim, ℕ, suc, eqb, List, [], ◌∷◌, true, Option, Some, None, Result, Ok, Err, OnOk, find, length, refl, sym, ap, subst, arith}
 use Rattle.std.specs.Prelude.{is_none}
 use Rattle.std.proofs.lemmas.List.{length-append}
 use Rattle.balise_rules.specs.declared.refusal.Refusal.{Refusal}
@@ -12,8 +12,7 @@ use Rattle.balise_rules.specs.Session.{State, Removed, Reply, Strike, Struck, Re
 use Rattle.balise_rules.proofs.Cases.{unsome}
 use Rattle.balise_edit_laws.proofs.LinesReady.{when_some}
 use Rattle.balise_history.specs.Held.{Edited, state_at, Accepts, Answered}
-use Rattle.balise_history.specs.Openings.{Enters, IsOpening, ReadsEntry}
-use Rattle.balise_history.specs.Sessions.{seen_at}
+use Rattle.balise_history.specs.Openings.{Enters, IsOpening}
 
 -- one more entry behind those that stand, and nothing undone
 pub record OneMore (s t : State) : Type 0 where
@@ -57,10 +56,6 @@ entry-within s t l o h c f =
 pub enters-within : {A : Type 0} (s t : Edited) (l : Line) (r : Result A Refusal) → IsOpening s → Enters l s r t → IsOpening t
 enters-within s t l (Ok u) o w = entry-within s t l o w.0 w.1 w.2
 enters-within s t l (Err r) o w = ⊎_elim (λ e. subst IsOpening (sym e) o) (λ n. entry-within s t (record l { noted = n.1.0 }) o n.1.1.0 n.1.1.1 n.1.1.2) w.1
-
-pub entry-read : {A : Type 0} (s t : Edited) (l : Line) (r : Result A Refusal) → Enters l s r t → ReadsEntry l (seen_at 0 s) r (seen_at 0 t)
-entry-read s t l (Ok u) w = (w.0, w.1)
-entry-read s t l (Err r) w = (w.0, ⊎_elim (λ e. inl (ap (seen_at 0) e)) (λ n. inr (n.0, (n.1.0, (n.1.1.0, n.1.1.1)))) w.1)
 
 -- one more struck
 pub record OneStruck (s t : State) : Type 0 where

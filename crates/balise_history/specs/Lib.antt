@@ -4,3 +4,13 @@ pub mod Tests
 pub mod Sessions
 pub mod Openings
 pub mod Returned
+pub mod Unmade
+pub use Rattle.balise_commands.specs.Commands
+pub use Rattle.balise_commands.specs.Lines
+pub use Rattle.balise_plan.specs.GroupReading
+pub use Rattle.balise_rules.specs.Accepting
+pub use Rattle.balise_rules.specs.Journal
+pub use Rattle.balise_rules.specs.Opening
+pub use Rattle.balise_rules.specs.Plan
+pub use Rattle.balise_rules.specs.Session
+pub use Rattle.balise_strike_laws.specs.Headline

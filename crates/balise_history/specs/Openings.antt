@@ -1,9 +1,10 @@
 -- What reading a journal answers.
-use Rattle.std.specs.Prelude.{◌≡◌, ◌⊎◌, ◌+◌, ◌<◌, ◌≤◌, ◌^◌, ◌&&◌, ℕ, nat_lt, Bool, length, map, Option, Some, None, is_none, Result, Ok, Err}
+use Rattle.std.specs.Prelude.{◌≡◌, ◌⊎◌, ◌+◌, ◌<◌, ◌≤◌, ◌^◌, ◌&&◌, ℕ, nat_lt, Bool, List, length, map, take, Option, Some, None, is_none, Result, Ok, Err}
 use Rattle.balise_rules.specs.declared.refusal.Refusal.{Refusal}
 use Rattle.balise_rules.specs.declared.refusal.Refusal.TheVariants.{JournalMismatch, OutOfMemory}
 use Rattle.balise_rules.specs.Journal.{Line, Noted}
-use Rattle.balise_rules.specs.Opening.{last_serial, with_entry, with_undone}
+use Rattle.balise_rules.specs.Plan as rules
+use Rattle.balise_rules.specs.Opening.{from_entries, last_serial, with_entry, with_undone}
 use Rattle.balise_rules.specs.Session.{State, top}
 use Rattle.balise_history.specs.declared.journal_fault.JournalFault.{JournalFault}
 use Rattle.balise_history.specs.Held.{Edited, state_at, seen, IsHeld}
@@ -52,16 +53,18 @@ pub record IsOpening (e : Edited) : Type 0 where
 abbrev pub FitsOne : Option State → Seen → Seen → Type 0
 FitsOne o s t = (◌≡◌ {A = Option State} o (Some t.state)) × (t.changes ≡ s.changes + 1)
 
--- The line fits, and is one more change. Else all stays; or it doesn't fit, since its edit was done and noted something else than the line says.
-abbrev pub ReadsEntry : {A : Type 0} → Line → Seen → Result A Refusal → Seen → Type 0
-ReadsEntry l s (Ok u) t = FitsOne (with_entry s.state l) s t
-ReadsEntry l s (Err r) t = Mismatches r (with_entry s.state l) × ((t ≡ s) ⊎ ((r ≡ JournalMismatch) × ((n : Noted) × FitsOne (with_entry s.state (record l { noted = n })) s t)))
+-- the line fits, and is one more change; or it doesn't, or memory ran out
+abbrev pub ReadsEntry : Line → Seen → Result Seen Refusal → Type 0
+ReadsEntry l s (Ok t) = FitsOne (with_entry s.state l) s t
+ReadsEntry l s (Err r) = Mismatches r (with_entry s.state l)
 
--- The line fits, and is one more change. Else all stays.
-abbrev pub ReadsUndone : {A : Type 0} → ℕ → Seen → Result A Refusal → Seen → Type 0
-ReadsUndone serial s (Ok u) t = FitsOne (with_undone s.state serial) s t
-ReadsUndone serial s (Err r) t = Mismatches r (with_undone s.state serial) × (t ≡ s)
+-- the same of the serial of an edit that is struck
+abbrev pub ReadsUndone : ℕ → Seen → Result Seen Refusal → Type 0
+ReadsUndone serial s (Ok t) = FitsOne (with_undone s.state serial) s t
+ReadsUndone serial s (Err r) = Mismatches r (with_undone s.state serial)
 
--- it fails at this place, or memory is wanted there
-abbrev pub FailsAt : Result State (Option ℕ) → JournalFault → Type 0
-FailsAt r f = (f.refusal ≡ OutOfMemory) ⊎ ((f.refusal ≡ JournalMismatch) × (r ≡ Err f.at))
+-- it fails at this place; or memory ran out at a line, and those before it fit
+abbrev pub FailsAt : rules.Plan → ℕ → List Line → JournalFault → Type 0
+FailsAt plan next ls f =
+    ((f.refusal ≡ OutOfMemory) × ((n : ℕ) × ((s : State) × ((f.at ≡ Some n) × (n < length ls) × (◌≡◌ {A = Result State (Option ℕ)} (from_entries plan next (take n ls)) (Ok s))))))
+    ⊎ ((f.refusal ≡ JournalMismatch) × (◌≡◌ {A = Result State (Option ℕ)} (from_entries plan next ls) (Err f.at)))

@@ -2,15 +2,13 @@
 
 mod entering;
 
-ghost use Rattle.std.specs.Prelude.{◌≡◌, ◌≢◌, ◌+◌, ◌<◌, ◌≤◌, ◌^◌, [], ℕ, length, map, reverse, IfNone, IfOk, IfSome, IsOkUnless, OnOk};
-ghost use Rattle.balise_commands.specs.Lines.{line_in};
+ghost use Rattle.std.specs.Prelude.{◌≡◌, ◌+◌, ◌<◌, ◌≤◌, ◌^◌, [], ℕ, length, IfOk, IsErrOf, OnOk};
 ghost use Rattle.balise_commands.specs.Commands.{command_of};
 ghost use Rattle.balise_history.specs.Held.{Answered, state_at};
-ghost use Rattle.balise_history.specs.Lists.{items_of};
+ghost use Rattle.balise_history.specs.Tests.{StrikeMayRunOut};
 ghost use Rattle.balise_rules.specs.Accepting.{Unused};
-ghost use Rattle.balise_rules.specs.Journal.{all_back, line_of};
 ghost use Rattle.balise_rules.specs.Plan.{IsSound};
-ghost use Rattle.balise_rules.specs.Session.{entries, later, made};
+ghost use Rattle.balise_rules.specs.Session.{entries, later};
 ghost use Rattle.balise_rules.specs.Session as rules;
 ghost use Rattle.balise_strike_laws.specs.Headline.{Promised};
 
@@ -19,7 +17,7 @@ use crate::resolving::edit_asked;
 use crate::struck::Struck;
 use crate::testing::serials_behind;
 use balise_commands::Command;
-use balise_edits::{Entry, Line, apply};
+use balise_edits::apply;
 use balise_plan::Plan;
 use balise_rules::Refusal;
 use balise_strike_laws::sessions_promised;
@@ -29,9 +27,9 @@ use std::marker::Model;
 /// A plan, the entries that made it and those undone or struck, and the next serial.
 #[derive(Drop)]
 pub(crate) struct EditedPlan {
-    plan: Plan,
-    history: History,
-    next: u32,
+    pub(crate) plan: Plan,
+    pub(crate) history: History,
+    pub(crate) next: u32,
 }
 
 impl Model for EditedPlan {
@@ -42,18 +40,6 @@ impl Model for EditedPlan {
     ghost view = { λ p. specs.seen p.plan.groups p.history.standing p.history.stack p.next p.plan.changes };
 
     ghost invariant = { λ p. specs.IsHeld p.plan.groups p.history.standing p.history.stack p.next };
-}
-
-// The lines of entries.
-fn lines_of(alloc: Global, entries: &[Entry]) -> Result<Vec<Line>, Refusal>
-    ensures ok { IfOk result (λ v. map line_in v.items ≡ map line_of entries.now) }
-    ensures fault { IsOkUnless result Refusal.OutOfMemory }
-{
-    let mut lines = Vec::new(alloc);
-    for entry in entries {
-        lines.push(entry.line(alloc)?)?;
-    }
-    Ok(lines)
 }
 
 impl EditedPlan {
@@ -71,74 +57,12 @@ impl EditedPlan {
         }
     }
 
-    /// The plan.
-    pub(crate) fn plan(&self) -> &Plan
-        ensures { result.now ≡ record { groups = made self.now.base self.now.standing; changes = self.now.changes } }
-    {
-        &self.plan
-    }
-
-    /// The entries that stand.
-    pub(crate) fn standing(&self) -> &[Entry]
-        ensures { result.now ≡ entries self.now.base self.now.standing }
-    {
-        self.history.standing()
-    }
-
-    /// The entries that stand, where nothing is undone or struck.
-    pub(crate) fn all_standing(&self) -> Option<&[Entry]>
-        ensures some { IfSome result (λ es. self.now.stack ≡ []) }
-        ensures none { IfNone result (self.now.stack ≢ []) }
-        ensures entries { IfSome result (λ es. map line_of es.now ≡ map line_of (entries self.now.base (all_back self.now.stack self.now.standing))) }
-    {
-        match self.history.top() {
-            Some(_) => None,
-            None => Some(self.standing()),
-        }
-    }
-
-    /// The entries that would stand if all that was undone or struck were done again, as their lines tell them.
-    pub(crate) fn all_back(&self) -> Result<Vec<Entry>, Refusal>
-        ensures ok { IfOk result (λ v. map line_of v.items ≡ map line_of (entries self.now.base (all_back self.now.stack self.now.standing))) }
-        ensures fault { IsOkUnless result Refusal.OutOfMemory }
-    {
-        self.history.all_back()
-    }
-
-    /// Their lines.
-    pub(crate) fn lines(&self) -> Result<Vec<Line>, Refusal>
-        ensures ok { IfOk result (λ v. map line_in v.items ≡ map line_of (entries self.now.base (all_back self.now.stack self.now.standing))) }
-        ensures fault { IsOkUnless result Refusal.OutOfMemory }
-    {
-        let alloc = self.history.allocator();
-        if let Some(entries) = self.all_standing() {
-            return lines_of(alloc, entries);
-        }
-        let entries = self.all_back()?;
-        lines_of(alloc, &entries)
-    }
-
-    /// The serials of those undone or struck, the last one last.
-    pub(crate) fn undone(&self) -> Result<Vec<u32>, Refusal>
-        ensures ok { IfOk result (λ v. v.items ≡ reverse (map (λ r. r.item.0) self.now.stack)) }
-        ensures fault { IsOkUnless result Refusal.OutOfMemory }
-    {
-        self.history.undone()
-    }
-
     /// What it promises as a session, whatever is counted.
     pub(crate) fn promise(&self)
         ensures { (n : ℕ) → Promised self.now.base (state_at n self.now) }
     {
         let _next = &self.next;
         sessions_promised();
-    }
-
-    /// The next serial.
-    pub(crate) fn next(&self) -> u32
-        ensures { result ≡ self.now.serial }
-    {
-        self.next
     }
 
     /// Does the edit that a command asks for, under the next serial, and answers that.
@@ -191,6 +115,7 @@ impl EditedPlan {
         ensures answers { Answered (rules.Strike serial) (λ s. rules.Struck s.serial) self.old result self.new }
         ensures compared { IfOk result (λ s. s.compared ≡ length (later serial (entries self.old.base self.old.standing))) }
         ensures few { OnOk result (length self.new.standing + length self.new.stack < self.new.serial) }
+        ensures memory { IsErrOf result Refusal.OutOfMemory → StrikeMayRunOut serial self.old.base self.old.standing }
     {
         let standing = self.history.standing();
         let place = place_of(standing, serial);

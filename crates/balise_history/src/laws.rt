@@ -1,5 +1,6 @@
 //! What a session promises, in its own words.
 
+ghost use Rattle.balise_history.specs.Unmade.{EditsUndone, PromisedOnTheWay};
 ghost use Rattle.balise_strike_laws.specs.Headline.{Headline, Promised};
 
 use crate::session::Session;
@@ -14,9 +15,20 @@ pub fn headline()
     balise_strike_laws::headline();
 }
 
-/// All of that holds of a session as it is.
+/// All of that holds of each state that commands lead through, and not of the last one alone.
+pub fn promised_on_the_way()
+    ensures { PromisedOnTheWay }
+{}
+
+/// Edits of a plan that are all accepted, and then as many accepted undos, give that plan with nothing standing. Each
+/// of these undos is refused only as `Worn` or `OutOfMemory`.
+pub fn edits_undone()
+    ensures { EditsUndone }
+{}
+
+/// What `headline` says holds of a session as it is.
 pub fn promised(session: &Session)
     ensures { Promised session.now.state.base session.now.state }
 {
-    session.promise();
+    session.edited.promise();
 }

@@ -14,10 +14,11 @@ mod testing;
 
 pub use balise_commands::Command;
 pub use balise_edits::{
-    Bits, Edit, Entry, Group, GroupTag, Id, Line, LineEdit, Noted, Packet, PacketTag, Plan,
-    Refusal, Tag, Var,
+    Bits, Edit, Entry, Group, GroupTag, Id, Line, LineEdit, LinkPlace, Noted, Packet, PacketTag,
+    Plan, Refusal, ReviewLine, Reviewed, Spot, Tag, Telegram, Var, review,
 };
+pub use balise_plan::{GroupReader, Links};
 pub use journal_fault::JournalFault;
-pub use opening::{Opening, from_entries};
+pub use opening::Opening;
 pub use session::Session;
 pub use struck::Struck;

@@ -1,14 +1,13 @@
 //! A session read from a journal, line by line.
 
-ghost use Rattle.std.specs.Prelude.{◌≡◌, ◌+◌, ◌<◌, ◌^◌, ℕ, length, map, None, Some, Ok, IfErr, IfOk, MatchResult};
+ghost use Rattle.std.specs.Prelude.{◌≡◌, ◌<◌, ◌^◌, ℕ, None, Some, MatchResult};
 ghost use Rattle.balise_commands.specs.Lines.{line_in};
-ghost use Rattle.balise_history.specs.Openings.{FailsAt, ReadsEntry, ReadsUndone};
+ghost use Rattle.balise_history.specs.Openings.{ReadsEntry, ReadsUndone};
 ghost use Rattle.balise_rules.specs.Accepting.{Unused};
-ghost use Rattle.balise_rules.specs.Opening.{from_entries, opened_at};
+ghost use Rattle.balise_rules.specs.Opening.{opened_at};
 ghost use Rattle.balise_rules.specs.Plan.{IsSound};
 
 use crate::edited::EditedPlan;
-use crate::journal_fault::JournalFault;
 use crate::session::Session;
 use balise_edits::Line;
 use balise_plan::Plan;
@@ -36,42 +35,6 @@ impl Model for Opening {
     ghost invariant = { λ o. IsOpening o.edited };
 }
 
-/// The session of a journal: of its next serial, and of its lines done in order. Each line is one change of the plan.
-///
-/// Refused as `JournalMismatch`, with no place where the next serial isn't from 1 to 4,000,000,000, else at the first
-/// line that doesn't fit, or as `OutOfMemory`.
-pub fn from_entries(
-    alloc: Global,
-    plan: Plan,
-    next: u32,
-    lines: Vec<Line>,
-) -> Result<Session, JournalFault>
-    requires sound { IsSound plan.groups }
-    requires untagged { (n : ℕ) → Unused n plan.groups }
-    requires changes { plan.changes < 2 ^ 62 }
-    ensures ok { IfOk result (λ s. from_entries plan.groups next (map line_in lines.items) ≡ Ok s.state) }
-    ensures changes { IfOk result (λ s. s.changes ≡ plan.changes + length lines.items) }
-    ensures fault { IfErr result (FailsAt (from_entries plan.groups next (map line_in lines.items))) }
-{
-    let mut opening = match Opening::new(alloc, plan, next) {
-        Ok(opening) => opening,
-        Err(refusal) => return Err(JournalFault { at: None, refusal }),
-    };
-    let mut place = 0;
-    for line in lines {
-        match opening.entry(line) {
-            Ok(()) => place += 1,
-            Err(refusal) => {
-                return Err(JournalFault {
-                    at: Some(place),
-                    refusal,
-                });
-            }
-        }
-    }
-    Ok(opening.done())
-}
-
 impl Opening {
     /// Begins with the plan and the next serial that a journal has. Takes no memory.
     ///
@@ -90,21 +53,26 @@ impl Opening {
         })
     }
 
-    /// Does the edit of a line, where it fits. Refused as `JournalMismatch` or `OutOfMemory`, and then all stays, but
-    /// that an edit that noted something else than the line says is done.
-    pub fn entry(&mut self, line: Line) -> Result<(), Refusal>
-        ensures { ReadsEntry (line_in line) self.old result self.new }
+    /// With the edit of a line done, where it fits. Refused as `JournalMismatch` or `OutOfMemory`, and then it is
+    /// dropped: it may have done an edit that its journal doesn't describe.
+    #[inline]
+    pub fn entry(mut self, line: Line) -> Result<Opening, Refusal>
+        ensures { ReadsEntry (line_in line) self result }
     {
-        self.edited.entry(line)
+        match self.edited.entry(line) {
+            Ok(()) => Ok(self),
+            Err(refusal) => Err(refusal),
+        }
     }
 
-    /// Strikes the edit of a serial, where all later ones are independent of it. Refused as `JournalMismatch` or
-    /// `OutOfMemory`, and then all stays.
-    pub fn undone(&mut self, serial: u32) -> Result<(), Refusal>
-        ensures { ReadsUndone serial self.old result self.new }
+    /// With the edit of a serial struck, where all later ones are independent of it. Refused as `JournalMismatch` or
+    /// `OutOfMemory`, and then it is dropped.
+    #[inline]
+    pub fn undone(mut self, serial: u32) -> Result<Opening, Refusal>
+        ensures { ReadsUndone serial self result }
     {
         match self.edited.strike(serial) {
-            Ok(_) => Ok(()),
+            Ok(_) => Ok(self),
             Err(Refusal::OutOfMemory) => Err(Refusal::OutOfMemory),
             Err(_) => Err(Refusal::JournalMismatch),
         }
@@ -115,6 +83,6 @@ impl Opening {
         ensures { result ≡ self }
     {
         let Opening { edited } = self;
-        Session::of(edited)
+        Session { edited, count: 0 }
     }
 }

@@ -9,43 +9,65 @@ ghost use Rattle.balise_rules.specs.Packet.{Packet};
 ghost use Rattle.balise_rules.specs.Plan.{Group, IsSound};
 ghost use Rattle.balise_rules.specs.Tagged.{Distinct};
 ghost use Rattle.balise_rules.specs.Tags.{same_tag};
+ghost use Rattle.balise_rules.specs.Telegram.{Telegram};
 
 use crate::digits::packet_in;
 use balise_bits::Bits;
 use balise_commands::Command;
 use balise_edits::Edit;
 use balise_plan::Plan;
-use balise_rules::{Id, Refusal, Tag};
+use balise_rules::{Address, Id, Place, Refusal, Tag};
 use balise_telegram::Telegram;
 
-// The group of an identity.
-fn find_group(plan: &Plan, id: Id) -> Result<Tag, Refusal>
-    requires { IsSound plan.now.groups }
+// The tag of the group of an identity.
+fn group_at(plan: &Plan, id: Id) -> Result<Tag, Refusal>
     ensures ok { IfOk result (λ g. (ys : Group) × (find_group id plan.now.groups ≡ Ok (g, ys))) }
-    ensures fault { IfErr result (λ r. find_group id plan.now.groups ≡ Err r) }
+    ensures fault { IfErr result (λ e. find_group id plan.now.groups ≡ Err e) }
 {
-    match plan.tag_of(id) {
-        Some(g) => Ok(g),
-        None => Err(Refusal::NoSuchGroup),
+    match plan.resolve(Address::Group(id)) {
+        Ok(Place::Group(g)) => Ok(g),
+        Ok(_) => unreachable!(),
+        Err(refusal) => Err(refusal),
     }
 }
 
-// The telegram at a place of the group of an identity, with the tags that lead to it.
+// The tags that lead to the telegram at a place of a group.
+fn telegram_at(plan: &Plan, id: Id, pig: u32) -> Result<(Tag, u32), Refusal>
+    ensures ok { IfOk result (λ r. (y : Telegram) × (find_telegram id pig plan.now.groups ≡ Ok (record { group = r.0; place = r.1; telegram = y }))) }
+    ensures fault { IfErr result (λ e. find_telegram id pig plan.now.groups ≡ Err e) }
+{
+    match plan.resolve(Address::Telegram(id, pig)) {
+        Ok(Place::Telegram(g, t)) => Ok((g, t)),
+        Ok(_) => unreachable!(),
+        Err(refusal) => Err(refusal),
+    }
+}
+
+// The tags that lead to the packet at a place of a telegram.
+fn packet_at(plan: &Plan, id: Id, pig: u32, pkt: u32) -> Result<(Tag, u32, Tag), Refusal>
+    ensures ok { IfOk result (λ r. (y : Telegram) × ((x : Packet) × (find_packet id pig pkt plan.now.groups ≡ Ok (record { group = r.0; place = r.1; telegram = y; tag = r.2; packet = x })))) }
+    ensures fault { IfErr result (λ e. find_packet id pig pkt plan.now.groups ≡ Err e) }
+{
+    match plan.resolve(Address::Packet(id, pig, pkt)) {
+        Ok(Place::Packet(g, t, p)) => Ok((g, t, p)),
+        Ok(_) => unreachable!(),
+        Err(refusal) => Err(refusal),
+    }
+}
+
+// The telegram at a place of a group, with the tags that lead to it.
 fn find_telegram(plan: &Plan, id: Id, pig: u32) -> Result<(Tag, u32, &Telegram), Refusal>
     requires { IsSound plan.now.groups }
     ensures ok { IfOk result (λ r. find_telegram id pig plan.now.groups ≡ Ok (record { group = r.0; place = r.1; telegram = r.2.now })) }
-    ensures tags { IfOk result (λ r. Distinct same_tag r.2.now.packets) }
     ensures fault { IfErr result (λ e. find_telegram id pig plan.now.groups ≡ Err e) }
 {
-    let Some(g) = plan.tag_of(id) else {
-        return Err(Refusal::NoSuchGroup);
+    let (g, t) = match telegram_at(plan, id, pig) {
+        Ok(tags) => tags,
+        Err(refusal) => return Err(refusal),
     };
-    let Some(group) = plan.group(g) else {
-        return Err(Refusal::NoSuchGroup);
-    };
-    match group.at(pig as usize) {
-        Some((t, telegram)) => Ok((g, t, telegram)),
-        None => Err(Refusal::NoSuchTelegram),
+    match plan.telegram(g, t) {
+        Some(telegram) => Ok((g, t, telegram)),
+        None => unreachable!(),
     }
 }
 
@@ -61,13 +83,13 @@ fn find_packet(
     ensures tags { IfOk result (λ r. Distinct same_tag r.2.now.packets) }
     ensures fault { IfErr result (λ e. find_packet id pig pkt plan.now.groups ≡ Err e) }
 {
-    let (g, t, telegram) = match find_telegram(plan, id, pig) {
-        Ok(found) => found,
-        Err(fault) => return Err(fault),
+    let (g, t, p) = match packet_at(plan, id, pig, pkt) {
+        Ok(tags) => tags,
+        Err(refusal) => return Err(refusal),
     };
-    match telegram.at(pkt as usize) {
-        Some((p, _)) => Ok((g, t, telegram, p)),
-        None => Err(Refusal::NoSuchPacket),
+    match plan.telegram(g, t) {
+        Some(telegram) => Ok((g, t, telegram, p)),
+        None => unreachable!(),
     }
 }
 
@@ -113,7 +135,7 @@ pub(crate) fn edit_asked(command: Command, plan: &Plan) -> Result<Edit, Refusal>
             k,
             value,
         } => {
-            let (g, t, _, p) = find_packet(plan, id, pig, pkt)?;
+            let (g, t, p) = packet_at(plan, id, pig, pkt)?;
             Ok(Edit::SetVar {
                 g,
                 t,
@@ -129,7 +151,7 @@ pub(crate) fn edit_asked(command: Command, plan: &Plan) -> Result<Edit, Refusal>
             var,
             value,
         } => {
-            let (g, t, _) = find_telegram(plan, id, pig)?;
+            let (g, t) = telegram_at(plan, id, pig)?;
             Ok(Edit::SetHead { g, t, var, value })
         }
         Command::InsertPacket {
@@ -139,7 +161,7 @@ pub(crate) fn edit_asked(command: Command, plan: &Plan) -> Result<Edit, Refusal>
             digits,
         } => insert(plan, id, pig, at, &digits),
         Command::DeletePacket { id, pig, pkt } => {
-            let (g, t, _, p) = find_packet(plan, id, pig, pkt)?;
+            let (g, t, p) = packet_at(plan, id, pig, pkt)?;
             Ok(Edit::DeletePacket { g, t, p })
         }
         Command::MovePacket { id, pig, pkt, at } => shift(plan, id, pig, pkt, at),
@@ -148,15 +170,15 @@ pub(crate) fn edit_asked(command: Command, plan: &Plan) -> Result<Edit, Refusal>
             Ok(Edit::AddGroup { after, telegrams })
         }
         Command::DropGroup { id } => {
-            let g = find_group(plan, id)?;
+            let g = group_at(plan, id)?;
             Ok(Edit::DropGroup { g })
         }
         Command::Renumber { id, number } => {
-            let g = find_group(plan, id)?;
+            let g = group_at(plan, id)?;
             Ok(Edit::Renumber { g, number })
         }
         Command::TurnGroup { id } => {
-            let g = find_group(plan, id)?;
+            let g = group_at(plan, id)?;
             Ok(Edit::TurnGroup { g })
         }
     }

@@ -1,17 +1,21 @@
 //! A session: commands on a plan, undo, redo and strike in place.
 
-ghost use Rattle.std.specs.Prelude.{◌≡◌, ◌≢◌, ◌+◌, ◌<◌, ◌≤◌, ◌^◌, [], ℕ, length, map, nat_le, Err, IfNone, IfOk, IfSome, IsOkUnless};
+ghost use Rattle.std.specs.Prelude.{◌≡◌, ◌≢◌, ◌+◌, ◌<◌, ◌≤◌, ◌^◌, [], ℕ, length, map, nat_le, Err, IfErr, IfNone, IfOk, IfSome, IsErrOf, IsOkUnless, Ok};
 ghost use Rattle.balise_commands.specs.Lines.{line_in};
 ghost use Rattle.balise_commands.specs.Commands.{command_of};
-ghost use Rattle.balise_history.specs.Sessions.{reply_of, seen_at, ChangesOnce, IsWorn};
+ghost use Rattle.balise_history.specs.Openings.{FailsAt};
+ghost use Rattle.balise_history.specs.Sessions.{reply_of, ChangesOnce, IsWorn};
+ghost use Rattle.balise_history.specs.Tests.{StrikeMayRunOut};
 ghost use Rattle.balise_rules.specs.Accepting.{Unused};
 ghost use Rattle.balise_rules.specs.Journal.{line_of, lines, undone};
+ghost use Rattle.balise_rules.specs.Opening.{from_entries};
 ghost use Rattle.balise_rules.specs.Plan.{IsSound};
 ghost use Rattle.balise_rules.specs.Session.{entries, held, later, most_commands, opened, Answers};
 ghost use Rattle.balise_rules.specs.Session as rules;
-ghost use Rattle.balise_strike_laws.specs.Headline.{Promised};
 
 use crate::edited::EditedPlan;
+use crate::journal_fault::JournalFault;
+use crate::opening::Opening;
 use crate::struck::Struck;
 use balise_commands::Command;
 use balise_edits::{Entry, Line};
@@ -26,8 +30,8 @@ const MOST_COMMANDS: u32 = 1_000_000;
 /// A session over a plan. Its plan is at every moment what the standing edits, in order, make of the plan first read.
 #[derive(Drop)]
 pub struct Session {
-    edited: EditedPlan,
-    count: u32,
+    pub(crate) edited: EditedPlan,
+    pub(crate) count: u32,
 }
 
 impl Model for Session {
@@ -38,6 +42,18 @@ impl Model for Session {
     ghost view = { λ s. specs.seen_at s.count s.edited };
 
     ghost invariant = { λ s. specs.IsWithin s.edited s.count };
+}
+
+// The lines of entries.
+fn lines_of(alloc: Global, entries: &[Entry]) -> Result<Vec<Line>, Refusal>
+    ensures ok { IfOk result (λ v. map line_in v.items ≡ map line_of entries.now) }
+    ensures fault { IsOkUnless result Refusal.OutOfMemory }
+{
+    let mut lines = Vec::new(alloc);
+    for entry in entries {
+        lines.push(entry.line()?)?;
+    }
+    Ok(lines)
 }
 
 impl Session {
@@ -54,13 +70,42 @@ impl Session {
         }
     }
 
-    /// The session of what was read from a journal, of which nothing is counted.
-    pub(crate) fn of(edited: EditedPlan) -> Session
-        requires serials { edited.serial ≤ 4000000000 }
-        requires changes { edited.changes ≤ 2 ^ 62 + 8000000000 }
-        ensures { result ≡ seen_at 0 edited }
+    /// The session of a journal: of its next serial, and of its lines done in order. Each line is one change of the
+    /// plan.
+    ///
+    /// Refused as `JournalMismatch`, with no place where the next serial isn't from 1 to 4,000,000,000, else at the
+    /// first line that doesn't fit; or as `OutOfMemory`, at a line.
+    pub fn from_entries(
+        alloc: Global,
+        plan: Plan,
+        next: u32,
+        lines: Vec<Line>,
+    ) -> Result<Session, JournalFault>
+        requires sound { IsSound plan.groups }
+        requires untagged { (n : ℕ) → Unused n plan.groups }
+        requires changes { plan.changes < 2 ^ 62 }
+        ensures ok { IfOk result (λ s. from_entries plan.groups next (map line_in lines.items) ≡ Ok s.state) }
+        ensures changes { IfOk result (λ s. s.changes ≡ plan.changes + length lines.items) }
+        ensures fault { IfErr result (FailsAt plan.groups next (map line_in lines.items)) }
     {
-        Session { edited, count: 0 }
+        let mut opening = match Opening::new(alloc, plan, next) {
+            Ok(opening) => opening,
+            Err(refusal) => return Err(JournalFault { at: None, refusal }),
+        };
+        let mut place = 0;
+        for line in lines {
+            match opening.entry(line) {
+                Ok(more) => opening = more,
+                Err(refusal) => {
+                    return Err(JournalFault {
+                        at: Some(place),
+                        refusal,
+                    });
+                }
+            }
+            place += 1;
+        }
+        Ok(opening.done())
     }
 
     /// Does an edit and answers its serial. What was undone or struck can't be done again then.
@@ -115,9 +160,10 @@ impl Session {
     /// Takes the standing edit of a serial back, where all later ones are independent of it.
     ///
     /// Refused in this order: `Worn`, `NoSuchEdit`, `DependsOn` with the serial of the first later edit that isn't
-    /// independent, or as `OutOfMemory`.
+    /// independent. Memory may run out only before such an edit is met.
     pub fn strike(&mut self, serial: u32) -> Result<Struck, Refusal>
         ensures answers { Answers (rules.Strike serial) self.old.state (reply_of (λ s. rules.Struck s.serial) result) self.new.state }
+        ensures memory { IsErrOf result Refusal.OutOfMemory → StrikeMayRunOut serial self.old.state.base self.old.state.standing }
         ensures compared { IfOk result (λ s. s.compared ≡ length (later serial (entries self.old.state.base self.old.state.standing))) }
         ensures changes { ChangesOnce self.old self.new }
         ensures worn { IsWorn self.old.state → result ≡ Err Refusal.Worn }
@@ -141,14 +187,16 @@ impl Session {
     pub fn plan(&self) -> &Plan
         ensures { result.now ≡ record { groups = held self.now.state; changes = self.now.changes } }
     {
-        self.edited.plan()
+        let edited = &self.edited;
+        &edited.plan
     }
 
     /// The standing edits with what they noted, by rising serial.
     pub fn standing(&self) -> &[Entry]
         ensures { result.now ≡ entries self.now.state.base self.now.state.standing }
     {
-        self.edited.standing()
+        let edited = &self.edited;
+        edited.history.standing()
     }
 
     /// The lines of its journal: those of `all_back`. Refused as `OutOfMemory` alone.
@@ -156,7 +204,12 @@ impl Session {
         ensures ok { IfOk result (λ v. map line_in v.items ≡ lines self.now.state) }
         ensures fault { IsOkUnless result Refusal.OutOfMemory }
     {
-        self.edited.lines()
+        let alloc = self.edited.history.allocator();
+        if let Some(entries) = self.all_standing() {
+            return lines_of(alloc, entries);
+        }
+        let entries = self.all_back()?;
+        lines_of(alloc, &entries)
     }
 
     /// The standing edits, where nothing is undone or struck: the journal tells them alone then. Takes no memory.
@@ -165,7 +218,11 @@ impl Session {
         ensures none { IfNone result (self.now.state.stack ≢ []) }
         ensures entries { IfSome result (λ es. map line_of es.now ≡ lines self.now.state) }
     {
-        self.edited.all_standing()
+        let edited = &self.edited;
+        match edited.history.top() {
+            Some(_) => None,
+            None => Some(self.standing()),
+        }
     }
 
     /// The edits that its journal tells: those that would stand if all that was undone or struck were done again, with
@@ -174,7 +231,8 @@ impl Session {
         ensures ok { IfOk result (λ v. map line_of v.items ≡ lines self.now.state) }
         ensures fault { IsOkUnless result Refusal.OutOfMemory }
     {
-        self.edited.all_back()
+        let edited = &self.edited;
+        edited.history.all_back()
     }
 
     /// The serials of the edits that were undone or struck, the last one last. Refused as `OutOfMemory` alone.
@@ -182,20 +240,15 @@ impl Session {
         ensures ok { IfOk result (λ v. v.items ≡ undone self.now.state) }
         ensures fault { IsOkUnless result Refusal.OutOfMemory }
     {
-        self.edited.undone()
-    }
-
-    /// What it promises.
-    pub(crate) fn promise(&self)
-        ensures { Promised self.now.state.base self.now.state }
-    {
-        self.edited.promise();
+        let edited = &self.edited;
+        edited.history.undone()
     }
 
     /// The serial that the next edit gets.
     pub fn next_serial(&self) -> u32
         ensures { result ≡ self.now.state.serial }
     {
-        self.edited.next()
+        let edited = &self.edited;
+        edited.next
     }
 }

@@ -7,7 +7,7 @@ mod reading;
 mod turning;
 
 ghost use Rattle.std.specs.Prelude.{◌≡◌, eqb, length, option_map, slice_get, position};
-ghost use Rattle.balise_rules.specs.Plan.{Group as GroupValue, identity_of};
+ghost use Rattle.balise_rules.specs.Plan.{identity_of, IsSoundGroup};
 ghost use Rattle.balise_rules.specs.Tagged.{find as under};
 
 use crate::one_or_more::OneOrMore;
@@ -18,28 +18,34 @@ use std::marker::Model;
 /// Telegrams under their tags. Most groups have one.
 pub(crate) type Telegrams = OneOrMore<(u32, Telegram)>;
 
-/// A group.
+/// A group. It is sound.
 #[derive(Drop)]
 pub struct Group {
     telegrams: Telegrams,
 }
 
 impl Model for Group {
-    ghost use Rattle.std.specs.Prelude.{eqb};
     ghost use Rattle.balise_rules.specs.Plan as rules;
-    ghost use Rattle.balise_rules.specs.Tagged.{Distinct};
 
     ghost Value = { rules.Group };
 
     ghost view = { λ g. g.telegrams };
 
-    ghost invariant = { λ g. Distinct eqb g.telegrams };
+    ghost invariant = { λ g. rules.IsSoundGroup g.telegrams };
 }
 
 impl Group {
     /// Its identity: that of its first telegram.
     pub fn identity(&self) -> Id
         ensures { result ≡ identity_of self.now }
+    {
+        identity(&self.telegrams)
+    }
+
+    /// Its identity, for callers that have to know that it is sound: a group's value alone doesn't say so.
+    pub(crate) fn sound_identity(&self) -> Id
+        ensures is { result ≡ identity_of self.now }
+        ensures sound { IsSoundGroup self.now }
     {
         identity(&self.telegrams)
     }

@@ -1,7 +1,7 @@
 //! A group put into a plan's groups and indexes.
 
 ghost use Rattle.std.specs.Prelude.{◌≡◌, ◌≤◌, is_some, insert, length, IfErr, IfSome, None, OnOk};
-ghost use Rattle.balise_rules.specs.Plan.{group_named, identity_of, Group as GroupValue, IsSoundGroup};
+ghost use Rattle.balise_rules.specs.Plan.{group_named, identity_of, Group as GroupValue};
 ghost use Rattle.balise_rules.specs.Tagged.{find};
 ghost use Rattle.balise_rules.specs.Tags.{same_tag};
 ghost use Rattle.balise_plan.specs.Held.{IsHeld};
@@ -52,7 +52,6 @@ pub(crate) fn put_at(
     requires held { IsHeld identities.old names.old groups.old.entries }
     requires within { i ≤ length groups.old.entries }
     requires new { find same_tag g groups.old.entries ≡ None }
-    requires sound { IsSoundGroup group }
     requires free { group_named (identity_of group) groups.old.entries ≡ None }
     ensures put { OnOk result (groups.new.entries ≡ insert groups.old.entries i (g, group)) }
     ensures back { IfErr result (λ b. b ≡ group) }
@@ -60,7 +59,7 @@ pub(crate) fn put_at(
     ensures held { IsHeld identities.new names.new groups.new.entries }
 {
     let alloc = groups.allocator();
-    let own = group.identity();
+    let own = group.sound_identity();
     if groups.reserve(1).is_err() {
         return Err(group);
     }

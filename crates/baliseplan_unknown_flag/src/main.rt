@@ -1,18 +1,9 @@
 //! The program with a flag that it doesn't know: status 64, and nothing on standard output.
 #![tactic(auto)]
 
-use balise_cli::{Counted, launch, stop_without_memory};
-use std::io::BufWriter;
+use balise_cli::launch_on_system;
 use std::process::ExitCode;
-use std::{env, io};
 
 fn main(rt: HostRuntime) -> ExitCode {
-    let alloc = rt.alloc();
-    let mut errors = Counted::new(rt.stderr());
-    let Ok(output) = BufWriter::new(alloc, io::writer(&rt)) else {
-        return ExitCode::from(stop_without_memory(&mut errors).code);
-    };
-    let (mut reader, mut writer) = (Counted::new(rt.reader()), Counted::new(output));
-    let exit = launch(alloc, env::args(&rt), &mut reader, &mut writer, &mut errors);
-    ExitCode::from(exit.code)
+    launch_on_system!(rt)
 }

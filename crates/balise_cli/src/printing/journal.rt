@@ -8,23 +8,17 @@ ghost use Rattle.balise_lines.specs.Writing.{Writes};
 ghost use Rattle.balise_text.specs.Texts.{text_of};
 
 use crate::fault::RunFault;
-use balise_edits::Entry;
-use balise_history::Session;
+use balise_history::{Entry, Session};
 use balise_lines::{Counted, WriteFault};
 use balise_text::{put_entry, put_head, put_undone};
-use std::alloc::Global;
 use std::io::Write;
 
 // Writes the lines of entries, one after another.
-fn put_entries<W: Write>(
-    writer: &mut Counted<W>,
-    alloc: Global,
-    entries: &[Entry],
-) -> Result<(), RunFault>
+fn put_entries<W: Write>(writer: &mut Counted<W>, entries: &[Entry]) -> Result<(), RunFault>
     ensures { Prints W.contents writer.old writer.new result (text_of (map told entries.now)) }
 {
     for entry in entries {
-        let Ok(line) = entry.line(alloc) else {
+        let Ok(line) = entry.line() else {
             return Err(RunFault::OutOfMemory);
         };
         if let Err(fault) = put_entry(writer, &line) {
@@ -53,12 +47,11 @@ pub(crate) fn put_journal<W: Write>(
 ) -> Result<(), RunFault>
     ensures { Prints W.contents writer.old writer.new result (journal_text session.now.state) }
 {
-    let alloc = session.plan().allocator();
     if let Err(fault) = put_head(writer, session.next_serial()) {
         return Err(RunFault::from(fault));
     }
     if let Some(entries) = session.all_standing() {
-        return put_entries(writer, alloc, entries);
+        return put_entries(writer, entries);
     }
     let Ok(entries) = session.all_back() else {
         return Err(RunFault::OutOfMemory);
@@ -66,7 +59,7 @@ pub(crate) fn put_journal<W: Write>(
     let Ok(undone) = session.undone() else {
         return Err(RunFault::OutOfMemory);
     };
-    if let Err(fault) = put_entries(writer, alloc, &entries) {
+    if let Err(fault) = put_entries(writer, &entries) {
         return Err(fault);
     }
     match put_all_undone(writer, &undone) {

@@ -1,4 +1,4 @@
-//! Fields set: done, taken back and done again.
+//! Fields set: done and taken back.
 
 ghost use Rattle.std.specs.Prelude.{◌≡◌, ◌<◌, ◌^◌, ℕ, false, IfOk, IsOk};
 ghost use Rattle.balise_rules.specs.declared.variable.Var.TheVariants.{NidBg};
@@ -7,7 +7,7 @@ ghost use Rattle.balise_rules.specs.Tags.{same_var};
 ghost use Rattle.balise_rules.specs.Notes.{noted};
 ghost use Rattle.balise_plan.specs.Held.{Does, DoesAlways};
 ghost use Rattle.balise_edits.specs.Notes.{kind_in, note_of, OfField, OfHeader};
-ghost use Rattle.balise_edits.specs.Standing.{DoesAgain, IsLast, IsNext, TakesBack};
+ghost use Rattle.balise_edits.specs.Standing.{IsLast, TakesBack};
 
 use crate::entry::Entry;
 use crate::naming::names_set;
@@ -27,6 +27,7 @@ pub(crate) fn set_var(
 ) -> Result<Note, Refusal>
     requires count { plan.old.changes < 2 ^ 63 }
     ensures does { Does (SetVar g t p var k value) plan.old result plan.new }
+    ensures always { same_var var NidBg ≡ false → DoesAlways (SetVar g t p var k value) plan.old result plan.new }
     ensures noted { IfOk result (λ m. note_of m ≡ noted (SetVar g t p var k value) plan.old.groups) }
     ensures kind { IfOk result (λ m. kind_in m ≡ OfField) }
 {
@@ -56,29 +57,6 @@ pub(crate) fn set_var_back(
 {
     let old = entry.note().old();
     match plan.set_field(g, t, p, var, k, old) {
-        Ok(_) => Ok(()),
-        Err(fault) => Err(fault),
-    }
-}
-
-/// Sets it again. Takes no memory but for NID_BG, and is refused for want of it alone.
-pub(crate) fn set_var_again(
-    plan: &mut Plan,
-    entry: &mut Entry,
-    g: Tag,
-    t: u32,
-    p: Tag,
-    var: Var,
-    k: u32,
-    value: u32,
-) -> Result<(), Refusal>
-    requires count { plan.old.changes < 2 ^ 63 }
-    requires is { entry.old.0.1 ≡ SetVar g t p var k value }
-    requires next { IsNext entry.old plan.old.groups }
-    ensures again { DoesAgain entry.old plan.old result entry.new plan.new }
-    ensures always { same_var var NidBg ≡ false → IsOk result }
-{
-    match plan.set_field(g, t, p, var, k, value) {
         Ok(_) => Ok(()),
         Err(fault) => Err(fault),
     }
@@ -120,27 +98,6 @@ pub(crate) fn set_head_back(
 {
     let old = entry.note().old();
     match plan.set_head(g, t, var, old) {
-        Ok(_) => Ok(()),
-        Err(fault) => Err(fault),
-    }
-}
-
-/// Sets it again. Takes no memory, and is never refused.
-pub(crate) fn set_head_again(
-    plan: &mut Plan,
-    entry: &mut Entry,
-    g: Tag,
-    t: u32,
-    var: Var,
-    value: u32,
-) -> Result<(), Refusal>
-    requires count { plan.old.changes < 2 ^ 63 }
-    requires is { entry.old.0.1 ≡ SetHead g t var value }
-    requires next { IsNext entry.old plan.old.groups }
-    ensures again { DoesAgain entry.old plan.old result entry.new plan.new }
-    ensures ok { IsOk result }
-{
-    match plan.set_head(g, t, var, value) {
         Ok(_) => Ok(()),
         Err(fault) => Err(fault),
     }

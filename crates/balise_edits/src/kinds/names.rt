@@ -1,11 +1,11 @@
-//! A group renumbered: done, taken back and done again.
+//! A group renumbered: done and taken back.
 
 ghost use Rattle.std.specs.Prelude.{◌≡◌, ◌<◌, ◌^◌, ℕ, IfOk};
 ghost use Rattle.balise_rules.specs.Edits.{Renumber};
 ghost use Rattle.balise_rules.specs.Notes.{noted};
 ghost use Rattle.balise_plan.specs.Held.{Does};
 ghost use Rattle.balise_edits.specs.Notes.{kind_in, note_of, OfGroup};
-ghost use Rattle.balise_edits.specs.Standing.{DoesAgain, IsLast, IsNext, TakesBack};
+ghost use Rattle.balise_edits.specs.Standing.{IsLast, TakesBack};
 
 use crate::entry::Entry;
 use crate::note::Note;
@@ -38,24 +38,6 @@ pub(crate) fn renumber_back(plan: &mut Plan, entry: &mut Entry, g: Tag) -> Resul
 {
     let old = entry.note().old();
     match plan.rename(g, old) {
-        Ok(_) => Ok(()),
-        Err(fault) => Err(fault),
-    }
-}
-
-/// Gives it the other number again, and is refused for want of memory alone.
-pub(crate) fn renumber_again(
-    plan: &mut Plan,
-    entry: &mut Entry,
-    g: Tag,
-    number: u32,
-) -> Result<(), Refusal>
-    requires count { plan.old.changes < 2 ^ 63 }
-    requires is { entry.old.0.1 ≡ Renumber g number }
-    requires next { IsNext entry.old plan.old.groups }
-    ensures { DoesAgain entry.old plan.old result entry.new plan.new }
-{
-    match plan.rename(g, number) {
         Ok(_) => Ok(()),
         Err(fault) => Err(fault),
     }

@@ -1,4 +1,4 @@
-//! A packet put in, taken out or moved: done, taken back and done again.
+//! A packet put in, taken out or moved: done and taken back, and put in or taken out again.
 
 ghost use Rattle.std.specs.Prelude.{◌≡◌, ◌<◌, ◌^◌, Option, IfOk};
 ghost use Rattle.balise_rules.specs.declared.tag.Tag.{Tag};
@@ -217,26 +217,6 @@ pub(crate) fn shift_back(
 {
     let before = entry.note().before();
     match plan.shift_packet(g, t, p, Spot::Before(before)) {
-        Ok(_) => Ok(()),
-        Err(fault) => Err(fault),
-    }
-}
-
-/// Moves it again, and is refused for want of memory alone.
-pub(crate) fn shift_again(
-    plan: &mut Plan,
-    entry: &mut Entry,
-    g: Tag,
-    t: u32,
-    p: Tag,
-    after: Option<Tag>,
-) -> Result<(), Refusal>
-    requires count { plan.old.changes < 2 ^ 63 }
-    requires is { entry.old.0.1 ≡ MovePacket g t p after }
-    requires next { IsNext entry.old plan.old.groups }
-    ensures { DoesAgain entry.old plan.old result entry.new plan.new }
-{
-    match plan.shift_packet(g, t, p, Spot::After(after)) {
         Ok(_) => Ok(()),
         Err(fault) => Err(fault),
     }

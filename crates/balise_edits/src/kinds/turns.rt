@@ -1,11 +1,11 @@
-//! A group turned: done, taken back and done again.
+//! A group turned: done and taken back.
 
 ghost use Rattle.std.specs.Prelude.{◌≡◌, ◌<◌, ◌^◌, IfOk, IsOk};
 ghost use Rattle.balise_rules.specs.Edits.{TurnGroup};
 ghost use Rattle.balise_rules.specs.Notes.{noted};
 ghost use Rattle.balise_plan.specs.Held.{DoesAlways};
 ghost use Rattle.balise_edits.specs.Notes.{kind_in, note_of, OfGroup};
-ghost use Rattle.balise_edits.specs.Standing.{DoesAgain, IsLast, IsNext, TakesBack};
+ghost use Rattle.balise_edits.specs.Standing.{IsLast, TakesBack};
 
 use crate::entry::Entry;
 use crate::note::Note;
@@ -35,20 +35,6 @@ pub(crate) fn turn_back(plan: &mut Plan, entry: &mut Entry, g: Tag) -> Result<()
     requires is { entry.old.0.1 ≡ TurnGroup g }
     requires last { IsLast entry.old plan.old.groups }
     ensures back { TakesBack entry.old plan.old result entry.new plan.new }
-    ensures ok { IsOk result }
-{
-    match plan.turn(g) {
-        Ok(()) => Ok(()),
-        Err(fault) => Err(fault),
-    }
-}
-
-/// Turns it again. Takes no memory, and is never refused.
-pub(crate) fn turn_again(plan: &mut Plan, entry: &mut Entry, g: Tag) -> Result<(), Refusal>
-    requires count { plan.old.changes < 2 ^ 63 }
-    requires is { entry.old.0.1 ≡ TurnGroup g }
-    requires next { IsNext entry.old plan.old.groups }
-    ensures again { DoesAgain entry.old plan.old result entry.new plan.new }
     ensures ok { IsOk result }
 {
     match plan.turn(g) {

@@ -2,7 +2,8 @@
 
 ghost use Rattle.balise_plan.specs.Within.{Within, Passed, no_telegram};
 ghost use Rattle.balise_plan.specs.Walks.{changed, in_group, with_number, FitsName};
-ghost use Rattle.std.specs.Prelude.{eqb, ◌≡◌, ◌<◌, ◌^◌, IfOk, IfErr};
+ghost use Rattle.std.specs.Prelude.{eqb, ◌≡◌, ◌≢◌, ◌<◌, ◌^◌, IfOk, IfErr};
+ghost use Rattle.balise_rules.specs.Plan.{reserved};
 ghost use Rattle.balise_plan.specs.ElementIn.{ElementIn, NoTelegram};
 ghost use Rattle.balise_telegram.specs.Setting.{SetsField, SetsHead};
 ghost use Rattle.balise_telegram.specs.Changes.{OrWants};
@@ -100,7 +101,8 @@ impl Group {
 
     /// Another number in each header. Takes no memory.
     pub(crate) fn put_number(&mut self, number: u32)
-        requires { number < 2 ^ 14 }
+        requires fits { number < 2 ^ 14 }
+        requires other { number ≢ reserved }
         ensures { self.new ≡ with_number number self.old }
     {
         number_each(&mut self.telegrams, number);

@@ -1,11 +1,12 @@
 //! Going over links.
 
-ghost use Rattle.std.specs.Prelude.{◌≡◌, ◌<◌, ◌^◌};
+ghost use Rattle.std.specs.Prelude.{◌≡◌, ◌≢◌, ◌<◌, ◌^◌};
 ghost use Rattle.balise_index.specs.Identities.{indexed};
+ghost use Rattle.balise_rules.specs.Plan.{reserved};
 ghost use Rattle.balise_rules.specs.Tagged.{Distinct};
 ghost use Rattle.balise_rules.specs.Tags.{same_tag};
 ghost use Rattle.balise_index.specs.Places.{Once};
-ghost use Rattle.balise_plan.specs.Walks.{change_all, change_at, places_of, renumbered_heads, turned_in, FitsIn, FitsName};
+ghost use Rattle.balise_plan.specs.Walks.{change_all, change_at, places_of, renumbered_heads, turned_in, FitsName};
 
 use crate::group::Group;
 use crate::links::change::Change;
@@ -59,6 +60,7 @@ pub(crate) fn change_links(
 /// Gives one group another number in each header. Takes no memory.
 pub(crate) fn number_group(groups: &mut OrderedMap<Group>, g: Tag, number: u32)
     requires fits { number < 2 ^ 14 }
+    requires other { number ≢ reserved }
     requires tags { Distinct same_tag groups.old.entries }
     ensures { groups.new.entries ≡ renumbered_heads g number groups.old.entries }
 {
@@ -70,7 +72,6 @@ pub(crate) fn number_group(groups: &mut OrderedMap<Group>, g: Tag, number: u32)
 
 /// Turns one group, its links apart. Takes no memory.
 pub(crate) fn turn_group(groups: &mut OrderedMap<Group>, g: Tag)
-    requires fits { FitsIn g groups.old.entries }
     requires tags { Distinct same_tag groups.old.entries }
     ensures { groups.new.entries ≡ turned_in g groups.old.entries }
 {

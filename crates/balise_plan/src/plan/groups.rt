@@ -1,12 +1,12 @@
 //! Groups of a plan put in and taken out.
 
-ghost use Rattle.std.specs.Prelude.{◌≡◌, ◌<◌, ◌^◌, IfOk, Some, None, option_map, slice_get};
+ghost use Rattle.std.specs.Prelude.{◌≡◌, IfOk, Some, None, option_map, slice_get};
 ghost use Rattle.balise_rules.specs.Edits.{DropGroup};
 ghost use Rattle.balise_rules.specs.Notes.{noted};
 ghost use Rattle.balise_rules.specs.Plan.{IsSoundGroup};
 ghost use Rattle.balise_rules.specs.Tagged.{find};
 ghost use Rattle.balise_rules.specs.Tags.{same_tag};
-ghost use Rattle.balise_plan.specs.Held.{Does};
+ghost use Rattle.balise_plan.specs.Held.{Does, MayChange};
 ghost use Rattle.balise_plan.specs.Spots.{PutsGroup};
 
 use crate::group::Group;
@@ -27,9 +27,8 @@ impl Plan {
         g: Tag,
         group: Group,
     ) -> Result<(), (Refusal, Group)>
-        requires count { self.old.changes < 2 ^ 63 }
+        requires count { MayChange self.old }
         requires new { find same_tag g self.old.groups ≡ None }
-        requires sound { IsSoundGroup group }
         ensures { PutsGroup spot g group self.old result self.new }
     {
         let Some(i) = place_of(&self.groups, spot) else {
@@ -57,7 +56,7 @@ impl Plan {
     ///
     /// Refused, and then all stays: `NoSuchGroup`. `OutOfMemory` may stand in place of any answer.
     pub fn take_group(&mut self, g: Tag) -> Result<(Group, Option<Tag>), Refusal>
-        requires count { self.old.changes < 2 ^ 63 }
+        requires count { MayChange self.old }
         ensures does { Does (DropGroup g) self.old result self.new }
         ensures taken { IfOk result (λ r. ((noted (DropGroup g) self.old.groups).group ≡ Some r.0) × ((noted (DropGroup g) self.old.groups).before ≡ r.1)) }
         ensures sound { IfOk result (λ r. IsSoundGroup r.0) }
@@ -65,7 +64,7 @@ impl Plan {
         let Some(group) = self.groups.get(g) else {
             return Err(Refusal::NoSuchGroup);
         };
-        let own = group.identity();
+        let own = group.sound_identity();
         forget_group(&mut self.names, g, group);
         let _ = self.identities.remove(own);
         let (i, group) = self.groups.remove(g).unwrap();

@@ -1,6 +1,6 @@
 //! Packets of a plan put in, taken out and moved.
 
-ghost use Rattle.std.specs.Prelude.{◌≡◌, ◌<◌, ◌^◌, IfOk, Some, None};
+ghost use Rattle.std.specs.Prelude.{◌≡◌, IfOk, Some, None};
 ghost use Rattle.balise_rules.specs.Edits.{DeletePacket, MovePacket};
 ghost use Rattle.balise_rules.specs.Notes.{noted};
 ghost use Rattle.balise_rules.specs.Packet.{IsSpelt};
@@ -8,7 +8,7 @@ ghost use Rattle.balise_rules.specs.Plan.{telegram_at};
 ghost use Rattle.balise_rules.specs.Tagged.{find};
 ghost use Rattle.balise_rules.specs.Tags.{same_tag};
 ghost use Rattle.balise_rules.specs.Telegram.{Telegram, version_of};
-ghost use Rattle.balise_plan.specs.Held.{Does};
+ghost use Rattle.balise_plan.specs.Held.{Does, MayChange};
 ghost use Rattle.balise_plan.specs.Spots.{PutsPacket, ShiftsPacket};
 
 use crate::links::packet::{add_packet, forget_packet};
@@ -32,7 +32,7 @@ impl Plan {
         p: Tag,
         packet: Packet,
     ) -> Result<(), (Refusal, Packet)>
-        requires count { self.old.changes < 2 ^ 63 }
+        requires count { MayChange self.old }
         requires new { (y : Telegram) → telegram_at g t self.old.groups ≡ Some y → find same_tag p y.packets ≡ None }
         requires spelt { (y : Telegram) → telegram_at g t self.old.groups ≡ Some y → IsSpelt (version_of y) packet }
         ensures { PutsPacket g t spot p packet self.old result self.new }
@@ -66,7 +66,7 @@ impl Plan {
     /// Refused in this order, and then all stays: `NoSuchGroup`, `NoSuchTelegram`, `NoSuchPacket`. `OutOfMemory` may
     /// stand in place of any answer.
     pub fn take_packet(&mut self, g: Tag, t: u32, p: Tag) -> Result<(Packet, Option<Tag>), Refusal>
-        requires count { self.old.changes < 2 ^ 63 }
+        requires count { MayChange self.old }
         ensures does { Does (DeletePacket g t p) self.old result self.new }
         ensures taken { IfOk result (λ r. ((noted (DeletePacket g t p) self.old.groups).packet ≡ Some r.0) × ((noted (DeletePacket g t p) self.old.groups).before ≡ r.1)) }
     {
@@ -101,7 +101,7 @@ impl Plan {
         p: Tag,
         spot: Spot<Tag>,
     ) -> Result<Option<Tag>, Refusal>
-        requires count { self.old.changes < 2 ^ 63 }
+        requires count { MayChange self.old }
         ensures shifts { ShiftsPacket g t p spot self.old result self.new }
         ensures next { IfOk result (λ n. (noted (MovePacket g t p None) self.old.groups).before ≡ n) }
     {

@@ -2,7 +2,7 @@
 
 ghost use Rattle.std.specs.Prelude.{◌≡◌, ◌≢◌, Bool, IfErr, IfOk, OnOk, Ok, Err, List, map, []};
 ghost use Rattle.balise_plan.specs.GroupReading.{PushesGroup, PushesRead};
-ghost use Rattle.balise_rules.specs.Plan.{pushed, read_plan, IsSoundGroup};
+ghost use Rattle.balise_rules.specs.Plan.{pushed, read_plan};
 ghost use Rattle.balise_plan.specs.Spots.{Pushes};
 
 use crate::group::Group;
@@ -62,8 +62,7 @@ impl Plan {
 
     // The same of a group that was read.
     fn push_read(&mut self, group: Group) -> Result<(), Refusal>
-        requires changes { self.old.changes ≡ 0 }
-        requires sound { IsSoundGroup group }
+        requires { self.old.changes ≡ 0 }
         ensures { PushesGroup group self.old result self.new }
     {
         let own = group.identity();

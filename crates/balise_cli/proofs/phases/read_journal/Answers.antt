@@ -1,11 +1,12 @@
-use Rattle.std.proofs.Common.{◌∙◌, ℕ, None, Some, [], ap, refl, subst, sym}
+use Rattle.std.proofs.Common.{◌∙◌, ℕ, [], ap, refl, subst, sym}
 use Rattle.std.proofs.KnownBytes.{Appends-nil}
 use Rattle.balise_rules.specs.declared.refusal.Refusal.TheVariants.{BadLine}
 use Rattle.balise_lines.specs.Lines.{Line}
 use Rattle.balise_lines.specs.Reading.{Took, TookLine, TookNone, line_of, number_of}
 use Rattle.balise_cli.specs.Output.{Bad, after_read}
-use Rattle.balise_cli.specs.Phases.{journal_phase, journal_read}
+use Rattle.balise_cli.specs.Phases.{journal_end, journal_phase, journal_step}
 use Rattle.balise_cli.specs.Progress.{RanToFault}
+use Rattle.balise_cli.specs.declared.journal_reader.JournalStep.TheVariants as step
 use Rattle.balise_cli.proofs.Endings.{end_refused, line_out, line_read, read_here}
 use Rattle.balise_cli.proofs.phases.read_journal.Goals as goal
 
@@ -40,19 +41,19 @@ returns-in-Err-read-clause-reads g c =
     line_out flags had old now p c.lines.lines c.next.new.lines was has (inv.2 flags had old now go) line took c.in-Ok-Line.ensures.over tt c.in-Err-read.fault c.in-Err-read.ensures.fault ([], (refl, Appends-nil now))
     c.args.reader.now.failed c.next.new.reader.failed writes (c.in-Ok-Line.ensures.unfailed ∙ inv.0)
 
-pub returns-in-Ok-Some-clause-reads : goal.returns-in-Ok-Some-clause-reads
-returns-in-Ok-Some-clause-reads g c =
+pub returns-in-Ok-Over-clause-reads : goal.returns-in-Ok-Over-clause-reads
+returns-in-Ok-Over-clause-reads g c =
     let inv = c.lines.invariant in
     let was = g.R.Read.remaining c.lines.reader.inner in
     let has = g.R.Read.remaining c.next.new.reader.inner in
     let p = journal_phase c.lines.journal in
     let line : Line = record { bytes = line_of c.next.new.lines; is_ended = c.in-Ok-Line.field-0-0 } in
     let took : TookLine c.lines.lines was line c.next.new.lines has = subst (λ x. Took x c.lines.lines was c.next.new.lines has) c.in-Ok-Line.field-0-is c.in-Ok-Line.ensures.took in
-    let read = read_here p c.number-number.result (number_of c.lines.lines) c.line.result.now (line_of c.next.new.lines) (journal_read c.read.new.self (Some c.in-Ok-Some.end)) c.number-number.ensures c.line.ensures
-    (c.in-Ok-Some.ensures.ok ∙ ap (journal_read c.read.new.self) c.in-Ok-Some.field-0-is) in (
+    let read = read_here p c.number-number.result (number_of c.lines.lines) c.line.result.now (line_of c.next.new.lines) (journal_end c.in-Ok-Over.end) c.number-number.ensures c.line.ensures
+    (c.in-Ok-Over.ensures.ok ∙ ap journal_step c.in-Ok-Over.field-0-is) in (
       c.in-Ok-Line.ensures.unfailed ∙ inv.0,
       λ flags had old now go.
-          line_read flags had old now p c.lines.lines c.next.new.lines was has (inv.2 flags had old now go) line took c.in-Ok-Line.ensures.over tt (journal_read c.read.new.self (Some c.in-Ok-Some.end)) read,
+          line_read flags had old now p c.lines.lines c.next.new.lines was has (inv.2 flags had old now go) line took c.in-Ok-Line.ensures.over tt (journal_end c.in-Ok-Over.end) read,
     )
 
 pub lines-preserved : goal.lines-preserved
@@ -63,10 +64,10 @@ lines-preserved g c =
     let p = journal_phase c.lines.journal in
     let line : Line = record { bytes = line_of c.next.new.lines; is_ended = c.in-Ok-Line.field-0-0 } in
     let took : TookLine c.lines.lines was line c.next.new.lines has = subst (λ x. Took x c.lines.lines was c.next.new.lines has) c.in-Ok-Line.field-0-is c.in-Ok-Line.ensures.took in
-    let read = read_here p c.number-number.result (number_of c.lines.lines) c.line.result.now (line_of c.next.new.lines) (journal_read c.read.new.self None) c.number-number.ensures c.line.ensures
-    (c.in-Ok-None.ensures.ok ∙ ap (journal_read c.read.new.self) c.in-Ok-None.field-0-is) in (
+    let read = read_here p c.number-number.result (number_of c.lines.lines) c.line.result.now (line_of c.next.new.lines) (journal_step (step.On c.in-Ok-On.more)) c.number-number.ensures c.line.ensures
+    (c.in-Ok-On.ensures.ok ∙ ap journal_step c.in-Ok-On.field-0-is) in (
       c.in-Ok-Line.ensures.unfailed ∙ inv.0,
       c.in-Ok-Line.ensures.over,
       λ flags had old now go.
-          line_read flags had old now p c.lines.lines c.next.new.lines was has (inv.2 flags had old now go) line took c.in-Ok-Line.ensures.over tt (journal_read c.read.new.self None) read,
+          line_read flags had old now p c.lines.lines c.next.new.lines was has (inv.2 flags had old now go) line took c.in-Ok-Line.ensures.over tt (journal_step (step.On c.in-Ok-On.more)) read,
     )

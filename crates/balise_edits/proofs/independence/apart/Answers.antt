@@ -1,4 +1,4 @@
-use Rattle.std.proofs.Common.{◌≡◌, ◌∙◌, sym, ap}
+use Rattle.std.proofs.Common.{◌∙◌, sym, ap}
 use Rattle.balise_edits.specs.declared.home.Home.{Home}
 use Rattle.balise_edits.specs.Homes.{elsewhere}
 use Rattle.balise_edits.proofs.Elsewhere.{apart_elsewhere, home_at}

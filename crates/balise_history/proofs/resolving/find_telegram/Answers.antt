@@ -1,22 +1,20 @@
-use Rattle.std.proofs.Common.{Some, None, sym}
-use Rattle.balise_plan.proofs.Finding.{group_found, group_there, telegram_found, tags_there}
+use Rattle.std.proofs.Common.{◌≡◌, ◌∙◌, Option, Some, None, Ok, ap, sym}
+use Rattle.balise_rules.specs.Addresses.{FoundTelegram}
+use Rattle.balise_rules.specs.Telegram.{Telegram}
+use Rattle.balise_rules.proofs.Cases.{unsome}
+use Rattle.balise_history.proofs.Resolved.{telegram_again}
 use Rattle.balise_history.proofs.resolving.find_telegram.Goals as goal
 
-pub returns-in_default-group-clause-fault : goal.returns-in_default-group-clause-fault
-returns-in_default-group-clause-fault c =
-    absurd (group_there c.args.id c.args.plan.now.groups c.in-Some.g c.requires (sym c.in-Some.ensures) (sym c.in_default-group.ensures))
+pub unreachable-requires : goal.unreachable-requires
+unreachable-requires c =
+    let w = c.in-Ok.ensures.ok in
+    let f : FoundTelegram = record { group = c.in-Ok.tags.0; place = c.in-Ok.tags.1; telegram = w.0 } in
+    let k : ◌≡◌ {A = Option Telegram} None (Some w.0) = c.in-None.ensures.found ∙ telegram_again c.args.id c.args.pig c.args.plan.now.groups f c.requires w.1 in
+    cc
 
-pub returns-in-Some-at-clause-ok : goal.returns-in-Some-at-clause-ok
-returns-in-Some-at-clause-ok c =
-    let plan = c.args.plan.now.groups in
-    let group = group_found c.args.id plan c.in-Some.g c.in-Some-group.group.now c.requires (sym c.in-Some.ensures) (sym c.in-Some-group.ensures) in
-    telegram_found c.args.id c.args.pig plan c.in-Some.g c.in-Some-group.group.now (Some (c.in-Some-at.t, c.in-Some-at.telegram.now)) group (sym c.in-Some-at.ensures)
-
-pub returns-in-None-clause-fault : goal.returns-in-None-clause-fault
-returns-in-None-clause-fault c =
-    let plan = c.args.plan.now.groups in
-    let group = group_found c.args.id plan c.in-Some.g c.in-Some-group.group.now c.requires (sym c.in-Some.ensures) (sym c.in-Some-group.ensures) in
-    telegram_found c.args.id c.args.pig plan c.in-Some.g c.in-Some-group.group.now None group (sym c.in-None.ensures)
-
-pub returns-in-Some-at-clause-tags : goal.returns-in-Some-at-clause-tags
-returns-in-Some-at-clause-tags c = tags_there c.args.plan.now.groups c.in-Some.g c.in-Some-group.group.now c.args.pig c.in-Some-at.t c.in-Some-at.telegram.now c.requires (sym c.in-Some-group.ensures) (sym c.in-Some-at.ensures)
+pub returns-clause-ok : goal.returns-clause-ok
+returns-clause-ok c =
+    let w = c.in-Ok.ensures.ok in
+    let f : FoundTelegram = record { group = c.in-Ok.tags.0; place = c.in-Ok.tags.1; telegram = w.0 } in
+    let k : c.in-Some.telegram.now ≡ w.0 = unsome (c.in-Some.ensures.found ∙ telegram_again c.args.id c.args.pig c.args.plan.now.groups f c.requires w.1) in
+    w.1 ∙ ap (λ (y : Telegram). Ok (record f { telegram = y })) (sym k)

@@ -5,7 +5,7 @@ use Rattle.balise_index.proofs.order.Entries.{some_index}
 use Rattle.balise_rules.specs.Tags.{same_tag}
 use Rattle.balise_index.specs.declared.spot.Spot.TheVariants.{After, Before}
 use Rattle.balise_index.specs.AtSpot.{spot_stands}
-use Rattle.balise_plan.proofs.KeyPlaces.{found-after, found-before}
+use Rattle.balise_plan.proofs.items.KeyPlaces.{found-after, found-before}
 use Rattle.balise_plan.proofs.group_places.place_of.Goals as goal
 
 pub returns-in-Some-clause-put : goal.returns-in-Some-clause-put

@@ -1,9 +1,9 @@
-use Rattle.std.proofs.Common.{◌≡◌, ◌∙◌, None, inl, inr, refl, ap, subst, sym}
-use Rattle.balise_rules.specs.Doing.{done, refusal}
+use Rattle.std.proofs.Common.{◌≡◌, ◌∙◌, inl, inr, refl, ap}
+use Rattle.balise_rules.specs.Doing.{done}
 use Rattle.balise_rules.specs.Edits.{SetVar}
 use Rattle.balise_edits.specs.Standing.{changed_to}
-use Rattle.balise_edits.proofs.Bare.{asks_of, back_of, bare_last}
-use Rattle.balise_edits.proofs.Standing.{last_free}
+use Rattle.balise_edits.proofs.Bare.{back_of, bare_last}
+use Rattle.balise_edits.proofs.TakingBack.{var_free}
 use Rattle.balise_edits.proofs.kinds.fields.set_var_back.Goals as goal
 
 pub returns-in-Ok-clause-back : goal.returns-in-Ok-clause-back
@@ -17,19 +17,11 @@ returns-in-Ok-clause-back c =
 
 pub returns-in-Err-clause-back : goal.returns-in-Err-clause-back
 returns-in-Err-clause-back c =
-    let f = c.args.entry.now in
-    let groups = c.args.plan.now.groups in
-    let old : c.old-old.result ≡ f.1.old = c.old-old.ensures ∙ ap (λ m. m.old) c.note.ensures in
-    let asks = asks_of f (SetVar c.args.g c.args.t c.args.p c.args.var c.args.k c.requires.is.0) groups c.requires.is.1 c.requires.last in
-    let r : refusal (SetVar c.args.g c.args.t c.args.p c.args.var c.args.k c.old-old.result) groups ≡ None = subst (λ n. refusal (SetVar c.args.g c.args.t c.args.p c.args.var c.args.k n) groups ≡ None) (sym old) (last_free f (SetVar c.args.g c.args.t c.args.p c.args.var c.args.k f.1.old) groups c.requires.last asks) in
+    let r = var_free c.args.entry.now c.args.g c.args.t c.args.p c.args.var c.args.k c.requires.is.0 c.old-old.result c.args.plan.now.groups c.requires.is.1 c.requires.last (c.old-old.ensures ∙ ap (λ m. m.old) c.note.ensures) in
     (elim c.in-Err.ensures.does.0 [ inl e ↦ e | inr e ↦ absurd (cc) ], refl, c.in-Err.ensures.does.1)
 
 pub returns-in-Err-clause-always : goal.returns-in-Err-clause-always
 returns-in-Err-clause-always c h =
-    let f = c.args.entry.now in
-    let groups = c.args.plan.now.groups in
-    let old : c.old-old.result ≡ f.1.old = c.old-old.ensures ∙ ap (λ m. m.old) c.note.ensures in
-    let asks = asks_of f (SetVar c.args.g c.args.t c.args.p c.args.var c.args.k c.requires.is.0) groups c.requires.is.1 c.requires.last in
-    let r : refusal (SetVar c.args.g c.args.t c.args.p c.args.var c.args.k c.old-old.result) groups ≡ None = subst (λ n. refusal (SetVar c.args.g c.args.t c.args.p c.args.var c.args.k n) groups ≡ None) (sym old) (last_free f (SetVar c.args.g c.args.t c.args.p c.args.var c.args.k f.1.old) groups c.requires.last asks) in
+    let r = var_free c.args.entry.now c.args.g c.args.t c.args.p c.args.var c.args.k c.requires.is.0 c.old-old.result c.args.plan.now.groups c.requires.is.1 c.requires.last (c.old-old.ensures ∙ ap (λ m. m.old) c.note.ensures) in
     let d = (c.in-Err.ensures.always h).0 in
     absurd (cc)

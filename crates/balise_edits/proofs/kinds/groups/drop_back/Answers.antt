@@ -1,37 +1,25 @@
 use Rattle.std.proofs.Common.{◌≡◌, ◌∙◌, None, Some, inl, inr, ap, subst, sym}
-use Rattle.balise_rules.specs.Edits.{DropGroup}
-use Rattle.balise_rules.specs.Plan.{IsSound, IsSoundGroup}
+use Rattle.balise_rules.specs.Plan.{IsSound}
 use Rattle.balise_rules.specs.Paths.{Entry}
 use Rattle.balise_edits.specs.Notes.{with_group}
-use Rattle.balise_rules.proofs.Cases.{unsome}
 use Rattle.balise_edit_laws.specs.GoesBack.{LacksGroup}
 use Rattle.balise_edit_laws.proofs.SoundKept.{sound_kept}
 use Rattle.balise_index.specs.declared.spot.Spot.TheVariants.{Before}
 use Rattle.balise_plan.specs.Spots.{group_refusal}
-use Rattle.balise_edits.proofs.Bare.{asks_of}
 use Rattle.balise_edits.proofs.Free.{group_free}
+use Rattle.balise_edits.proofs.TakingBack.{lacks_of}
 use Rattle.balise_edits.proofs.kinds.groups.drop_back.Goals as goal
 
 pub put_group-requires-clause-new : goal.put_group-requires-clause-new
-put_group-requires-clause-new c = (asks_of c.args.entry.now (DropGroup c.args.g) c.args.plan.now.groups c.requires.is c.requires.last).2.gone
-
-pub put_group-requires-clause-sound : goal.put_group-requires-clause-sound
-put_group-requires-clause-sound c =
-    let f = c.args.entry.now in
-    let groups = c.args.plan.now.groups in
-    let asks = asks_of f (DropGroup c.args.g) groups c.requires.is c.requires.last in
-    let own : asks.0 ≡ c.in-Some.group = unsome (sym asks.1 ∙ sym c.in-Some.ensures.taken) in
-    subst IsSoundGroup own asks.2.sound
+put_group-requires-clause-new c = (lacks_of c.args.entry.now c.args.g c.in-Some.group c.args.plan.now.groups c.requires.is c.requires.last c.in-Some.ensures.taken).gone
 
 pub returns-in-Err : goal.returns-in-Err
 returns-in-Err c =
     let f = c.args.entry.now in
     let groups = c.args.plan.now.groups in
     let l = c.requires.last in
-    let asks = asks_of f (DropGroup c.args.g) groups c.requires.is l in
-    let own : asks.0 ≡ c.in-Some.group = unsome (sym asks.1 ∙ sym c.in-Some.ensures.taken) in
     let before : c.before-before.result ≡ f.1.before = c.before-before.ensures ∙ ap (λ m. m.before) c.note.ensures in
-    let lacks : LacksGroup c.args.g c.in-Some.group c.before-before.result groups = subst (λ b. LacksGroup c.args.g c.in-Some.group b groups) (sym before) (subst (λ x. LacksGroup c.args.g x f.1.before groups) own asks.2) in
+    let lacks : LacksGroup c.args.g c.in-Some.group c.before-before.result groups = subst (λ b. LacksGroup c.args.g c.in-Some.group b groups) (sym before) (lacks_of f c.args.g c.in-Some.group groups c.requires.is l c.in-Some.ensures.taken) in
     let sound : IsSound groups = subst IsSound (sym l.made) (sound_kept f.0 l.before l.ready) in
     let r : group_refusal (Before c.before-before.result) c.in-Some.group groups ≡ None = group_free c.args.g c.in-Some.group c.before-before.result groups sound lacks in
     let kept : c.keep_group.new.self ≡ f = c.keep_group.ensures ∙ ap (λ (h : Entry). (h.0, with_group (Some c.in-Err.group) h.1)) c.take_group.ensures.left

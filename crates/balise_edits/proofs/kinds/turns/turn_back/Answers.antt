@@ -1,10 +1,10 @@
-use Rattle.std.proofs.Common.{◌≡◌, ◌∙◌, None, refl, ap, subst}
-use Rattle.balise_rules.specs.Doing.{refusal}
+use Rattle.std.proofs.Common.{◌≡◌, ◌∙◌, refl, ap, subst}
 use Rattle.balise_rules.specs.Edits.{TurnGroup, effect}
 use Rattle.balise_rules.specs.Notes.{noted}
 use Rattle.balise_edits.specs.Standing.{changed_to, IsLast}
-use Rattle.balise_edits.proofs.Bare.{asks_of, back_of, bare_last}
-use Rattle.balise_edits.proofs.Standing.{last_free, own_turned}
+use Rattle.balise_edits.proofs.Bare.{back_of, bare_last}
+use Rattle.balise_edits.proofs.Standing.{own_turned}
+use Rattle.balise_edits.proofs.TakingBack.{turn_free}
 use Rattle.balise_edits.proofs.kinds.turns.turn_back.Goals as goal
 
 pub returns-in-Ok-clause-back : goal.returns-in-Ok-clause-back
@@ -19,16 +19,12 @@ returns-in-Ok-clause-back c =
 
 pub returns-in-Err-clause-back : goal.returns-in-Err-clause-back
 returns-in-Err-clause-back c =
-    let f = c.args.entry.now in
-    let groups = c.args.plan.now.groups in
-    let r : refusal (TurnGroup c.args.g) groups ≡ None = last_free f (TurnGroup c.args.g) groups c.requires.last (asks_of f (TurnGroup c.args.g) groups c.requires.is c.requires.last) in
+    let r = turn_free c.args.entry.now c.args.g c.args.plan.now.groups c.requires.is c.requires.last in
     let d = c.in-Err.ensures.0 in
     absurd (cc)
 
 pub returns-in-Err-clause-ok : goal.returns-in-Err-clause-ok
 returns-in-Err-clause-ok c =
-    let f = c.args.entry.now in
-    let groups = c.args.plan.now.groups in
-    let r : refusal (TurnGroup c.args.g) groups ≡ None = last_free f (TurnGroup c.args.g) groups c.requires.last (asks_of f (TurnGroup c.args.g) groups c.requires.is c.requires.last) in
+    let r = turn_free c.args.entry.now c.args.g c.args.plan.now.groups c.requires.is c.requires.last in
     let d = c.in-Err.ensures.0 in
     absurd (cc)

@@ -1,4 +1,4 @@
-use Rattle.std.proofs.Common.{rules, ◌≡◌, ◌∙◌, ◌+◌, ◌-◌, ◌++◌, ◌<◌, List, drop, get_or, length, slice_get, Some, true, ap, sym, append_assoc, arith}
+use Rattle.std.proofs.Common.{rules, ◌≡◌, ◌∙◌, ◌+◌, ◌-◌, ◌++◌, List, drop, get_or, slice_get, Some, true, ap, sym, append_assoc, arith}
 use Rattle.std.proofs.lemmas.List.{map-append}
 use Rattle.balise_rules.specs.declared.review.Reviewed.{Reviewed}
 use Rattle.balise_rules.specs.declared.review.ReviewLine.{ReviewLine}

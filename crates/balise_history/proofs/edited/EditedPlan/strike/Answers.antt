@@ -1,17 +1,18 @@
-use Rattle.std.proofs.Common.{◌≡◌, ◌≤◌, ◌+◌, ◌-◌, ◌∙◌, ⊎_elim, ℕ, zero, suc, List, [], ◌∷◌, Some, None, length, take, drop, slice_get, refl, sym, ap, subst, arith, add-one}
+use Rattle.std.proofs.Common.{◌≡◌, ◌≤◌, ◌+◌, ◌-◌, ◌∙◌, ⊎_elim, ℕ, zero, suc, List, [], ◌∷◌, Some, None, length, take, drop, slice_get, refl, sym, ap, subst, arith, add-one, inl, inr}
 use Rattle.std.proofs.lemmas.Result.{err_from_is_err_and}
-use Rattle.balise_rules.specs.declared.refusal.Refusal.TheVariants.{NoSuchEdit}
+use Rattle.balise_rules.specs.declared.refusal.Refusal.TheVariants.{DependsOn, NoSuchEdit, OutOfMemory}
 use Rattle.balise_rules.specs.Paths.{Entry}
 use Rattle.balise_rules.specs.Behind.{serials_behind}
 use Rattle.balise_rules.specs.Session.{entries, first_dependent, later, Strike, Struck}
 use Rattle.balise_edit_laws.specs.Along.{back_along}
 use Rattle.balise_history.specs.Held.{Edited, Accepts, Refuses}
 use Rattle.balise_history.specs.Lists.{place_of, items_of, Ascends}
+use Rattle.balise_history.specs.Tests.{MayRunOut, RunsOutAmong, StrikeMayRunOut}
 use Rattle.balise_history.proofs.Cuts.{got, all-behind}
 use Rattle.balise_history.proofs.Entries.{none-there, behind-ascends, rising-drop}
 use Rattle.balise_history.proofs.Few.{few-held}
 use Rattle.balise_history.proofs.Taking.{rising-standing, there}
-use Rattle.balise_history.proofs.Answering.{view, is-last, took-out, strike-accepts, strike-missing, strike-dependent, strike-wants}
+use Rattle.balise_history.proofs.Answering.{view, is-last, took-out, strike-accepts, strike-missing, strike-dependent, strike-wants, strike-may-run-out, out-of-memory}
 use Rattle.balise_rules.proofs.Cases.{unsome}
 use Rattle.balise_history.proofs.edited.EditedPlan.strike.Goals as goal
 
@@ -62,7 +63,7 @@ returns-in_err-behind-clause-answers c =
     let q : e.0.0 ≡ s = sym c.serial.ensures ∙ c.if-serial.false in
     let r = c.in_err-behind.field-0.0 in
     let w : Refuses (Strike s) (view c.self.inside.plan h c.self.inside.next) r (view c.self.inside.plan h c.self.inside.next) =
-    ⊎_elim (λ m. strike-wants c.self.inside.plan h c.self.inside.next n s e c.self.inside.plan h r c.self.invariant g q (λ w. absurd (c.in_err-behind.ensures.always w m)) (m, refl, refl))
+    ⊎_elim (λ m. strike-wants c.self.inside.plan h c.self.inside.next n s e c.self.inside.plan h r c.self.invariant g q (λ w. absurd (c.in_err-behind.ensures.always w m.0)) (m.0, refl, refl))
     (λ d. strike-dependent c.self.inside.plan h c.self.inside.next n s e r d.0 c.self.invariant g q (ap (first_dependent e) (sym (behind-of xs h.standing n c.standing-standing.ensures)) ∙ d.1) d.2)
     c.in_err-behind.ensures.fault in
     let p = err_from_is_err_and c.from_residual.result c.from_residual.ensures.1 in
@@ -154,3 +155,32 @@ returns-in_err-take_out-clause-answers c =
     let w = strike-wants p h c.self.inside.next n s e c.take_out.new.plan c.take_out.new.self r c.self.invariant g q (c.in_err-take_out.ensures.always e g) c.in_err-take_out.ensures.takes in
     let z = err_from_is_err_and c.from_residual-in_err-take_out.result c.from_residual-in_err-take_out.ensures.1 in
     rw (z.1, z.2) (subst (λ (x : Edited). Refuses (Strike s) x r v) c.self.view_is w)
+
+pub returns-in_err-behind-clause-memory : goal.returns-in_err-behind-clause-memory
+returns-in_err-behind-clause-memory c = λ k.
+    let h = c.self.inside.history in
+    let s = c.args.serial in
+    let xs : List Entry = c.standing-standing.result.now in
+    let n : ℕ = c.place_of-place.result in
+    let e : Entry = c.index-standing-place.result in
+    let g : slice_get h.standing n ≡ Some e = ap (λ (es : List Entry). slice_get es n) (sym c.standing-standing.ensures) ∙ got xs n e c.if-place-standing.false ∙ ap Some (sym c.index-standing-place.is) in
+    let q : e.0.0 ≡ s = sym c.serial.ensures ∙ c.if-serial.false in
+    let p = err_from_is_err_and c.from_residual.result c.from_residual.ensures.1 in
+    let o : c.in_err-behind.field-0.0 ≡ OutOfMemory = sym p.2 ∙ out-of-memory p.0 (sym p.1 ∙ k) in
+    let m : MayRunOut e (drop (suc n) h.standing) = ⊎_elim
+    (λ w. inl (subst (RunsOutAmong e) (behind-of xs h.standing n c.standing-standing.ensures) w.1))
+    (λ d. let z : DependsOn d.0 ≡ OutOfMemory = sym d.2 ∙ o in absurd cc)
+    c.in_err-behind.ensures.fault in
+    subst (λ (x : Edited). StrikeMayRunOut s x.base x.standing) c.self.view_is (strike-may-run-out c.self.inside.plan h c.self.inside.next n s e c.self.invariant g q m)
+
+pub returns-in_err-take_out-clause-memory : goal.returns-in_err-take_out-clause-memory
+returns-in_err-take_out-clause-memory c = λ k.
+    let h = c.self.inside.history in
+    let s = c.args.serial in
+    let xs : List Entry = c.standing-standing.result.now in
+    let n : ℕ = c.place_of-place.result in
+    let e : Entry = c.index-standing-place.result in
+    let g : slice_get h.standing n ≡ Some e = ap (λ (es : List Entry). slice_get es n) (sym c.standing-standing.ensures) ∙ got xs n e c.if-place-standing.false ∙ ap Some (sym c.index-standing-place.is) in
+    let q : e.0.0 ≡ s = sym c.serial.ensures ∙ c.if-serial.false in
+    let d : first_dependent e (drop (suc n) h.standing) ≡ None = ap (first_dependent e) (sym (behind-of xs h.standing n c.standing-standing.ensures)) ∙ c.in_ok-behind.ensures.independent in
+    subst (λ (x : Edited). StrikeMayRunOut s x.base x.standing) c.self.view_is (strike-may-run-out c.self.inside.plan h c.self.inside.next n s e c.self.invariant g q (inr d))

@@ -1,7 +1,7 @@
 use Rattle.std.proofs.Common.{eqb, option_map, Some, sym, ap, ◌∙◌}
 use Rattle.std.specs.Prelude.{unwrap_or}
 use Rattle.balise_rules.specs.Plan.{country_of}
-use Rattle.balise_plan.proofs.Changing.{found_none, found_at}
+use Rattle.balise_plan.proofs.items.OneChanged.{found_none, found_at}
 use Rattle.balise_plan.proofs.group.Group.country.Goals as goal
 
 pub returns-in_default : goal.returns-in_default

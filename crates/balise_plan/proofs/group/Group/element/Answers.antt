@@ -1,9 +1,9 @@
-use Rattle.std.proofs.Common.{rules, ◌≡◌, ◌∙◌, refl, eqb, ap, sym, subst, Some, None}
+use Rattle.std.proofs.Common.{rules, ◌≡◌, ◌∙◌, refl, eqb, ap}
 use Rattle.balise_rules.specs.Plan.{country_of}
 use Rattle.balise_rules.specs.Names.{links_of}
 use Rattle.balise_plan.specs.Relinking.{element_at}
-use Rattle.balise_telegram.specs.Packed.{links_at, links_found}
-use Rattle.balise_plan.proofs.Changing.{found_none, found_at}
+use Rattle.balise_telegram.specs.Packed.{links_found}
+use Rattle.balise_plan.proofs.items.OneChanged.{found_none, found_at}
 use Rattle.balise_plan.proofs.group.Group.element.Goals as goal
 
 pub returns-in_default-clause-fault : goal.returns-in_default-clause-fault

@@ -1,7 +1,7 @@
 use Rattle.std.proofs.Common.{◌∙◌, ◌-◌, length, ap, sym, arith}
 use Rattle.balise_rules.specs.declared.identity.Id.{Id}
 use Rattle.balise_rules.specs.Plan.{agree_from}
-use Rattle.balise_plan.proofs.Reading.{few_read, read_sound, stands}
+use Rattle.balise_plan.proofs.groups.Reading.{few_read, read_sound, stands}
 use Rattle.balise_plan.proofs.group.Group.of_read.Goals as goal
 
 pub agree-requires : goal.agree-requires
@@ -11,7 +11,7 @@ pub invariant_of-result : goal.invariant_of-result
 invariant_of-result c =
     let ys = c.args.telegrams in
     (read_sound ys (stands ys c.identity-id.result.number c.requires (omega (arith, c.len-count.ensures, c.if-count-eq0.false)) (ap (λ (i : Id). agree_from i (length ys - 1) 0 ys) (sym c.identity-id.ensures) ∙ sym c.agree.ensures ∙ c.if-not-agree.false)
-    (ap (λ (i : Id). i.number) c.identity-id.ensures) c.if-id-eq16383.false)).sound.tags
+    (ap (λ (i : Id). i.number) c.identity-id.ensures) c.if-id-eq16383.false)).sound
 
 pub returns-clause-sound : goal.returns-clause-sound
 returns-clause-sound c =

@@ -1,6 +1,6 @@
 use Rattle.std.proofs.Common.{◌∙◌, length, Err, ap, sym, arith}
-use Rattle.balise_plan.proofs.Indexing.{no_length}
-use Rattle.balise_plan.proofs.Reading.{begins, reads_on, fails, wrong_size, right_size, were_read, read_so, so_answered, so_refused}
+use Rattle.balise_plan.proofs.naming.Moved.{no_length}
+use Rattle.balise_plan.proofs.groups.Reading.{begins, reads_on, fails, wrong_size, right_size, were_read, read_so, so_answered, so_refused}
 use Rattle.balise_plan.proofs.group.Group.read.Goals as goal
 
 pub returns-then-count-clause-fault : goal.returns-then-count-clause-fault

@@ -1,4 +1,4 @@
-use Rattle.balise_plan.proofs.Reading.{Reading}
+use Rattle.balise_plan.proofs.groups.Reading.{Reading}
 use Rattle.balise_plan.proofs.group.Group.read.Given as goal
 
 abbrev pub invariant-loop-bits : goal.invariant-loop-bits

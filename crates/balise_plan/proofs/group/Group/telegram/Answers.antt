@@ -1,5 +1,5 @@
 use Rattle.std.proofs.Common.{eqb, sym}
-use Rattle.balise_plan.proofs.Changing.{found_none, found_at}
+use Rattle.balise_plan.proofs.items.OneChanged.{found_none, found_at}
 use Rattle.balise_plan.proofs.group.Group.telegram.Goals as goal
 
 pub returns-in-None : goal.returns-in-None

@@ -1,5 +1,5 @@
 use Rattle.std.proofs.Common.{arith}
-use Rattle.balise_plan.proofs.Reading.{one_read}
+use Rattle.balise_plan.proofs.groups.Reading.{one_read}
 use Rattle.balise_plan.proofs.group_reader.GroupReader.push.Goals as goal
 
 pub invariant_of-self-2 : goal.invariant_of-self-2

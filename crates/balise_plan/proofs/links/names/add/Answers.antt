@@ -4,12 +4,11 @@ use Rattle.std.specs.Option.{IfSome}
 use Rattle.std.specs.Result.{OnErr}
 use Rattle.balise_rules.proofs.Tests.{split_on}
 use Rattle.balise_index.specs.declared.link_place.LinkPlace.{LinkPlace}
-use Rattle.balise_plan.proofs.Moving.{either}
+use Rattle.balise_plan.proofs.naming.Moved.{either, written, through, empty_inside}
 use Rattle.balise_index.specs.Identities.{indexed, Updates, is_id}
 use Rattle.balise_index.specs.Places.{compare_place, is_place}
 use Rattle.balise_plan.specs.Links.{in_links}
 use Rattle.balise_index.proofs.identities.Equal.{id_one}
-use Rattle.balise_plan.proofs.Indexing.{written, through, empty_inside}
 use Rattle.balise_plan.proofs.links.names.add.Goals as goal
 
 pub returns-in-Some-clause-added : goal.returns-in-Some-clause-added

@@ -5,8 +5,7 @@ use Rattle.std.specs.BTreeSet as set
 use Rattle.balise_index.specs.Identities.{indexed, Updates, is_id}
 use Rattle.balise_index.specs.Places.{compare_place}
 use Rattle.balise_index.proofs.identities.Equal.{id_one}
-use Rattle.balise_plan.proofs.Indexing.{written, through, twice, empty_inside, no_length}
-use Rattle.balise_plan.proofs.Moving.{either, some_left}
+use Rattle.balise_plan.proofs.naming.Moved.{written, through, twice, empty_inside, no_length, either, some_left}
 use Rattle.balise_plan.proofs.links.names.forget.Goals as goal
 
 pub returns-then-not-is_empty-clause-full : goal.returns-then-not-is_empty-clause-full

@@ -1,8 +1,8 @@
 use Rattle.std.proofs.Common.{rules, Some, None}
 use Rattle.balise_index.specs.Identities.{Updates}
 use Rattle.balise_index.specs.Places.{compare_place}
-use Rattle.balise_plan.proofs.Indexing.{through}
-use Rattle.balise_plan.proofs.Moving as moving
+use Rattle.balise_plan.proofs.naming.Moved.{through}
+use Rattle.balise_plan.proofs.naming.Moved as moving
 use Rattle.balise_plan.proofs.links.names.move_links.Goals as goal
 
 pub returns-in_default-clause-moved : goal.returns-in_default-clause-moved

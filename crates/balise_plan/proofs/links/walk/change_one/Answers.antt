@@ -3,8 +3,8 @@ use Rattle.balise_rules.specs.Tagged.{find, Distinct}
 use Rattle.balise_rules.specs.Tags.{same_tag}
 use Rattle.balise_rules.proofs.Tests.{tag_test}
 use Rattle.balise_plan.specs.Walks.{in_group, changed, change_at}
-use Rattle.balise_plan.proofs.Spots.{absent-each, value-each}
-use Rattle.balise_plan.proofs.Walking.{distinct-change}
+use Rattle.balise_plan.proofs.items.Places.{absent-each, value-each}
+use Rattle.balise_plan.proofs.naming.Walking.{distinct-change}
 use Rattle.balise_plan.proofs.links.walk.change_one.Goals as goal
 
 pub returns-in_default-clause-changed : goal.returns-in_default-clause-changed

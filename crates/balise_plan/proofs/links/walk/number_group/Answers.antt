@@ -3,7 +3,7 @@ use Rattle.balise_rules.specs.Tagged.{find}
 use Rattle.balise_rules.specs.Tags.{same_tag}
 use Rattle.balise_rules.proofs.Tests.{tag_test}
 use Rattle.balise_plan.specs.Walks.{with_number}
-use Rattle.balise_plan.proofs.Spots.{absent-each, value-each}
+use Rattle.balise_plan.proofs.items.Places.{absent-each, value-each}
 use Rattle.balise_plan.proofs.links.walk.number_group.Goals as goal
 
 pub returns-in_default : goal.returns-in_default

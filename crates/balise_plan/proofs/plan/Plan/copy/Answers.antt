@@ -1,15 +1,12 @@
 use Rattle.std.proofs.Common.{rules, ◌≡◌, ◌∙◌, ◌≤◌, insert, length, sym, ap, arith}
 use Rattle.balise_plan.specs.Held.{Plan}
-use Rattle.balise_plan.proofs.Copied.{is-next, all-copied, no-more}
-use Rattle.balise_plan.proofs.Kept.{kept-as}
+use Rattle.balise_plan.proofs.groups.Copied.{is-next, all-copied, no-more}
+use Rattle.balise_plan.proofs.plans.Pushed.{kept-as}
 use Rattle.balise_plan.proofs.plan.Plan.copy.Goals as goal
 use Rattle.balise_plan.proofs.plan.Plan.copy.Goals.{else-loop-i-test, then-loop-i-test+in_default}
 
 pub put_at-requires-clause-new : goal.put_at-requires-clause-new
 put_at-requires-clause-new c = (is-next c.self.inside.groups.entries c.loop-i.i c.in-Some.tag c.in-Some.group.now c.in_ok-group.group c.loop-i.identities c.loop-i.names c.loop-i.groups.entries c.self.invariant.held.sound c.loop-i.invariant (omega (arith, c.loop-i-test.true, c.len-i-end.ensures)) (sym c.in-Some.ensures) c.in_ok-group.ensures.ok).new
-
-pub put_at-requires-clause-sound : goal.put_at-requires-clause-sound
-put_at-requires-clause-sound c = (is-next c.self.inside.groups.entries c.loop-i.i c.in-Some.tag c.in-Some.group.now c.in_ok-group.group c.loop-i.identities c.loop-i.names c.loop-i.groups.entries c.self.invariant.held.sound c.loop-i.invariant (omega (arith, c.loop-i-test.true, c.len-i-end.ensures)) (sym c.in-Some.ensures) c.in_ok-group.ensures.ok).sound
 
 pub put_at-requires-clause-free : goal.put_at-requires-clause-free
 put_at-requires-clause-free c = (is-next c.self.inside.groups.entries c.loop-i.i c.in-Some.tag c.in-Some.group.now c.in_ok-group.group c.loop-i.identities c.loop-i.names c.loop-i.groups.entries c.self.invariant.held.sound c.loop-i.invariant (omega (arith, c.loop-i-test.true, c.len-i-end.ensures)) (sym c.in-Some.ensures) c.in_ok-group.ensures.ok).free

@@ -1,4 +1,4 @@
-use Rattle.balise_plan.proofs.Copied.{Copied}
+use Rattle.balise_plan.proofs.groups.Copied.{Copied}
 use Rattle.balise_plan.proofs.plan.Plan.copy.Given as goal
 
 abbrev pub invariant-loop-i : goal.invariant-loop-i

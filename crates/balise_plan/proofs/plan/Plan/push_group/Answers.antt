@@ -1,4 +1,4 @@
-use Rattle.balise_plan.proofs.Pushed.{pushes-read}
+use Rattle.balise_plan.proofs.plans.Pushed.{pushes-read}
 use Rattle.balise_plan.proofs.plan.Plan.push_group.Goals as goal
 
 pub returns-clause-read : goal.returns-clause-read

@@ -5,7 +5,7 @@ use Rattle.balise_rules.specs.Doing.{first_of, when}
 use Rattle.balise_rules.specs.Plan.{group_named, identity_of}
 use Rattle.balise_index.specs.AtSpot.{spot_stands}
 use Rattle.balise_plan.specs.Spots.{group_refusal}
-use Rattle.balise_plan.proofs.Renamed.{known_id}
+use Rattle.balise_plan.proofs.renumbering.Plans.{known_id}
 use Rattle.balise_plan.proofs.plan.Plan.put_group.Goals as goal
 
 pub returns-then-is_taken : goal.returns-then-is_taken

@@ -1,4 +1,4 @@
-use Rattle.balise_plan.proofs.Pushed.{pushes-ill}
+use Rattle.balise_plan.proofs.plans.Pushed.{pushes-ill}
 use Rattle.balise_plan.proofs.plan.Plan.read.Goals as goal
 
 pub returns-in-Err-clause-fault : goal.returns-in-Err-clause-fault

@@ -1,4 +1,4 @@
-use Rattle.balise_plan.proofs.Pushed.{PushedTo}
+use Rattle.balise_plan.proofs.plans.Pushed.{PushedTo}
 use Rattle.balise_plan.proofs.plan.Plan.read.Given as goal
 
 abbrev pub invariant-loop-telegrams : goal.invariant-loop-telegrams

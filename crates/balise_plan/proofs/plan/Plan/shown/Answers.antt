@@ -1,7 +1,7 @@
 use Rattle.std.proofs.Common.{◌∙◌, ◌+◌, ◌++◌, [], ◌∷◌, Bool, List, map, drop, ap, sym, append_assoc}
 use Rattle.std.proofs.lemmas.List.{map-append}
 use Rattle.balise_rules.specs.Plan.{shown_plan}
-use Rattle.balise_plan.proofs.GroupLists.{drop_found}
+use Rattle.balise_plan.proofs.naming.GroupLists.{drop_found}
 use Rattle.balise_plan.proofs.plan.Plan.shown.Goals as goal
 
 pub loop-i-preserved : goal.loop-i-preserved

@@ -1,5 +1,5 @@
 use Rattle.std.proofs.Common.{sym}
-use Rattle.balise_plan.proofs.Finding.{group-tagged}
+use Rattle.balise_plan.proofs.plans.Finding.{group-tagged}
 use Rattle.balise_plan.proofs.plan.resolving.find_group.Goals as goal
 
 pub returns-in-Some-clause-ok : goal.returns-in-Some-clause-ok

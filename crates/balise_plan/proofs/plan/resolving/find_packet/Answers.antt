@@ -1,6 +1,6 @@
 use Rattle.std.proofs.Common.{Some, sym}
 use Rattle.balise_rules.specs.Addresses.{FoundTelegram}
-use Rattle.balise_plan.proofs.Finding.{packet_found}
+use Rattle.balise_plan.proofs.plans.Finding.{packet_found}
 use Rattle.balise_plan.proofs.plan.resolving.find_packet.Goals as goal
 
 pub returns-in-Some-clause-ok : goal.returns-in-Some-clause-ok

@@ -1,6 +1,6 @@
 use Rattle.std.proofs.Common.{◌∙◌, ◌+◌, ◌++◌, [], ◌∷◌, ℕ, Bool, List, map, drop, ap, sym, append_assoc, rules}
 use Rattle.balise_rules.specs.Telegram.{Telegram, shown}
-use Rattle.balise_plan.proofs.GroupLists.{drop_found}
+use Rattle.balise_plan.proofs.naming.GroupLists.{drop_found}
 use Rattle.balise_plan.proofs.plan.showing.shown_group.Goals as goal
 
 abbrev bits_of_each : List (ℕ × Telegram) → List (List Bool)

@@ -1,0 +1,8 @@
+//! The tests, by topic.
+
+mod growths;
+mod largest;
+mod links;
+mod openings;
+mod rows;
+mod sessions;

@@ -1,0 +1,4 @@
+pub mod Inserted
+pub mod KeyPlaces
+pub mod OneChanged
+pub mod Places

@@ -1,0 +1,72 @@
+-- Places of keys in a tagged list, as a map tells them: what is taken out there, and what stands behind it.
+use Rattle.std.proofs.Common.{◌≡◌, ℕ, zero, suc, ◌+◌, ◌<◌, Bool, true, false, List, [], ◌∷◌, ◌++◌, Option, Some, None, length, position, insert, option_map, slice_get, get_or, refl, sym, ◌∙◌, ap, arith}
+use Rattle.std.specs.Map.{keys_of, remove_entry}
+use Rattle.std.specs.Option.{IfSome}
+use Rattle.std.proofs.lemmas.List.Quantifiers.{position-Some}
+use Rattle.balise_rules.specs.Tagged.{find, first, behind, without, put_behind, put_in_front, Distinct}
+use Rattle.balise_rules.proofs.Tests.{IsTest, split_on}
+use Rattle.balise_rules.proofs.Lists.{without-absent}
+use Rattle.balise_rules.specs.declared.tag.Tag.{Tag}
+use Rattle.balise_rules.specs.Tags.{same_tag}
+use Rattle.balise_index.specs.declared.spot.Spot.{Spot}
+use Rattle.balise_index.specs.declared.spot.Spot.TheVariants.{After, Before}
+use Rattle.balise_index.specs.AtSpot.{put_in}
+use Rattle.balise_plan.proofs.items.Places.{At}
+
+first-key : {K A : Type 0} (test : K → Bool) (xs : List (K × A)) (i : ℕ) (d : K) → i < length (keys_of xs) → test (get_or (keys_of xs) i d) ≡ true
+    → ((k : ℕ) → k < i → test (get_or (keys_of xs) k d) ≡ false) → At test xs i
+first-key test [] i d h here below = absurd (omega (arith, h))
+first-key test (e ∷ es) zero d h here below = here
+first-key test (e ∷ es) (suc i) d h here below = (below 0 (omega arith), first-key test es i d (omega (arith, h)) here (λ k b. below (suc k) (omega (arith, b))))
+
+-- the place of a key
+pub at-key : {K A : Type 0} (test : K → Bool) (xs : List (K × A)) (i : ℕ) → position test (keys_of xs) ≡ Some i → At test xs i
+at-key test [] i e = cc
+at-key test (x ∷ xs) i e = let p = position-Some test (keys_of (x ∷ xs)) i x.0 e in first-key test (x ∷ xs) i x.0 p.0 p.1 p.2
+
+-- without the item at its place, the next neighbour stands there
+pub behind-place : {K A : Type 0} (same : K → K → Bool) (k : K) (xs : List (K × A)) (i : ℕ) → At (same k) xs i → option_map (λ (p : K × A). p.0) (slice_get (remove_entry (same k) xs) i) ≡ behind same k xs
+behind-place same k [] i a = absurd a
+behind-place same k (y ∷ ys) zero a = simp a (start ys)
+  where
+    start : {K A : Type 0} (zs : List (K × A)) → option_map (λ (p : K × A). p.0) (slice_get zs 0) ≡ first zs
+    start [] = refl
+    start (z ∷ zs) = refl
+behind-place same k (y ∷ ys) (suc i) a = let n = a.0 in simp n (behind-place same k ys i a.1)
+
+-- the first item of a key is the only one
+pub removed-without : {K A : Type 0} {same : K → K → Bool} → IsTest same → (k : K) (xs : List (K × A)) → Distinct same xs → remove_entry (same k) xs ≡ without same k xs
+removed-without t k [] u = refl
+removed-without {same = same} t k (y ∷ ys) u =
+    split_on (same k y.0)
+    (λ e. simp e (sym (without-absent same k ys (ap (λ r. find same r ys) (t.one k y.0 e) ∙ u.0))))
+    (λ e. simp e (ap (λ l. y ∷ l) (removed-without t k ys u.1)))
+
+-- ---- one item more
+
+-- directly after the key at a place
+pub after-place : {K A : Type 0} (same : K → K → Bool) (k : K) (z : K × A) (xs : List (K × A)) (i : ℕ) → At (same k) xs i → insert xs (suc i) z ≡ put_behind same k z xs
+after-place same k z [] i a = absurd a
+after-place same k z (y ∷ ys) zero a = simp a
+after-place same k z (y ∷ ys) (suc i) a = let n = a.0 in simp n (ap (λ l. y ∷ l) (after-place same k z ys i a.1))
+
+-- directly before it
+pub before-place : {K A : Type 0} (same : K → K → Bool) (k : K) (z : K × A) (xs : List (K × A)) (i : ℕ) → At (same k) xs i → insert xs i z ≡ put_in_front same k z xs
+before-place same k z [] i a = absurd a
+before-place same k z (y ∷ ys) zero a = simp a
+before-place same k z (y ∷ ys) (suc i) a = let n = a.0 in simp n (ap (λ l. y ∷ l) (before-place same k z ys i a.1))
+
+pub end-place : {A : Type 0} (z : A) (xs : List A) → insert xs (length xs) z ≡ xs ++ z ∷ []
+end-place z [] = refl
+end-place z (y ∷ ys) = ap (λ l. y ∷ l) (end-place z ys)
+
+-- ---- the place that a spot names
+
+pub found-after : {A : Type 0} (tag : Tag) (xs : List (Tag × A)) (s : Spot Tag) (i : ℕ) → s ≡ After (Some tag) → position (same_tag tag) (keys_of xs) ≡ Some i → (z : Tag × A) → insert xs (i + 1) z ≡ put_in s z xs
+found-after tag xs s i e p z =
+    let k : i + 1 ≡ suc i = omega arith in
+    ap (λ m. insert xs m z) k ∙ after-place same_tag tag z xs i (at-key (same_tag tag) xs i p) ∙ sym (ap (λ r. put_in r z xs) e)
+
+pub found-before : {A : Type 0} (tag : Tag) (xs : List (Tag × A)) (s : Spot Tag) (o : Option ℕ) → s ≡ Before (Some tag) → o ≡ position (same_tag tag) (keys_of xs) → IfSome o (λ i. (z : Tag × A) → insert xs i z ≡ put_in s z xs)
+found-before tag xs s None e p = tt
+found-before tag xs s (Some i) e p = λ z. before-place same_tag tag z xs i (at-key (same_tag tag) xs i (sym p)) ∙ sym (ap (λ r. put_in r z xs) e)

@@ -1,0 +1,11 @@
+pub mod GroupLists
+pub mod Identities
+pub mod Known
+pub mod LinkSteps
+pub mod LinksAt
+pub mod Moved
+pub mod OfGroup
+pub mod OfPacket
+pub mod Parts
+pub mod Relinked
+pub mod Walking

@@ -1,0 +1,4 @@
+pub mod Answered
+pub mod Edits
+pub mod Replaced
+pub mod Sound

@@ -1,0 +1,4 @@
+pub mod DirOnce
+pub mod Fields
+pub mod Plans
+pub mod Telegrams

@@ -1,0 +1,101 @@
+-- A telegram turned, step by step as the code does it.
+use Rattle.std.proofs.Common.{◌≡◌, ◌-◌, ◌<◌, ◌≤◌, ℕ, zero, suc, Bool, true, false, cond, not, ◌&&◌, ◌||◌, eqb, List, [], ◌∷◌, length, get_or, slice_get, Option, Some, None, Result, Ok, Err, refl, sym, ap, subst, ◌∙◌, arith}
+use Rattle.std.specs.Option.{option_map}
+use Rattle.std.specs.Prelude.{is_none, unwrap_or, nat_lt}
+use Rattle.std.proofs.lemmas.Bool.{true≢false}
+use borrow.Author.Tests.{lt-ltb}
+use Rattle.balise_rules.specs.declared.refusal.Refusal.TheVariants.{NoSuchVariable, ValueTooWide}
+use Rattle.balise_rules.specs.Doing.{first_of, when}
+use Rattle.balise_rules.specs.declared.variable.Var.TheVariants.{NPig, NTotal, MDup}
+use Rattle.balise_rules.specs.Variables.{width_of, is_free_in_header}
+use Rattle.balise_rules.specs.Tagged.{find, each, Distinct}
+use Rattle.balise_rules.specs.Forms.{Fields}
+use Rattle.balise_rules.specs.Packet.{value, field_of, with_value}
+use Rattle.balise_rules.specs.Telegram.{Telegram}
+use Rattle.balise_rules.specs.Plan.{Group}
+use Rattle.balise_rules.proofs.Tests.{IsTest, split_on, key_test}
+use Rattle.balise_rules.proofs.Lists.{find-each}
+use Rattle.balise_rules.proofs.Cases.{unsome}
+use Rattle.balise_telegram.specs.declared.fault.TelegramFault.{TelegramFault}
+use Rattle.balise_telegram.specs.Setting.{SetsHead, with_head, fields_refusal}
+use Rattle.balise_plan.specs.Walks.{FitsTotals}
+use Rattle.balise_plan.specs.Turned.{with_turned_head}
+use Rattle.balise_plan.proofs.items.OneChanged.{each_to}
+use Rattle.balise_plan.proofs.items.Places.{absent-each}
+
+-- M_DUP is set where it is 1 or 2
+not_refused : (hs gs : Fields) (n d : ℕ) → gs ≡ with_value NPig 0 n hs → value MDup 0 hs ≡ d → (eqb d 1 || eqb d 2) ≡ true → fields_refusal MDup (3 - d) gs ≡ None
+unfolding width_of is_free_in_header
+not_refused hs gs n d e v b = by (field_of MDup 0 hs) refl
+  where
+    by : (o : Option ℕ) → field_of MDup 0 hs ≡ o → fields_refusal MDup (3 - d) gs ≡ None
+    by None q = absurd (let z : d ≡ 0 = sym v ∙ ap (λ x. unwrap_or x 0) q in true≢false (sym b ∙ ap (λ x. eqb x 1 || eqb x 2) z))
+    by (Some m) q =
+        let there : field_of MDup 0 gs ≡ Some m = ap (field_of MDup 0) e ∙ find-each key_test _ (MDup, 0) hs ∙ ap (option_map _) q in
+        let wide : nat_lt (3 - d) 4 ≡ true = lt-ltb (3 - d) 4 (omega arith) in
+        ap (λ o. first_of (when (is_none o) NoSuchVariable ∷ None ∷ when (not (nat_lt (3 - d) 4)) ValueTooWide ∷ [])) there ∙ ap (λ x. first_of (None ∷ None ∷ when (not x) ValueTooWide ∷ [])) wide
+
+headed : Telegram → Fields → Telegram
+headed y hs = record { head = hs; packets = y.packets; padding = y.padding }
+
+pub head_turned : (y y1 y2 : Telegram) (r : Result ℕ TelegramFault) (place last d : ℕ) → place ≡ value NPig 0 y.head → last ≡ value NTotal 0 y.head → d ≡ value MDup 0 y.head → (eqb d 1 || eqb d 2) ≡ true →
+    y1 ≡ with_head NPig (last - place) y → SetsHead MDup (3 - d) y1 r y2 → y2 ≡ with_turned_head y
+unfolding headed
+head_turned y y1 y2 (Err f) place last d p l e b w s = absurd (let z = sym s.0 ∙ not_refused y.head y1.head (last - place) d (ap (λ (x : Telegram). x.head) w) (sym e) b in cc)
+head_turned y y1 y2 (Ok was) place last d p l e b w s =
+    let q : (eqb (value MDup 0 y.head) 1 || eqb (value MDup 0 y.head) 2) ≡ true = ap (λ x. eqb x 1 || eqb x 2) (sym e) ∙ b in
+    s.2 ∙ ap (with_head MDup (3 - d)) w ∙ ap (λ k. headed y (with_value MDup 0 (3 - k) (with_value NPig 0 (last - place) y.head))) e
+    ∙ ap (λ k. headed y (with_value MDup 0 (3 - value MDup 0 y.head) (with_value NPig 0 (k - place) y.head))) l
+    ∙ ap (λ k. headed y (with_value MDup 0 (3 - value MDup 0 y.head) (with_value NPig 0 (value NTotal 0 y.head - k) y.head))) p
+    ∙ ap (λ c. headed y (cond c (with_value MDup 0 (3 - value MDup 0 y.head) (with_value NPig 0 (value NTotal 0 y.head - value NPig 0 y.head) y.head)) (with_value NPig 0 (value NTotal 0 y.head - value NPig 0 y.head) y.head))) (sym q)
+
+pub head_left : (y y1 : Telegram) (place last d : ℕ) → place ≡ value NPig 0 y.head → last ≡ value NTotal 0 y.head → d ≡ value MDup 0 y.head → (eqb d 1 || eqb d 2) ≡ false → y1 ≡ with_head NPig (last - place) y → y1 ≡ with_turned_head y
+unfolding headed
+head_left y y1 place last d p l e b w =
+    let q : (eqb (value MDup 0 y.head) 1 || eqb (value MDup 0 y.head) 2) ≡ false = ap (λ x. eqb x 1 || eqb x 2) (sym e) ∙ b in
+    w ∙ ap (λ k. headed y (with_value NPig 0 (k - place) y.head)) l
+    ∙ ap (λ k. headed y (with_value NPig 0 (value NTotal 0 y.head - k) y.head)) p
+    ∙ ap (λ c. headed y (cond c (with_value MDup 0 (3 - value MDup 0 y.head) (with_value NPig 0 (value NTotal 0 y.head - value NPig 0 y.head) y.head)) (with_value NPig 0 (value NTotal 0 y.head - value NPig 0 y.head) y.head))) (sym q)
+
+-- ---- packets, one after another
+
+not-gone : {K A : Type 0} {same : K → K → Bool} → IsTest same → (f : A → A) (i : ℕ) (xs : List (K × A)) (k : K) (a : A) → Some (k, a) ≡ slice_get (each_to (λ _ x. f x) i xs) i → find same k xs ≡ None → ⊥
+not-gone t f zero [] k a e n = absurd cc
+not-gone t f (suc i) [] k a e n = absurd cc
+not-gone {same = same} t f zero (y ∷ ys) k a e n = let s : same k y.0 ≡ true = ap (λ z. same z y.0) (ap (λ z. z.0) (unsome e)) ∙ t.itself y.0 in let m = simp s at n in cc
+not-gone {same = same} t f (suc i) (y ∷ ys) k a e n =
+    split_on (same k y.0) (λ d. let m = simp d at n in absurd cc) (λ d. let m : find same k ys ≡ None = simp d at n in not-gone t f i ys k a e m)
+
+pub one-step : {K A : Type 0} {same : K → K → Bool} → IsTest same → (f : A → A) (i : ℕ) (xs : List (K × A)) (k : K) (a : A) → Distinct same xs → Some (k, a) ≡ slice_get (each_to (λ _ x. f x) i xs) i →
+    each (λ q x. cond (same k q) (f x) x) (each_to (λ _ x. f x) i xs) ≡ each_to (λ _ x. f x) (suc i) xs
+one-step t f zero [] k a u e = absurd cc
+one-step t f (suc i) [] k a u e = absurd cc
+one-step {same = same} t f zero (y ∷ ys) k a u e =
+    let r : k ≡ y.0 = ap (λ z. z.0) (unsome e) in
+    let s : same k y.0 ≡ true = ap (λ z. same z y.0) r ∙ t.itself y.0 in
+    let g = absent-each same k f ys (ap (λ z. find same z ys) r ∙ u.0) in
+    simp s (ap (λ l. (y.0, f y.1) ∷ l) g)
+one-step {same = same} t f (suc i) (y ∷ ys) k a u e =
+    split_on (same k y.0)
+    (λ d. absurd (not-gone t f i ys k a e (ap (λ z. find same z ys) (t.one k y.0 d) ∙ u.0)))
+    (λ d. simp d (ap (λ l. (y.0, f y.1) ∷ l) (one-step t f i ys k a u.1 e)))
+
+pub none-within : {X : Type 0} (xs : List X) (i : ℕ) → None ≡ slice_get xs i → length xs ≤ i
+none-within [] i e = omega arith
+none-within (x ∷ xs) zero e = absurd cc
+none-within (x ∷ xs) (suc i) e = let r = none-within xs i e in omega (arith, r)
+
+pub marked : (a b : Bool) → (not a && not b) ≡ false → (a || b) ≡ true
+marked true b e = refl
+marked false true e = refl
+marked false false e = absurd (true≢false e)
+
+pub unmarked : (a b : Bool) → (not a && not b) ≡ true → (a || b) ≡ false
+unmarked true b e = absurd (true≢false (sym e))
+unmarked false true e = absurd (true≢false (sym e))
+unmarked false false e = refl
+
+pub totals_at : (f : ℕ → Telegram → Telegram) (i : ℕ) (xs : Group) (d : ℕ × Telegram) → FitsTotals xs → i < length xs → d ≡ get_or (each_to f i xs) i d → value NTotal 0 d.1.head < 8
+totals_at f i [] d u h e = absurd (omega (arith, h))
+totals_at f zero (y ∷ ys) d u h e = subst (λ (z : ℕ × Telegram). value NTotal 0 z.1.head < 8) (sym e) u.0
+totals_at f (suc i) (y ∷ ys) d u h e = totals_at f i ys d u.1 (omega (arith, h)) e

@@ -19,6 +19,15 @@ const USAGE: &str = "baliseplan [OPTIONS]";
 const STATUS: &str =
     "Status:{n}  0   all commands accepted{n}  1   a command refused{n}  2   the plan refused{n}  3   a line too long, too little memory, or a read or write that failed{n}  64  an unknown argument, or one given twice";
 
+// What help says of each argument.
+const QUIET: &str = "Print no reply to a command that is accepted";
+
+const STOP: &str = "Do no command after the first that is refused";
+
+const JOURNAL: &str = "Print the journal after the plan: the edits that stand, for a later run";
+
+const JSON: &str = "Print each group as one line of JSON after the plan";
+
 /// What the words ask for. The first is the program's name; each argument may be given once, in any order.
 ///
 /// The fault is `Help` where clap is asked for it first, `Other` where a word isn't the program's, and `Memory` at any
@@ -51,29 +60,13 @@ fn command<'a>(alloc: Global) -> Result<Command<'a>, AllocError>
     ensures { IfOk result (λ c. app_of c ≡ program) }
 {
     let command = described(alloc);
-    let quiet = flag(
-        alloc,
-        "quiet",
-        "Print no reply to a command that is accepted",
-    );
+    let quiet = flag(alloc, "quiet", QUIET);
     let command = command.arg(quiet)?;
-    let stop = flag(
-        alloc,
-        "stop",
-        "Do no command after the first that is refused",
-    );
+    let stop = flag(alloc, "stop", STOP);
     let command = command.arg(stop)?;
-    let journal = flag(
-        alloc,
-        "journal",
-        "Print the journal after the plan: the edits that stand, for a later run",
-    );
+    let journal = flag(alloc, "journal", JOURNAL);
     let command = command.arg(journal)?;
-    let json = flag(
-        alloc,
-        "json",
-        "Print each group as one line of JSON after the plan",
-    );
+    let json = flag(alloc, "json", JSON);
     command.arg(json)
 }
 

@@ -46,6 +46,16 @@ byte_left b i h =
     first_byte (drop (8 * i) (padded b)) (omega (arith, l, h))
     ∙ ap (λ x. two_digits (byte_at (8 * i) b) ++ digits_in x) (drop-drop 8 (8 * i) (padded b) ∙ ap (λ (n : ℕ). drop n (padded b)) e)
 
+-- the same, by the two digits that are written for the byte's value
+pub digits_left : (b : List Bool) (i value high low : ℕ) → 8 * i < length b → value ≡ byte_at (8 * i) b → high ≡ digit_of (value / 16) → low ≡ digit_of (value % 16)
+    → digits_in (drop (8 * i) (padded b)) ≡ (high ∷ low ∷ []) ++ digits_in (drop (8 * (i + 1)) (padded b))
+digits_left b i value high low h v e f =
+    let n = byte_at (8 * i) b in
+    let more = digits_in (drop (8 * (i + 1)) (padded b)) in
+    let high_is : digit_of (n / 16) ≡ high = sym (e ∙ ap (λ (m : ℕ). digit_of (m / 16)) v) in
+    let low_is : digit_of (n % 16) ≡ low = sym (f ∙ ap (λ (m : ℕ). digit_of (m % 16)) v) in
+    byte_left b i h ∙ ap (λ (m : ℕ). m ∷ digit_of (n % 16) ∷ more) high_is ∙ ap (λ (m : ℕ). high ∷ m ∷ more) low_is
+
 no_digits : (r : List Bool) → length r ≡ 0 → digits_in r ≡ []
 unfolding digits_in
 no_digits [] k = refl

@@ -15,15 +15,20 @@ pub or_bad_as : {A B : Type 0} (f : A → B) (x : Option (Result A Refusal)) →
 or_bad_as f None = refl
 or_bad_as f (Some r) = refl
 
+-- a name of no other command is an edit's
+pub named_edit : (name : Word) (ws : List Word) → bytes_eq name (codes "undo") ≡ false → bytes_eq name (codes "redo") ≡ false → bytes_eq name (codes "strike") ≡ false
+    → named_words name ws ≡ option_map (read_as Ask) (command_words (kind_of name) ws)
+named_edit name ws a b c = rw (a, b, c) refl
+
 -- an edit's command that is refused
-pub named_fault : (name : Word) (ws : List Word) (r : Refusal) → bytes_eq name (codes "undo") ≡ false → bytes_eq name (codes "redo") ≡ false → bytes_eq name (codes "strike") ≡ false
+pub named_fault : (name : Word) (ws : List Word) (r : Refusal) → named_words name ws ≡ option_map (read_as Ask) (command_words (kind_of name) ws)
     → or_bad (command_words (kind_of name) ws) ≡ Err r → or_bad (named_words name ws) ≡ Err r
-named_fault name ws r a b c e = rw (a, b, c) (or_bad_as Ask (command_words (kind_of name) ws) ∙ ap (read_as Ask) e)
+named_fault name ws r n e = ap or_bad n ∙ or_bad_as Ask (command_words (kind_of name) ws) ∙ ap (read_as Ask) e
 
 -- one that is judged
-pub named_checked : (name : Word) (ws : List Word) → bytes_eq name (codes "undo") ≡ false → bytes_eq name (codes "redo") ≡ false → bytes_eq name (codes "strike") ≡ false
+pub named_checked : (name : Word) (ws : List Word) → named_words name ws ≡ option_map (read_as Ask) (command_words (kind_of name) ws)
     → checked (or_bad (named_words name ws)) ≡ checked (or_bad (command_words (kind_of name) ws))
-named_checked name ws a b c = rw (a, b, c) (ap checked (or_bad_as Ask (command_words (kind_of name) ws)) ∙ checked_as Ask (or_bad (command_words (kind_of name) ws)))
+named_checked name ws n = ap (λ x. checked (or_bad x)) n ∙ ap checked (or_bad_as Ask (command_words (kind_of name) ws)) ∙ checked_as Ask (or_bad (command_words (kind_of name) ws))
 
 -- ---- whether memory may be wanted
 
@@ -32,9 +37,9 @@ some_map f None = refl
 some_map f (Some x) = refl
 
 -- an edit's command whose digits are read
-pub named_digits : (name : Word) (ws : List Word) → bytes_eq name (codes "undo") ≡ false → bytes_eq name (codes "redo") ≡ false → bytes_eq name (codes "strike") ≡ false
+pub named_digits : (name : Word) (ws : List Word) → named_words name ws ≡ option_map (read_as Ask) (command_words (kind_of name) ws)
     → (is_some (command_words (kind_of name) ws) && is_digits_kind (kind_of name)) ≡ true → (is_some (named_words name ws) && is_digits_kind (kind_of name)) ≡ true
-named_digits name ws a b c e = rw (a, b, c) (ap (λ x. x && is_digits_kind (kind_of name)) (some_map (read_as Ask) (command_words (kind_of name) ws)) ∙ e)
+named_digits name ws n e = ap (λ x. is_some x && is_digits_kind (kind_of name)) n ∙ ap (λ x. x && is_digits_kind (kind_of name)) (some_map (read_as Ask) (command_words (kind_of name) ws)) ∙ e
 
 drop_taken : {A : Type 0} (says : Word → Option A) (ws us : List Word) (x : A) → taken says ws ≡ Some (x, us) → drop 1 ws ≡ us
 drop_taken says [] us x h = absurd cc

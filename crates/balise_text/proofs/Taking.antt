@@ -1,9 +1,9 @@
 -- The parts that are left, where the next one is taken.
-use Rattle.std.proofs.Common.{◌≡◌, ◌∙◌, ℕ, ◌+◌, ◌-◌, List, [], ◌∷◌, Bool, true, false, cond, length, take, drop, Option, Some, None, refl, sym, ap, arith}
+use Rattle.std.proofs.Common.{◌≡◌, ◌∙◌, ℕ, ◌+◌, ◌-◌, List, [], ◌∷◌, Bool, true, false, cond, length, take, drop, Option, Some, None, option_map, refl, sym, ap, arith}
 use Rattle.std.specs.Prelude.{position, ◌==◌, IsTrue}
 use Rattle.std.proofs.lemmas.List.{take_all, length-drop}
 use Rattle.balise_text.specs.declared.words.Parts.{Parts}
-use Rattle.balise_text.specs.Words.{Word, parts_of}
+use Rattle.balise_text.specs.Words.{Word, no_more, parts_of}
 use Rattle.balise_text.specs.Left.{left}
 use Rattle.balise_text.proofs.Parts.{one_part, first_part, some_part}
 
@@ -25,3 +25,17 @@ over_is w = by w.over (parts_of w.mark w.text.now) (some_part w.mark w.text.now)
     by : (b : Bool) (ps : List Word) → (ps ≡ [] → ⊥) → (IsTrue b → cond b [] ps ≡ []) × (cond b [] ps ≡ [] → IsTrue b)
     by true ps h = (λ t. refl, λ e. refl)
     by false ps h = (λ t. absurd cc, λ e. absurd (h e))
+
+-- where a part is left, there is no end
+pub no_end : {A : Type 0} (w : Parts) (x : A) → w.over ≡ false → None ≡ no_more (left w) x
+no_end {A} w x o = by w.over (parts_of w.mark w.text.now) (some_part w.mark w.text.now) o
+  where
+    by : (b : Bool) (ps : List Word) → (ps ≡ [] → ⊥) → b ≡ false → None ≡ no_more (cond b [] ps) x
+    by true ps h e = absurd cc
+    by false [] h e = absurd (h refl)
+    by false (p ∷ ps) h e = refl
+
+-- what is read at the end, as something else
+pub map_at_end : {A B : Type 0} (f : A → B) (ws : List Word) (x : A) → option_map f (no_more ws x) ≡ no_more ws (f x)
+map_at_end f [] x = refl
+map_at_end f (w ∷ ws) x = refl

@@ -36,11 +36,15 @@ abbrev pub tag_of : Word → Option Tag
 tag_of [] = None
 tag_of (b ∷ bs) = if b == 98 then option_map Base (number_of bs) else if b == 110 then option_map Fresh (number_of bs) else None
 
+-- a tag, or a mark where there is none
+abbrev pub tag_or : Word → Word → Option (Option Tag)
+tag_or mark w = if bytes_eq w mark then Some None else option_map Some (tag_of w)
+
 abbrev pub anchor_of : Word → Option (Option Tag)
-anchor_of w = if bytes_eq w (codes "^") then Some None else option_map Some (tag_of w)
+anchor_of w = tag_or (codes "^") w
 
 abbrev pub neighbour_of : Word → Option (Option Tag)
-neighbour_of w = if bytes_eq w (codes "$") then Some None else option_map Some (tag_of w)
+neighbour_of w = tag_or (codes "$") w
 
 abbrev pub telegram_path_of : Word → Option (Tag × ℕ)
 telegram_path_of w = and_then (taken tag_of (parts_of 47 w)) (λ g ps. and_then (taken number_of ps) (λ t ps. no_more ps (g, t)))

@@ -11,7 +11,7 @@ ghost use Rattle.balise_text.specs.Words.{or_bad};
 use crate::commands::{add_parts, insert_parts, read_plain};
 use crate::digit_checks::{check_digits, check_telegrams};
 use crate::kind::{Kind, read_kind};
-use crate::request::{Request, read_redo, read_strike, read_undo};
+use crate::request::{Request, read_other};
 use crate::words::Parts;
 use balise_commands::Command;
 use balise_rules::Refusal;
@@ -74,14 +74,8 @@ pub fn check_request(line: &[u8]) -> Result<(), Refusal>
     let Some((name, words)) = Parts::words(line).next() else {
         return Err(Refusal::BadLine);
     };
-    if name == b"undo".as_slice() {
-        return check_other(read_undo(words));
-    }
-    if name == b"redo".as_slice() {
-        return check_other(read_redo(words));
-    }
-    if name == b"strike".as_slice() {
-        return check_other(read_strike(words));
+    if let Some(request) = read_other(name, words) {
+        return check_other(request);
     }
     check_command(read_kind(name), words)
 }

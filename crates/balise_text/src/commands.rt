@@ -1,4 +1,5 @@
 //! What the words of an edit's command ask for.
+#![tactic(auto, using(crate::proofs::Taking::map_at_end))]
 
 ghost use Rattle.std.specs.Prelude.{◌≡◌, ◌≢◌, ◌&&◌, is_some, Err, false, IfErr, IfOk, MatchOption, None, Ok, option_map, Some, true};
 ghost use Rattle.balise_rules.specs.Addresses.{AskAdd, AskInsert};
@@ -20,139 +21,76 @@ use std::alloc::Global;
 fn read_set(words: Parts) -> Option<Command>
     ensures { option_map command_of result ≡ set_words (left words.entry) }
 {
-    let Some((id, words)) = words.id() else {
-        return None;
-    };
-    let Some((pig, words)) = words.number() else {
-        return None;
-    };
-    let Some((pkt, words)) = words.number() else {
-        return None;
-    };
-    let Some((var, words)) = words.var() else {
-        return None;
-    };
-    let Some((k, words)) = words.number() else {
-        return None;
-    };
-    let Some((value, words)) = words.number() else {
-        return None;
-    };
-    if words.is_over() {
-        return Some(Command::SetVar {
-            id,
-            pig,
-            pkt,
-            var,
-            k,
-            value,
-        });
-    }
-    None
+    let (id, words) = words.id()?;
+    let (pig, words) = words.number()?;
+    let (pkt, words) = words.number()?;
+    let (var, words) = words.var()?;
+    let (k, words) = words.number()?;
+    let (value, words) = words.number()?;
+    words.end_with(Command::SetVar {
+        id,
+        pig,
+        pkt,
+        var,
+        k,
+        value,
+    })
 }
 
 fn read_set_head(words: Parts) -> Option<Command>
     ensures { option_map command_of result ≡ set_head_words (left words.entry) }
 {
-    let Some((id, words)) = words.id() else {
-        return None;
-    };
-    let Some((pig, words)) = words.number() else {
-        return None;
-    };
-    let Some((var, words)) = words.var() else {
-        return None;
-    };
-    let Some((value, words)) = words.number() else {
-        return None;
-    };
-    if words.is_over() {
-        return Some(Command::SetHead {
-            id,
-            pig,
-            var,
-            value,
-        });
-    }
-    None
+    let (id, words) = words.id()?;
+    let (pig, words) = words.number()?;
+    let (var, words) = words.var()?;
+    let (value, words) = words.number()?;
+    words.end_with(Command::SetHead {
+        id,
+        pig,
+        var,
+        value,
+    })
 }
 
 fn read_delete(words: Parts) -> Option<Command>
     ensures { option_map command_of result ≡ delete_words (left words.entry) }
 {
-    let Some((id, words)) = words.id() else {
-        return None;
-    };
-    let Some((pig, words)) = words.number() else {
-        return None;
-    };
-    let Some((pkt, words)) = words.number() else {
-        return None;
-    };
-    if words.is_over() {
-        return Some(Command::DeletePacket { id, pig, pkt });
-    }
-    None
+    let (id, words) = words.id()?;
+    let (pig, words) = words.number()?;
+    let (pkt, words) = words.number()?;
+    words.end_with(Command::DeletePacket { id, pig, pkt })
 }
 
 fn read_move(words: Parts) -> Option<Command>
     ensures { option_map command_of result ≡ move_words (left words.entry) }
 {
-    let Some((id, words)) = words.id() else {
-        return None;
-    };
-    let Some((pig, words)) = words.number() else {
-        return None;
-    };
-    let Some((pkt, words)) = words.number() else {
-        return None;
-    };
-    let Some((at, words)) = words.number() else {
-        return None;
-    };
-    if words.is_over() {
-        return Some(Command::MovePacket { id, pig, pkt, at });
-    }
-    None
+    let (id, words) = words.id()?;
+    let (pig, words) = words.number()?;
+    let (pkt, words) = words.number()?;
+    let (at, words) = words.number()?;
+    words.end_with(Command::MovePacket { id, pig, pkt, at })
 }
 
 fn read_drop(words: Parts) -> Option<Command>
     ensures { option_map command_of result ≡ drop_words (left words.entry) }
 {
-    let Some((id, words)) = words.id() else {
-        return None;
-    };
-    if words.is_over() {
-        return Some(Command::DropGroup { id });
-    }
-    None
+    let (id, words) = words.id()?;
+    words.end_with(Command::DropGroup { id })
 }
 
 fn read_renumber(words: Parts) -> Option<Command>
     ensures { option_map command_of result ≡ renumber_words (left words.entry) }
 {
-    let Some((id, words)) = words.id() else {
-        return None;
-    };
-    let Some((number, words)) = words.number() else {
-        return None;
-    };
-    if words.is_over() {
-        return Some(Command::Renumber { id, number });
-    }
-    None
+    let (id, words) = words.id()?;
+    let (number, words) = words.number()?;
+    words.end_with(Command::Renumber { id, number })
 }
 
 fn read_turn(words: Parts) -> Option<Command>
     ensures { option_map command_of result ≡ turn_words (left words.entry) }
 {
-    let Some((id, words)) = words.id() else {
-        return None;
-    };
-    if words.is_over() {
-        return Some(Command::TurnGroup { id });
-    }
-    None
+    let (id, words) = words.id()?;
+    words.end_with(Command::TurnGroup { id })
 }
 
 /// What an insert names before its digits are looked at.
@@ -190,9 +128,7 @@ pub(crate) fn insert_parts<'a>(words: Parts<'a>) -> Option<Insert<'a>>
 pub(crate) fn add_parts<'a>(words: Parts<'a>) -> Option<(u32, Parts<'a>)>
     ensures { MatchOption result (add_words (left words.entry) ≡ None) (λ p. add_words (left words.entry) ≡ Some (read_as (AskAdd p.0) (telegrams_in (left p.1)))) }
 {
-    let Some((at, words)) = words.number() else {
-        return None;
-    };
+    let (at, words) = words.number()?;
     if !words.have_digits() {
         return None;
     }

@@ -7,23 +7,8 @@ ghost use Rattle.balise_text.specs.DigitWords.{bits_due, telegrams_in};
 ghost use Rattle.balise_text.specs.Left.{left};
 
 use crate::words::Parts;
+use balise_bits::hex_value;
 use balise_rules::Refusal;
-
-// The value of a digit of either case, and 255 for any other byte.
-fn value(byte: u8) -> u8
-    ensures digit { result < 16 → digit_value byte ≡ Some result }
-    ensures other { 16 ≤ result → digit_value byte ≡ None }
-{
-    if b'0' <= byte && byte <= b'9' {
-        byte - b'0'
-    } else if b'A' <= byte && byte <= b'F' {
-        byte - b'A' + 10
-    } else if b'a' <= byte && byte <= b'f' {
-        byte - b'a' + 10
-    } else {
-        255
-    }
-}
 
 /// Judges the digits of a packet: an even number of digits and no other byte.
 pub(crate) fn check_digits(word: &[u8]) -> Result<(), Refusal>
@@ -33,7 +18,7 @@ pub(crate) fn check_digits(word: &[u8]) -> Result<(), Refusal>
         return Err(Refusal::BadHex);
     }
     for byte in word {
-        if value(*byte) >= 16 {
+        if hex_value(*byte) >= 16 {
             return Err(Refusal::BadHex);
         }
     }
@@ -45,8 +30,8 @@ fn last_byte(word: &[u8]) -> u8
     requires { 2 ≤ length word.now }
     ensures { IsLastByte word.now result }
 {
-    let high = value(word[word.len() - 2]);
-    let low = value(word[word.len() - 1]);
+    let high = hex_value(word[word.len() - 2]);
+    let low = hex_value(word[word.len() - 1]);
     high % 16 * 16 + low % 16
 }
 

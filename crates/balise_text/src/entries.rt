@@ -1,4 +1,5 @@
 //! What the words of an entry of a journal say.
+#![tactic(auto, using(crate::proofs::Taking::map_at_end))]
 
 ghost use Rattle.std.specs.Prelude.{◌≡◌, ◌≢◌, ◌&&◌, is_some, Err, IfErr, IfOk, Ok, option_map, true};
 ghost use Rattle.balise_commands.specs.Lines.{line_in};
@@ -31,159 +32,98 @@ fn told(fault: BitsFault) -> Refusal
 fn read_set(serial: u32, words: Parts) -> Option<Line>
     ensures { option_map line_in result ≡ set_entry serial (left words.entry) }
 {
-    let Some(((g, t, p), words)) = words.packet_path() else {
-        return None;
-    };
-    let Some((var, words)) = words.var() else {
-        return None;
-    };
-    let Some((k, words)) = words.number() else {
-        return None;
-    };
-    let Some((value, words)) = words.number() else {
-        return None;
-    };
-    let Some((old, words)) = words.number() else {
-        return None;
-    };
-    if words.is_over() {
-        return Some(Line {
-            serial,
-            edit: LineEdit::SetVar {
-                g,
-                t,
-                p,
-                var,
-                k,
-                value,
-            },
-            noted: Noted::Value(old),
-        });
-    }
-    None
+    let ((g, t, p), words) = words.packet_path()?;
+    let (var, words) = words.var()?;
+    let (k, words) = words.number()?;
+    let (value, words) = words.number()?;
+    let (old, words) = words.number()?;
+    words.end_with(Line {
+        serial,
+        edit: LineEdit::SetVar {
+            g,
+            t,
+            p,
+            var,
+            k,
+            value,
+        },
+        noted: Noted::Value(old),
+    })
 }
 
 fn read_set_head(serial: u32, words: Parts) -> Option<Line>
     ensures { option_map line_in result ≡ set_head_entry serial (left words.entry) }
 {
-    let Some(((g, t), words)) = words.telegram_path() else {
-        return None;
-    };
-    let Some((var, words)) = words.var() else {
-        return None;
-    };
-    let Some((value, words)) = words.number() else {
-        return None;
-    };
-    let Some((old, words)) = words.number() else {
-        return None;
-    };
-    if words.is_over() {
-        return Some(Line {
-            serial,
-            edit: LineEdit::SetHead { g, t, var, value },
-            noted: Noted::Value(old),
-        });
-    }
-    None
+    let ((g, t), words) = words.telegram_path()?;
+    let (var, words) = words.var()?;
+    let (value, words) = words.number()?;
+    let (old, words) = words.number()?;
+    words.end_with(Line {
+        serial,
+        edit: LineEdit::SetHead { g, t, var, value },
+        noted: Noted::Value(old),
+    })
 }
 
 fn read_delete(serial: u32, words: Parts) -> Option<Line>
     ensures { option_map line_in result ≡ delete_entry serial (left words.entry) }
 {
-    let Some(((g, t, p), words)) = words.packet_path() else {
-        return None;
-    };
-    let Some((before, words)) = words.neighbour() else {
-        return None;
-    };
-    if words.is_over() {
-        return Some(Line {
-            serial,
-            edit: LineEdit::DeletePacket { g, t, p },
-            noted: Noted::BeforePacket(before),
-        });
-    }
-    None
+    let ((g, t, p), words) = words.packet_path()?;
+    let (before, words) = words.neighbour()?;
+    words.end_with(Line {
+        serial,
+        edit: LineEdit::DeletePacket { g, t, p },
+        noted: Noted::BeforePacket(before),
+    })
 }
 
 fn read_move(serial: u32, words: Parts) -> Option<Line>
     ensures { option_map line_in result ≡ move_entry serial (left words.entry) }
 {
-    let Some(((g, t, p), words)) = words.packet_path() else {
-        return None;
-    };
-    let Some((after, words)) = words.anchor() else {
-        return None;
-    };
-    let Some((before, words)) = words.neighbour() else {
-        return None;
-    };
-    if words.is_over() {
-        return Some(Line {
-            serial,
-            edit: LineEdit::MovePacket { g, t, p, after },
-            noted: Noted::BeforePacket(before),
-        });
-    }
-    None
+    let ((g, t, p), words) = words.packet_path()?;
+    let (after, words) = words.anchor()?;
+    let (before, words) = words.neighbour()?;
+    words.end_with(Line {
+        serial,
+        edit: LineEdit::MovePacket { g, t, p, after },
+        noted: Noted::BeforePacket(before),
+    })
 }
 
 fn read_drop(serial: u32, words: Parts) -> Option<Line>
     ensures { option_map line_in result ≡ drop_entry serial (left words.entry) }
 {
-    let Some((g, words)) = words.tag() else {
-        return None;
-    };
-    let Some((before, words)) = words.neighbour() else {
-        return None;
-    };
-    if words.is_over() {
-        return Some(Line {
-            serial,
-            edit: LineEdit::DropGroup { g },
-            noted: Noted::BeforeGroup(before),
-        });
-    }
-    None
+    let (g, words) = words.tag()?;
+    let (before, words) = words.neighbour()?;
+    words.end_with(Line {
+        serial,
+        edit: LineEdit::DropGroup { g },
+        noted: Noted::BeforeGroup(before),
+    })
 }
 
 fn read_renumber(serial: u32, words: Parts) -> Option<Line>
     ensures { option_map line_in result ≡ renumber_entry serial (left words.entry) }
 {
-    let Some((g, words)) = words.tag() else {
-        return None;
-    };
-    let Some((number, words)) = words.number() else {
-        return None;
-    };
-    let Some((old, words)) = words.number() else {
-        return None;
-    };
-    if words.is_over() {
-        return Some(Line {
-            serial,
-            edit: LineEdit::Renumber { g, number },
-            noted: Noted::Number(old),
-        });
-    }
-    None
+    let (g, words) = words.tag()?;
+    let (number, words) = words.number()?;
+    let (old, words) = words.number()?;
+    words.end_with(Line {
+        serial,
+        edit: LineEdit::Renumber { g, number },
+        noted: Noted::Number(old),
+    })
 }
 
 fn read_turn(serial: u32, words: Parts) -> Option<Line>
     ensures { option_map line_in result ≡ turn_entry serial (left words.entry) }
 {
-    let Some((g, words)) = words.tag() else {
-        return None;
-    };
-    if words.is_over() {
-        return Some(Line {
-            serial,
-            edit: LineEdit::TurnGroup { g },
-            noted: Noted::Nothing,
-        });
-    }
-    None
+    let (g, words) = words.tag()?;
+    words.end_with(Line {
+        serial,
+        edit: LineEdit::TurnGroup { g },
+        noted: Noted::Nothing,
+    })
 }
 
 fn read_insert(alloc: Global, serial: u32, words: Parts) -> Result<Line, Refusal>

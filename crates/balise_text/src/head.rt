@@ -66,19 +66,10 @@ impl<'a> Parts<'a> {
 fn read_words(line: &[u8]) -> Option<Head>
     ensures { result ≡ head_in (words_of line.now) }
 {
-    let Some((_, words)) = Parts::words(line).journal() else {
-        return None;
-    };
-    let Some((version, words)) = words.version() else {
-        return None;
-    };
-    let Some((next, words)) = words.number() else {
-        return None;
-    };
-    if words.is_over() {
-        return Some(Head { version, next });
-    }
-    None
+    let (_, words) = Parts::words(line).journal()?;
+    let (version, words) = words.version()?;
+    let (next, words) = words.number()?;
+    words.end_with(Head { version, next })
 }
 
 /// What the first line of a journal, without its end, says: `journal`, the version 1 or 2, the next serial. Any other

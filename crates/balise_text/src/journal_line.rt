@@ -48,10 +48,7 @@ fn undone(line: &[u8]) -> Option<u32>
 {
     let (_, words) = Parts::words(line).undone()?;
     let (serial, words) = words.number()?;
-    if words.is_over() {
-        return Some(serial);
-    }
-    None
+    words.end_with(serial)
 }
 
 fn entry(alloc: Global, line: &[u8]) -> Result<Line, Refusal>

@@ -1,7 +1,7 @@
 //! Words that say where: tags, anchors, neighbours and paths.
 
 ghost use Rattle.std.specs.Prelude.{◌≡◌};
-ghost use Rattle.balise_text.specs.Places.{anchor_of, neighbour_of, packet_path_of, tag_of, telegram_path_of};
+ghost use Rattle.balise_text.specs.Places.{anchor_of, neighbour_of, packet_path_of, tag_of, tag_or, telegram_path_of};
 
 use crate::words::{Parts, read_number};
 use balise_rules::Tag;
@@ -13,15 +13,11 @@ fn read_tag(word: &[u8]) -> Option<Tag>
         [] => None,
         [kind, digits @ ..] => {
             if *kind == b'b' {
-                let Some(place) = read_number(digits) else {
-                    return None;
-                };
+                let place = read_number(digits)?;
                 return Some(Tag::Base(place));
             }
             if *kind == b'n' {
-                let Some(serial) = read_number(digits) else {
-                    return None;
-                };
+                let serial = read_number(digits)?;
                 return Some(Tag::Fresh(serial));
             }
             None
@@ -29,27 +25,14 @@ fn read_tag(word: &[u8]) -> Option<Tag>
     }
 }
 
-fn read_anchor(word: &[u8]) -> Option<Option<Tag>>
-    ensures { result ≡ anchor_of word.now }
+// A tag, or the mark that stands where there is none.
+fn read_tag_or(mark: &[u8], word: &[u8]) -> Option<Option<Tag>>
+    ensures { result ≡ tag_or mark.now word.now }
 {
-    if word == b"^".as_slice() {
+    if word == mark {
         return Some(None);
     }
-    let Some(tag) = read_tag(word) else {
-        return None;
-    };
-    Some(Some(tag))
-}
-
-fn read_neighbour(word: &[u8]) -> Option<Option<Tag>>
-    ensures { result ≡ neighbour_of word.now }
-{
-    if word == b"$".as_slice() {
-        return Some(None);
-    }
-    let Some(tag) = read_tag(word) else {
-        return None;
-    };
+    let tag = read_tag(word)?;
     Some(Some(tag))
 }
 
@@ -59,10 +42,7 @@ fn read_telegram_path(word: &[u8]) -> Option<(Tag, u32)>
 {
     let (group, rest) = Parts::new(word, b'/').tag()?;
     let (telegram, rest) = rest.number()?;
-    if rest.is_over() {
-        return Some((group, telegram));
-    }
-    None
+    rest.end_with((group, telegram))
 }
 
 /// The tags of a group, of a telegram and of a packet.
@@ -72,10 +52,7 @@ fn read_packet_path(word: &[u8]) -> Option<(Tag, u32, Tag)>
     let (group, rest) = Parts::new(word, b'/').tag()?;
     let (telegram, rest) = rest.number()?;
     let (packet, rest) = rest.tag()?;
-    if rest.is_over() {
-        return Some((group, telegram, packet));
-    }
-    None
+    rest.end_with((group, telegram, packet))
 }
 
 impl<'a> Parts<'a> {
@@ -95,7 +72,7 @@ impl<'a> Parts<'a> {
         ensures { TakesPart anchor_of (left self.entry) result }
     {
         let (word, rest) = self.next()?;
-        let anchor = read_anchor(word)?;
+        let anchor = read_tag_or(b"^", word)?;
         Some((anchor, rest))
     }
 
@@ -104,7 +81,7 @@ impl<'a> Parts<'a> {
         ensures { TakesPart neighbour_of (left self.entry) result }
     {
         let (word, rest) = self.next()?;
-        let neighbour = read_neighbour(word)?;
+        let neighbour = read_tag_or(b"$", word)?;
         Some((neighbour, rest))
     }
 

@@ -77,13 +77,7 @@ fn put_packet_path<W: Write>(
 ) -> Result<(), WriteFault>
     ensures { Writes W.contents writer.old writer.new result (packet_path g t p) }
 {
-    if let Err(fault) = put_tag(writer, g) {
-        return Err(fault);
-    }
-    if let Err(fault) = put(writer, b"/") {
-        return Err(fault);
-    }
-    if let Err(fault) = put_number(writer, t) {
+    if let Err(fault) = put_telegram_path(writer, g, t) {
         return Err(fault);
     }
     if let Err(fault) = put(writer, b"/") {

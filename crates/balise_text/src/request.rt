@@ -1,11 +1,13 @@
 //! A command as a line has it.
+#![tactic(auto, using(crate::proofs::Taking::map_at_end))]
 
-ghost use Rattle.std.specs.Prelude.{◌≡◌, ◌≢◌, Err, IfErr, IfOk, Ok, option_map, true};
+ghost use Rattle.std.specs.Prelude.{◌≡◌, ◌≢◌, Err, IfErr, IfOk, MatchOption, Ok, option_map, true};
 ghost use Rattle.balise_rules.specs.Session as session;
-ghost use Rattle.balise_text.specs.Commands.{call_of, reads_digits, strike_words};
+ghost use Rattle.balise_text.specs.Commands.{call_of, command_words, named_words, reads_digits, strike_words};
+ghost use Rattle.balise_text.specs.Kinds.{kind_of};
 ghost use Rattle.balise_text.specs.Left.{left};
 ghost use Rattle.balise_text.specs.Requests.{call};
-ghost use Rattle.balise_text.specs.Words.{no_more, or_bad};
+ghost use Rattle.balise_text.specs.Words.{no_more, or_bad, read_as};
 
 use crate::commands::read_command;
 use crate::kind::read_kind;
@@ -27,32 +29,37 @@ pub enum Request {
     Strike(u32),
 }
 
-pub(crate) fn read_undo(words: Parts) -> Option<Request>
+fn read_undo(words: Parts) -> Option<Request>
     ensures { option_map call result ≡ no_more (left words.entry) session.Undo }
 {
-    if words.is_over() {
-        return Some(Request::Undo);
-    }
-    None
+    words.end_with(Request::Undo)
 }
 
-pub(crate) fn read_redo(words: Parts) -> Option<Request>
+fn read_redo(words: Parts) -> Option<Request>
     ensures { option_map call result ≡ no_more (left words.entry) session.Redo }
 {
-    if words.is_over() {
-        return Some(Request::Redo);
-    }
-    None
+    words.end_with(Request::Redo)
 }
 
-pub(crate) fn read_strike(words: Parts) -> Option<Request>
+fn read_strike(words: Parts) -> Option<Request>
     ensures { option_map call result ≡ strike_words (left words.entry) }
 {
-    let Some((serial, words)) = words.number() else {
-        return None;
-    };
-    if words.is_over() {
-        return Some(Request::Strike(serial));
+    let (serial, words) = words.number()?;
+    words.end_with(Request::Strike(serial))
+}
+
+/// What a name and the words after it ask for, where it is the name of a command that is no edit.
+pub(crate) fn read_other(name: &[u8], words: Parts) -> Option<Option<Request>>
+    ensures { MatchOption result (named_words name.now (left words.entry) ≡ option_map (read_as session.Ask) (command_words (kind_of name.now) (left words.entry))) (λ request. option_map Ok (option_map call request) ≡ named_words name.now (left words.entry)) }
+{
+    if name == b"undo".as_slice() {
+        return Some(read_undo(words));
+    }
+    if name == b"redo".as_slice() {
+        return Some(read_redo(words));
+    }
+    if name == b"strike".as_slice() {
+        return Some(read_strike(words));
     }
     None
 }
@@ -82,14 +89,8 @@ pub fn read_request(alloc: Global, line: &[u8]) -> Result<Request, Refusal>
     let Some((name, words)) = Parts::words(line).next() else {
         return Err(Refusal::BadLine);
     };
-    if name == b"undo".as_slice() {
-        return plainly(read_undo(words));
-    }
-    if name == b"redo".as_slice() {
-        return plainly(read_redo(words));
-    }
-    if name == b"strike".as_slice() {
-        return plainly(read_strike(words));
+    if let Some(request) = read_other(name, words) {
+        return plainly(request);
     }
     match read_command(alloc, read_kind(name), words) {
         Ok(command) => Ok(Request::Edit(command)),

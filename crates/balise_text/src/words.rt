@@ -2,7 +2,7 @@
 
 ghost use Rattle.std.specs.Prelude.{◌≡◌, ◌==◌, ◌∷◌, ◌↔◌, [], IsTrue, MatchOption, position};
 ghost use Rattle.balise_rules.specs.Variables.{var_named};
-ghost use Rattle.balise_text.specs.Words.{id_of, number_of, parts_of, value_from, words_of};
+ghost use Rattle.balise_text.specs.Words.{id_of, no_more, number_of, parts_of, value_from, words_of};
 
 use balise_rules::{Id, Var};
 
@@ -47,6 +47,13 @@ impl<'a> Parts<'a> {
         ensures { IsTrue result ↔ (left self.entry ≡ []) }
     {
         self.over
+    }
+
+    /// This value, where no part comes any more.
+    pub(crate) fn end_with<T: Drop>(self, value: T) -> Option<T>
+        ensures { result ≡ no_more (left self.entry) value }
+    {
+        if self.over { Some(value) } else { None }
     }
 
     /// The next part, and what follows it.
@@ -138,8 +145,5 @@ fn read_id(word: &[u8]) -> Option<Id>
 {
     let (country, rest) = Parts::new(word, b'.').number()?;
     let (number, rest) = rest.number()?;
-    if rest.is_over() {
-        return Some(Id { country, number });
-    }
-    None
+    rest.end_with(Id { country, number })
 }

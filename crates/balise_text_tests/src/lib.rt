@@ -2,8 +2,4 @@
 #![tactic(auto)]
 
 #[cfg(test)]
-mod commands;
-#[cfg(test)]
-mod journals;
-#[cfg(test)]
-mod replies;
+mod tests;

@@ -8,5 +8,5 @@ returns c =
     let w = c.args.word.now in
     let m = length w - 2 in
     let place : length w - 1 ≡ m + 1 = omega (arith, c.requires) in
-    let low : IsDigit c.value-low.result (digit_value (get_or w (m + 1) 0)) = subst (λ (k : ℕ). IsDigit c.value-low.result (digit_value (get_or w k 0))) place (c.value-low.ensures.digit, c.value-low.ensures.other) in
-    last_byte_is w m c.value-high.result c.value-low.result (omega (arith, c.requires)) (c.value-high.ensures.digit, c.value-high.ensures.other) low
+    let low : IsDigit c.hex_value-low.result (digit_value (get_or w (m + 1) 0)) = subst (λ (k : ℕ). IsDigit c.hex_value-low.result (digit_value (get_or w k 0))) place (c.hex_value-low.ensures.digit, c.hex_value-low.ensures.other) in
+    last_byte_is w m c.hex_value-high.result c.hex_value-low.result (omega (arith, c.requires)) (c.hex_value-high.ensures.digit, c.hex_value-high.ensures.other) low

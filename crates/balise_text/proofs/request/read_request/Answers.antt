@@ -1,5 +1,4 @@
-use Rattle.std.proofs.Common.{◌≡◌, ◌∙◌, ◌&&◌, ◌∷◌, Err, true, false, is_some, codes, sym, ap}
-use Rattle.std.specs.Prelude.{bytes_eq}
+use Rattle.std.proofs.Common.{◌≡◌, ◌∙◌, ◌&&◌, ◌∷◌, Err, true, is_some, sym, ap}
 use Rattle.balise_text.specs.Words.{or_bad, words_of}
 use Rattle.balise_text.specs.Kinds.{kind_of}
 use Rattle.balise_text.specs.Commands.{call_in, command_words, has_digits, is_digits_kind}
@@ -12,19 +11,13 @@ returns-in-Err-clause-fault c = λ n.
     let name = c.in-Some.name.now in
     let ws = left c.in-Some.words in
     let line : words_of c.args.line.now ≡ name ∷ ws = sym c.words.ensures ∙ c.in-Some.ensures in
-    let undo : bytes_eq name (codes "undo") ≡ false = ap (bytes_eq name) (sym c.as_slice.ensures) ∙ sym c.if-eq.ensures in
-    let redo : bytes_eq name (codes "redo") ≡ false = ap (bytes_eq name) (sym c.as_slice-2.ensures) ∙ sym c.if-eq-2.ensures in
-    let strike : bytes_eq name (codes "strike") ≡ false = ap (bytes_eq name) (sym c.as_slice-3.ensures) ∙ sym c.if-eq-3.ensures in
     let fault : or_bad (command_words (kind_of name) ws) ≡ Err c.in-Err.refusal = ap (λ k. or_bad (command_words k ws)) (sym c.read_kind.ensures) ∙ c.in-Err.ensures.fault n in
-    ap (λ x. or_bad (call_in x)) line ∙ named_fault name ws c.in-Err.refusal undo redo strike fault
+    ap (λ x. or_bad (call_in x)) line ∙ named_fault name ws c.in-Err.refusal c.in_default-read_other.ensures fault
 
 pub returns-in-Err-clause-memory : goal.returns-in-Err-clause-memory
 returns-in-Err-clause-memory c = λ m.
     let name = c.in-Some.name.now in
     let ws = left c.in-Some.words in
     let line : words_of c.args.line.now ≡ name ∷ ws = sym c.words.ensures ∙ c.in-Some.ensures in
-    let undo : bytes_eq name (codes "undo") ≡ false = ap (bytes_eq name) (sym c.as_slice.ensures) ∙ sym c.if-eq.ensures in
-    let redo : bytes_eq name (codes "redo") ≡ false = ap (bytes_eq name) (sym c.as_slice-2.ensures) ∙ sym c.if-eq-2.ensures in
-    let strike : bytes_eq name (codes "strike") ≡ false = ap (bytes_eq name) (sym c.as_slice-3.ensures) ∙ sym c.if-eq-3.ensures in
     let digits : (is_some (command_words (kind_of name) ws) && is_digits_kind (kind_of name)) ≡ true = ap (λ k. is_some (command_words k ws) && is_digits_kind k) (sym c.read_kind.ensures) ∙ c.in-Err.ensures.memory m in
-    ap (λ x. is_some (call_in x) && has_digits x) line ∙ named_digits name ws undo redo strike digits
+    ap (λ x. is_some (call_in x) && has_digits x) line ∙ named_digits name ws c.in_default-read_other.ensures digits

@@ -182,45 +182,53 @@ const LONG: &str =
 const LONG_SPARE: &str =
     "add 0 0000000000000000000000000000000000000000000000000000000000000000000000000000000000000000000000000000000000000000000000000000000000000000000000000000000000000000000000000000000000000000000000000000000000000005";
 
-const DIGITS: &[(&str, Refusal)] = &[
-    ("insert 5.100 0 0", Refusal::BadLine),
-    ("insert 5.100 0 0 ", Refusal::BadLine),
-    ("insert 5.100 0 0 zz x", Refusal::BadLine),
-    ("insert 5.100 0 0 zz", Refusal::BadHex),
-    ("insert 5.100 0 0 421", Refusal::BadHex),
-    ("insert 5.100 0 0 42\r", Refusal::BadHex),
-    ("add 0", Refusal::BadLine),
-    ("add 0 ", Refusal::BadLine),
-    ("add 0 zz ", Refusal::BadLine),
-    ("add 0 zz 00", Refusal::BadHex),
-    ("add 0 00 zz", Refusal::BadLength),
+/// Lines whose grammar is judged before their digits, by what they are refused for.
+const DIGITS: &[(Refusal, &[&str])] = &[
     (
-        "add 0 a1007f80a0327fffffffffffffffffffffffffffffffffffffffc1",
-        Refusal::SpareBits,
+        Refusal::BadLine,
+        &[
+            "insert 5.100 0 0",
+            "insert 5.100 0 0 ",
+            "insert 5.100 0 0 zz x",
+            "add 0",
+            "add 0 ",
+            "add 0 zz ",
+        ],
     ),
     (
-        "add 0 a1007f80a0327fffffffffffffffffffffffffffffffffffffffe0",
-        Refusal::SpareBits,
-    ),
-    (LONG_SPARE, Refusal::SpareBits),
-    (
-        "add 0 a1007f80a0327fffffffffffffffffffffffffffffffffffffffc",
         Refusal::BadHex,
+        &[
+            "insert 5.100 0 0 zz",
+            "insert 5.100 0 0 421",
+            "insert 5.100 0 0 42\r",
+            "add 0 zz 00",
+            "add 0 a1007f80a0327fffffffffffffffffffffffffffffffffffffffc",
+            "add 0 a1007f80a0327fffffffffffffffffffffffffffffffffffffffc0 0G",
+        ],
     ),
     (
-        "add 0 a1007f80a0327fffffffffffffffffffffffffffffffffffffffc0 0G",
-        Refusal::BadHex,
-    ),
-    (
-        "add 0 a1007f80a0327fffffffffffffffffffffffffffffffffffffffc0 00",
         Refusal::BadLength,
+        &[
+            "add 0 00 zz",
+            "add 0 a1007f80a0327fffffffffffffffffffffffffffffffffffffffc0 00",
+        ],
+    ),
+    (
+        Refusal::SpareBits,
+        &[
+            "add 0 a1007f80a0327fffffffffffffffffffffffffffffffffffffffc1",
+            "add 0 a1007f80a0327fffffffffffffffffffffffffffffffffffffffe0",
+            LONG_SPARE,
+        ],
     ),
 ];
 
 #[test]
 fn digits_are_judged_after_the_grammar(rt: HostRuntime) {
-    for (line, refusal) in DIGITS.iter() {
-        check_refused(&rt, rt.alloc(), line.as_bytes(), *refusal);
+    for (refusal, lines) in DIGITS.iter() {
+        for line in lines.iter() {
+            check_refused(&rt, rt.alloc(), line.as_bytes(), *refusal);
+        }
     }
 }
 

@@ -113,70 +113,73 @@ fn check_refused(rt: &impl Abort, alloc: Global, section: Section, line: &str, r
     assert!(rt; is_refused(&read_journal_line(alloc, section, line.as_bytes()), refusal));
 }
 
-const BAD: &[&str] = &[
-    "",
-    "1",
-    "x turn b0",
-    "01 turn b0",
-    "1 turn c0",
-    "1 turn b",
-    "1 turn b0 ",
-    "1  turn b0",
-    "1 turn b0 b1",
-    "1 set b0/0 NID_TSR 0 9 5",
-    "1 set b0/0/b0 NID_TSX 0 9 5",
-    "1 set b0/0/b0 NID_TSR 0 9",
-    "1 delete b0/0/b0 ^",
-    "1 move b0/0/b0 $ $",
-    "1 insert b0/0 ^",
-    "1 insert b0/0 ^ ",
-    "1 insert b0/0 ^ zz x",
-    "1 add ^",
-    "1 add ^ zz ",
-    "undone 3",
-    "edits ",
-];
-
-#[test]
-fn lines_outside_the_grammar(rt: HostRuntime) {
-    for line in BAD.iter() {
-        let section = Section::Entries(Version::One);
-        check_refused(&rt, rt.alloc(), section, *line, Refusal::BadLine);
-    }
-}
-
-const DIGITS: &[(&str, Refusal)] = &[
-    ("1 insert b0/0 ^ zz", Refusal::BadHex),
-    ("1 insert b0/0 ^ 4", Refusal::BadHex),
-    ("1 add ^ zz", Refusal::BadHex),
-    ("1 add ^ zz 00", Refusal::BadHex),
-    ("1 add ^ 00 zz", Refusal::JournalMismatch),
+/// Lines that are refused, by where they stand and what for: digits are judged after the grammar, and nothing but
+/// undone edits comes after the first of them.
+const REFUSED: &[(Section, Refusal, &[&str])] = &[
     (
-        "1 add ^ a1007f80a0327fffffffffffffffffffffffffffffffffffffffc1",
+        Section::Entries(Version::One),
+        Refusal::BadLine,
+        &[
+            "",
+            "1",
+            "x turn b0",
+            "01 turn b0",
+            "1 turn c0",
+            "1 turn b",
+            "1 turn b0 ",
+            "1  turn b0",
+            "1 turn b0 b1",
+            "1 set b0/0 NID_TSR 0 9 5",
+            "1 set b0/0/b0 NID_TSX 0 9 5",
+            "1 set b0/0/b0 NID_TSR 0 9",
+            "1 delete b0/0/b0 ^",
+            "1 move b0/0/b0 $ $",
+            "1 insert b0/0 ^",
+            "1 insert b0/0 ^ ",
+            "1 insert b0/0 ^ zz x",
+            "1 add ^",
+            "1 add ^ zz ",
+            "undone 3",
+            "edits ",
+        ],
+    ),
+    (
+        Section::Entries(Version::Two),
+        Refusal::BadHex,
+        &[
+            "1 insert b0/0 ^ zz",
+            "1 insert b0/0 ^ 4",
+            "1 add ^ zz",
+            "1 add ^ zz 00",
+        ],
+    ),
+    (
+        Section::Entries(Version::Two),
         Refusal::JournalMismatch,
+        &[
+            "1 add ^ 00 zz",
+            "1 add ^ a1007f80a0327fffffffffffffffffffffffffffffffffffffffc1",
+        ],
+    ),
+    (
+        Section::Undone,
+        Refusal::BadLine,
+        &[
+            "1 turn b0",
+            "1 insert b0/0 ^ zz",
+            "undone",
+            "undone 1 2",
+            "",
+        ],
     ),
 ];
 
 #[test]
-fn digits_are_judged_after_the_grammar(rt: HostRuntime) {
-    for (line, refusal) in DIGITS.iter() {
-        let section = Section::Entries(Version::Two);
-        check_refused(&rt, rt.alloc(), section, *line, *refusal);
-    }
-}
-
-const AFTER: &[&str] = &[
-    "1 turn b0",
-    "1 insert b0/0 ^ zz",
-    "undone",
-    "undone 1 2",
-    "",
-];
-
-#[test]
-fn after_the_first_undone_edit(rt: HostRuntime) {
-    for line in AFTER.iter() {
-        check_refused(&rt, rt.alloc(), Section::Undone, *line, Refusal::BadLine);
+fn refused_lines(rt: HostRuntime) {
+    for (section, refusal, lines) in REFUSED.iter() {
+        for line in lines.iter() {
+            check_refused(&rt, rt.alloc(), *section, *line, *refusal);
+        }
     }
 }
 

@@ -4,74 +4,67 @@ use balise_arguments::{ArgsFault, Flags, flags};
 use std::alloc::Global;
 use std::process::Abort;
 
-/// Arguments, and the flags that they are read as: quiet, stop, journal and json, in each of the sixteen sets.
-const READ: &[(&[&str], [bool; 4])] = &[
-    (&["baliseplan"], [false, false, false, false]),
-    (&["baliseplan", "--quiet"], [true, false, false, false]),
-    (&["baliseplan", "--stop"], [false, true, false, false]),
+const QUIET: u8 = 1;
+
+const STOP: u8 = 2;
+
+const JOURNAL: u8 = 4;
+
+const JSON: u8 = 8;
+
+/// Arguments, and the flags that they are read as, in each of the sixteen sets.
+const READ: &[(&str, u8)] = &[
+    ("baliseplan", 0),
+    ("baliseplan --quiet", QUIET),
+    ("baliseplan --stop", STOP),
+    ("baliseplan --quiet --stop", QUIET | STOP),
+    ("baliseplan --journal", JOURNAL),
+    ("baliseplan --quiet --journal", QUIET | JOURNAL),
+    ("baliseplan --stop --journal", STOP | JOURNAL),
     (
-        &["baliseplan", "--quiet", "--stop"],
-        [true, true, false, false],
+        "baliseplan --quiet --stop --journal",
+        QUIET | STOP | JOURNAL,
     ),
-    (&["baliseplan", "--journal"], [false, false, true, false]),
+    ("baliseplan --json", JSON),
+    ("baliseplan --json --quiet", QUIET | JSON),
+    ("baliseplan --stop --json", STOP | JSON),
+    ("baliseplan --quiet --stop --json", QUIET | STOP | JSON),
+    ("baliseplan --journal --json", JOURNAL | JSON),
     (
-        &["baliseplan", "--quiet", "--journal"],
-        [true, false, true, false],
+        "baliseplan --quiet --journal --json",
+        QUIET | JOURNAL | JSON,
     ),
+    ("baliseplan --stop --journal --json", STOP | JOURNAL | JSON),
     (
-        &["baliseplan", "--stop", "--journal"],
-        [false, true, true, false],
+        "baliseplan --json --quiet --stop --journal",
+        QUIET | STOP | JOURNAL | JSON,
     ),
-    (
-        &["baliseplan", "--quiet", "--stop", "--journal"],
-        [true, true, true, false],
-    ),
-    (&["baliseplan", "--json"], [false, false, false, true]),
-    (
-        &["baliseplan", "--json", "--quiet"],
-        [true, false, false, true],
-    ),
-    (
-        &["baliseplan", "--stop", "--json"],
-        [false, true, false, true],
-    ),
-    (
-        &["baliseplan", "--quiet", "--stop", "--json"],
-        [true, true, false, true],
-    ),
-    (
-        &["baliseplan", "--journal", "--json"],
-        [false, false, true, true],
-    ),
-    (
-        &["baliseplan", "--quiet", "--journal", "--json"],
-        [true, false, true, true],
-    ),
-    (
-        &["baliseplan", "--stop", "--journal", "--json"],
-        [false, true, true, true],
-    ),
-    (
-        &["baliseplan", "--json", "--quiet", "--stop", "--journal"],
-        [true, true, true, true],
-    ),
-    (&["baliseplan", "--json", "--"], [false, false, false, true]),
+    ("baliseplan --json --", JSON),
 ];
 
-fn check_read(rt: &impl Abort, answer: &Result<Flags, ArgsFault>, wanted: [bool; 4]) {
+fn check_read(rt: &impl Abort, answer: &Result<Flags, ArgsFault>, set: u8) {
     match answer {
         Ok(read) => {
-            assert!(rt; read.quiet == wanted[0] && read.stop == wanted[1]);
-            assert!(rt; read.journal == wanted[2] && read.json == wanted[3]);
+            assert!(rt; read.quiet == (set & QUIET != 0) && read.stop == (set & STOP != 0));
+            assert!(rt; read.journal == (set & JOURNAL != 0) && read.json == (set & JSON != 0));
         }
         Err(_) => assert!(rt; false),
     }
 }
 
+fn words_of<'a>(rt: &impl Abort, alloc: Global, line: &'a str) -> Vec<&'a str> {
+    let mut words = Vec::new(alloc);
+    for word in line.split_whitespace() {
+        words.push(word).expect(rt, "memory");
+    }
+    words
+}
+
 #[test]
 fn each_set_of_flags(rt: HostRuntime) {
-    for (words, wanted) in READ.iter() {
-        check_read(&rt, &flags(rt.alloc(), *words), *wanted);
+    for (line, set) in READ.iter() {
+        let words = words_of(&rt, rt.alloc(), *line);
+        check_read(&rt, &flags(rt.alloc(), words.as_slice()), *set);
     }
 }
 

@@ -4,6 +4,7 @@ use balise_text::{
     Bits, Counted, Id, Refusal, Reply, ReviewLine, Reviewed, Var, put_bad, put_digits, put_fault,
     put_reply, put_review, put_texts,
 };
+use std::alloc::Global;
 use std::process::Abort;
 
 /// A writer that keeps what is written.
@@ -39,17 +40,17 @@ fn replies(rt: HostRuntime) {
     put_replies(&rt, &mut writer);
 }
 
-fn put_refused(rt: &impl Abort, writer: &mut Text) {
-    put_bad(writer, 18_446_744_073_709_551_615, Refusal::SpareBits).expect(rt, "memory");
-    put_fault(writer, Refusal::ReadFault).expect(rt, "memory");
-    let wanted = "bad 18446744073709551615 4 SpareBits\nfault 31 ReadFault\n";
-    check_text(rt, writer, wanted);
+fn refused(rt: &impl Abort, alloc: Global) -> Text {
+    let mut writer = Counted::new(Vec::new(alloc));
+    put_bad(&mut writer, 18_446_744_073_709_551_615, Refusal::SpareBits).expect(rt, "memory");
+    put_fault(&mut writer, Refusal::ReadFault).expect(rt, "memory");
+    writer
 }
 
 #[test]
 fn refused_plans_and_faults(rt: HostRuntime) {
-    let mut writer = Counted::new(Vec::new(rt.alloc()));
-    put_refused(&rt, &mut writer);
+    let wanted = "bad 18446744073709551615 4 SpareBits\nfault 31 ReadFault\n";
+    check_text(&rt, &refused(&rt, rt.alloc()), wanted);
 }
 
 /// The line of a review of a packet of 5.100.
@@ -66,17 +67,18 @@ fn line(what: Reviewed) -> ReviewLine {
     }
 }
 
-fn put_reviews(rt: &impl Abort, writer: &mut Text) {
-    put_review(writer, line(Reviewed::Field(Var::DLink, 2, 300))).expect(rt, "memory");
-    put_review(writer, line(Reviewed::Opaque(136))).expect(rt, "memory");
-    let wanted = "review 5.100 1 0 D_LINK 2 300\nreview 5.100 1 0 opaque 136\n";
-    check_text(rt, writer, wanted);
+fn reviewed(rt: &impl Abort, alloc: Global) -> Text {
+    let mut writer = Counted::new(Vec::new(alloc));
+    for what in [Reviewed::Field(Var::DLink, 2, 300), Reviewed::Opaque(136)] {
+        put_review(&mut writer, line(what)).expect(rt, "memory");
+    }
+    writer
 }
 
 #[test]
 fn reviews(rt: HostRuntime) {
-    let mut writer = Counted::new(Vec::new(rt.alloc()));
-    put_reviews(&rt, &mut writer);
+    let wanted = "review 5.100 1 0 D_LINK 2 300\nreview 5.100 1 0 opaque 136\n";
+    check_text(&rt, &reviewed(&rt, rt.alloc()), wanted);
 }
 
 fn put_digits_and_texts(rt: &impl Abort, writer: &mut Text, bits: &Bits) {

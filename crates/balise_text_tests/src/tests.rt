@@ -1,0 +1,5 @@
+//! The tests, by topic.
+
+mod commands;
+mod journals;
+mod replies;

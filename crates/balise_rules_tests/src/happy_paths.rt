@@ -1,7 +1,7 @@
 //! Each function once on its happy path, with values of the standard's tables.
 
 use balise_rules::{Refusal, Var};
-use std::alloc::Global;
+use std::alloc::AllocError;
 use std::process::Abort;
 
 /// That the variable with this name is this one, as wide as this, and steers or not.
@@ -31,15 +31,7 @@ fn numbers_the_refusals(rt: HostRuntime) {
     assert!(rt; Refusal::BadLine.name() == "BadLine");
 }
 
-/// One number in a list of its own.
-fn listed(alloc: Global, number: u32) -> Result<Vec<u32>, Refusal> {
-    let mut numbers = Vec::with_capacity(alloc, 1)?;
-    numbers.push(number)?;
-    Ok(numbers)
-}
-
 #[test]
-fn carries_want_of_memory_up(rt: HostRuntime) {
-    let numbers = listed(rt.alloc(), 7).expect(&rt, "memory");
-    assert!(rt; numbers.len() == 1);
+fn an_allocation_that_fails_is_out_of_memory(rt: HostRuntime) {
+    assert!(rt; Refusal::from(AllocError) == Refusal::OutOfMemory);
 }

@@ -2,6 +2,4 @@
 #![tactic(auto)]
 
 #[cfg(test)]
-mod groups;
-#[cfg(test)]
-mod largest;
+mod tests;

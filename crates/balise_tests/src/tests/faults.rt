@@ -1,7 +1,7 @@
 //! Readers that give few bytes a call and writers that take few, and each call of either failing in turn.
 
-use crate::devices::{Failure, Narrow, Slow};
-use crate::runs::{check_ended, check_text};
+use crate::tests::devices::{Failure, Narrow, Slow};
+use crate::tests::runs::{JOURNAL, PLAIN, check_ended, check_text};
 use balise_cli::{Counted, Flags, RunFault, Status, run};
 use std::alloc::Global;
 use std::io::ErrorKind;
@@ -19,12 +19,7 @@ struct Case {
 
 const CASES: [Case; 5] = [
     Case {
-        flags: Flags {
-            quiet: false,
-            stop: false,
-            journal: false,
-            json: false,
-        },
+        flags: PLAIN,
         input: b"plan 1\ngroup\na1007f80a03250900f82ffffffffffffffffffffffffffffffffc0\nedits\nset 5.100 0 0 NID_TSR 0 9\nseth 5.100 0 M_MCOUNT 254\nundo\n",
         front: 4,
         answers: ["ok 1\n", "ok 2\n", "undone 2\n"],
@@ -32,12 +27,7 @@ const CASES: [Case; 5] = [
         status: Status::Accepted,
     },
     Case {
-        flags: Flags {
-            quiet: false,
-            stop: false,
-            journal: false,
-            json: false,
-        },
+        flags: PLAIN,
         input: b"plan 1\ngroup\na104ff80a032505023a0a0320096047fffffffffffffffffffffc0\na1157f80a0324b0010697fffffffffffffffffffffffffffffffc0\na1247f80a0327fffffffffffffffffffffffffffffffffffffffc0\ngroup\na1007f80a032c15022a07d00326301ffffffffffffffffffffffc0\nedits\nturn 5.100\ninsert 5.100 0 0 42403e0a\nstrike 1\n",
         front: 8,
         answers: [
@@ -50,10 +40,8 @@ const CASES: [Case; 5] = [
     },
     Case {
         flags: Flags {
-            quiet: false,
-            stop: false,
-            journal: true,
             json: true,
+            ..JOURNAL
         },
         input: b"plan 1\ngroup\na1007f80a03250900f82ffffffffffffffffffffffffffffffffc0\nedits\nset 5.100 0 0 NID_TSR 0 9\n",
         front: 4,
@@ -62,12 +50,7 @@ const CASES: [Case; 5] = [
         status: Status::Accepted,
     },
     Case {
-        flags: Flags {
-            quiet: false,
-            stop: false,
-            journal: true,
-            json: false,
-        },
+        flags: JOURNAL,
         input: b"plan 1\ngroup\na1007f80a03250900f82ffffffffffffffffffffffffffffffffc0\njournal 1 2\n1 set b0/0/b0 NID_TSR 0 9 5\nedits\nundo\n",
         front: 6,
         answers: ["undone 1\n", "", ""],
@@ -75,12 +58,7 @@ const CASES: [Case; 5] = [
         status: Status::Accepted,
     },
     Case {
-        flags: Flags {
-            quiet: false,
-            stop: false,
-            journal: true,
-            json: false,
-        },
+        flags: JOURNAL,
         input: b"plan 1\ngroup\na1007f80a0327fffffffffffffffffffffffffffffffffffffffc0\njournal 2 3\n1 insert b0/0 ^ 42403e0a\n2 insert b0/0 n1 42403e0c\nundone 1\nedits\nundo\nredo\nredo\n",
         front: 8,
         answers: ["undone 2\n", "redone 2\n", "redone 1\n"],

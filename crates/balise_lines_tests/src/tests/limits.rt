@@ -1,7 +1,7 @@
 //! The longest line and the longest input.
 
-use crate::devices::{Pattern, Slow};
-use crate::ends::{LAST, LINE};
+use crate::tests::devices::{Pattern, Slow};
+use crate::tests::ends::{LAST, LINE};
 use balise_lines::{LineFault, Lines, Next};
 use std::process::Abort;
 

@@ -1,7 +1,7 @@
 //! Damaged journals of a plan with a packet 66.
 
-use crate::runs;
-use crate::runs::{PLAIN, Row, push};
+use crate::tests::runs;
+use crate::tests::runs::{PLAIN, Row, push};
 use balise_cli::Status;
 use std::alloc::Global;
 use std::process::Abort;

@@ -1,6 +1,6 @@
 //! Runs over an input, with what they print and end with.
 
-use crate::devices::{Repeated, Slow};
+use crate::tests::devices::{Repeated, Slow};
 use balise_cli::{Counted, Flags, RunFault, Status, run};
 use std::alloc::Global;
 use std::process::Abort;
@@ -14,16 +14,12 @@ pub(crate) const PLAIN: Flags = Flags {
 
 pub(crate) const QUIET: Flags = Flags {
     quiet: true,
-    stop: false,
-    journal: false,
-    json: false,
+    ..PLAIN
 };
 
 pub(crate) const JOURNAL: Flags = Flags {
-    quiet: false,
-    stop: false,
     journal: true,
-    json: false,
+    ..PLAIN
 };
 
 /// An input with its flags, and what a run over it prints and ends with.

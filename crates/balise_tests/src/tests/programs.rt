@@ -1,7 +1,7 @@
 //! The whole program over its words: what it writes on each stream, and what it ends with.
 
-use crate::devices::{Failure, Narrow, Slow};
-use crate::runs::PLAIN;
+use crate::tests::devices::{Failure, Narrow, Slow};
+use crate::tests::runs::PLAIN;
 use balise_cli::{Counted, Exit, Refusal, launch, report, start, stop_without_memory, work};
 use std::alloc::Global;
 use std::env::Args;

@@ -1,6 +1,6 @@
 //! Texts by a writer that takes three bytes a call, and what is counted.
 
-use crate::devices::{Failure, Narrow};
+use crate::tests::devices::{Failure, Narrow};
 use balise_lines::{Counted, LineFault, WriteFault, put};
 use std::alloc::Global;
 use std::io;

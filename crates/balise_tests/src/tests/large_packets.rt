@@ -1,6 +1,6 @@
 //! Insertions of packets that no telegram has room for.
 
-use crate::runs::{PLAIN, check_at_once, push};
+use crate::tests::runs::{PLAIN, check_at_once, push};
 use balise_cli::Status;
 use std::alloc::Global;
 use std::process::Abort;
@@ -13,35 +13,32 @@ const PLAN: &str =
 const LINKS: &str =
     "054c7c81f480c032417e07d60300cb0503ed0180668281f780c033c140fc40601a20a07e60300d30503f501806a8281fb80c035c140fe40601b20a07f60300db0503fd01806e8281ff80c037c1410040601c20a08060300e305040501807282820380c039c1410240601d20a08160300eb05040d01807682820780c03bc1410440601e20a08260300f305041501807a82820b80c03dc1410640601f20a08360300fb05041d01807e82820f80c03fc1410840602020a084603010305042501808282821380c041c14";
 
+/// Digits with how often they are repeated, one part after another.
+type Parts = &'static [(&'static str, u32)];
+
 /// A packet 27 of 8,180 bits begins with a section of two differences. Then come sections of 20 and of 16.
-const SPEEDS: &str = "1b7fe800000010000001f";
+const SPEEDS: Parts = &[
+    ("1b7fe800000010000001f", 1),
+    (
+        "000001400000000000000000000000000000000000000000000000000000000000000000",
+        15,
+    ),
+    (
+        "00000100000000000000000000000000000000000000000000000000000",
+        16,
+    ),
+    ("0", 1),
+];
 
-const SECTION_OF_20: &str =
-    "000001400000000000000000000000000000000000000000000000000000000000000000";
+/// A packet 44 of 8,191 bits.
+const LONGEST: Parts = &[("2c7ffe", 1), ("00", 1_021)];
 
-const SECTION_OF_16: &str = "00000100000000000000000000000000000000000000000000000000000";
-
-/// The first digits of a packet 44 of 8,191 bits.
-const LONGEST: &str = "2c7ffe";
-
-fn push_often(rt: &impl Abort, text: &mut String, part: &str, times: u32) {
-    for _ in 0..times {
-        push(rt, text, part);
+fn push_parts(rt: &impl Abort, digits: &mut String, parts: Parts) {
+    for (part, times) in parts.iter() {
+        for _ in 0..*times {
+            push(rt, digits, *part);
+        }
     }
-}
-
-/// Adds the digits of the packet 27.
-fn push_speeds(rt: &impl Abort, digits: &mut String) {
-    push(rt, digits, SPEEDS);
-    push_often(rt, digits, SECTION_OF_20, 15);
-    push_often(rt, digits, SECTION_OF_16, 16);
-    push(rt, digits, "0");
-}
-
-/// Adds the digits of the packet 44.
-fn push_longest(rt: &impl Abort, digits: &mut String) {
-    push(rt, digits, LONGEST);
-    push_often(rt, digits, "00", 1_021);
 }
 
 /// Adds the input and the output of a run that puts these digits in.
@@ -65,9 +62,9 @@ fn check(rt: &impl Abort, alloc: Global, digits: &str) {
 #[test]
 fn no_room(rt: HostRuntime) {
     let mut speeds = String::new(rt.alloc());
-    push_speeds(&rt, &mut speeds);
+    push_parts(&rt, &mut speeds, SPEEDS);
     let mut longest = String::new(rt.alloc());
-    push_longest(&rt, &mut longest);
+    push_parts(&rt, &mut longest, LONGEST);
     check(&rt, rt.alloc(), LINKS);
     check(&rt, rt.alloc(), speeds.as_str());
     check(&rt, rt.alloc(), longest.as_str());

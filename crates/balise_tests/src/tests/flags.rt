@@ -1,6 +1,6 @@
 //! One input with a refused command, under each set of flags.
 
-use crate::runs::{check_at_once, push};
+use crate::tests::runs::{check_at_once, push};
 use balise_cli::{Flags, Status};
 use std::alloc::Global;
 use std::process::Abort;

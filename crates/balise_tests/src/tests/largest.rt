@@ -1,15 +1,13 @@
 //! The largest telegram and the largest group, read, printed, viewed, turned and added.
 
-use crate::runs::{JOURNAL, PLAIN, check_at_once, push};
+use crate::tests::runs::{JOURNAL, PLAIN, check_at_once, push};
 use balise_cli::{Flags, Status};
 use std::alloc::Global;
 use std::process::Abort;
 
 const VIEW: Flags = Flags {
-    quiet: false,
-    stop: false,
-    journal: false,
     json: true,
+    ..PLAIN
 };
 
 /// The first digits of a telegram, with N_PIG, N_TOTAL and M_MCOUNT in them, and M_MCOUNT.
@@ -40,19 +38,23 @@ const REVERSED: &[Head] = &[
     ("a17e00", "0"),
 ];
 
-/// The digits after a head: 33 packets 44 of 23 bits with Q_DIR 1, and with Q_DIR 0. 830 bits have no room for more.
-const NOMINAL: &str =
-    "00a0324b100b9620172c402e58805cb100b9620172c402e58805cb100b9620172c402e58805cb100b9620172c402e58805cb100b9620172c402e58805cb100b9620172c402e58805cb100b9620172c402e58805cb100b9620172c402e58805cb100bfffffc";
+/// 33 packets 44 of 23 bits: the digits after a head, and how each packet is viewed. 830 bits have no room for more.
+struct Filling {
+    digits: &'static str,
+    view: &'static str,
+}
 
-const REVERSE: &str =
-    "00a0324b000b9600172c002e58005cb000b9600172c002e58005cb000b9600172c002e58005cb000b9600172c002e58005cb000b9600172c002e58005cb000b9600172c002e58005cb000b9600172c002e58005cb000b9600172c002e58005cb000bfffffc";
+/// With Q_DIR 1.
+const NOMINAL: Filling = Filling {
+    digits: "00a0324b100b9620172c402e58805cb100b9620172c402e58805cb100b9620172c402e58805cb100b9620172c402e58805cb100b9620172c402e58805cb100b9620172c402e58805cb100b9620172c402e58805cb100b9620172c402e58805cb100bfffffc",
+    view: "{\"fields\":[[\"NID_PACKET\",44],[\"Q_DIR\",1],[\"L_PACKET\",23]],\"known\":false}",
+};
 
-/// How a packet of either is viewed.
-const NOMINAL_VIEW: &str =
-    "{\"fields\":[[\"NID_PACKET\",44],[\"Q_DIR\",1],[\"L_PACKET\",23]],\"known\":false}";
-
-const REVERSE_VIEW: &str =
-    "{\"fields\":[[\"NID_PACKET\",44],[\"Q_DIR\",0],[\"L_PACKET\",23]],\"known\":false}";
+/// With Q_DIR 0.
+const REVERSE: Filling = Filling {
+    digits: "00a0324b000b9600172c002e58005cb000b9600172c002e58005cb000b9600172c002e58005cb000b9600172c002e58005cb000b9600172c002e58005cb000b9600172c002e58005cb000b9600172c002e58005cb000b9600172c002e58005cb000bfffffc",
+    view: "{\"fields\":[[\"NID_PACKET\",44],[\"Q_DIR\",0],[\"L_PACKET\",23]],\"known\":false}",
+};
 
 /// A group with a link that names the group of eight, the same after the turn, and how it is viewed then.
 const LINK: &str = "group\na1007f80a032c15022a07d00326301ffffffffffffffffffffffc0\n";
@@ -69,16 +71,16 @@ const PLACES: &[&str] = &[
     "17", "18", "19", "20", "21", "22", "23", "24", "25", "26", "27", "28", "29", "30", "31", "32",
 ];
 
-fn push_telegram(rt: &impl Abort, text: &mut String, head: &str, rest: &str) {
+fn push_telegram(rt: &impl Abort, text: &mut String, head: &str, filling: &Filling) {
     push(rt, text, head);
-    push(rt, text, rest);
+    push(rt, text, filling.digits);
 }
 
 /// Adds the line `group` and those of its telegrams.
-fn push_group(rt: &impl Abort, text: &mut String, heads: &[Head], rest: &str) {
+fn push_group(rt: &impl Abort, text: &mut String, heads: &[Head], filling: &Filling) {
     push(rt, text, "group\n");
     for (head, _) in heads.iter() {
-        push_telegram(rt, text, *head, rest);
+        push_telegram(rt, text, *head, filling);
         push(rt, text, "\n");
     }
 }
@@ -87,7 +89,7 @@ fn push_group(rt: &impl Abort, text: &mut String, heads: &[Head], rest: &str) {
 fn push_words(rt: &impl Abort, text: &mut String, heads: &[Head]) {
     for (head, _) in heads.iter() {
         push(rt, text, " ");
-        push_telegram(rt, text, *head, NOMINAL);
+        push_telegram(rt, text, *head, &NOMINAL);
     }
 }
 
@@ -109,34 +111,38 @@ fn push_telegram_view(rt: &impl Abort, text: &mut String, count: &str, packet: &
 }
 
 /// Adds the line of a group in the view.
-fn push_view(rt: &impl Abort, text: &mut String, heads: &[Head], packet: &str) {
+fn push_view(rt: &impl Abort, text: &mut String, heads: &[Head], filling: &Filling) {
     push(rt, text, "{\"country\":5,\"number\":100,\"telegrams\":[");
     for (place, (_, count)) in heads.iter().enumerate() {
         if place > 0 {
             push(rt, text, ",");
         }
-        push_telegram_view(rt, text, *count, packet);
+        push_telegram_view(rt, text, *count, filling.view);
     }
     push(rt, text, "]}\n");
+}
+
+/// That a run over an input, which stands before its output, is accepted.
+fn check_texts(rt: &impl Abort, alloc: Global, flags: Flags, texts: &(String, String)) {
+    let texts = (texts.0.as_str(), texts.1.as_str());
+    check_at_once(rt, alloc, flags, texts, Status::Accepted);
 }
 
 /// A telegram that is read and printed, with its view.
 fn push_alone(rt: &impl Abort, input: &mut String, output: &mut String) {
     push(rt, input, "plan 1\n");
-    push_group(rt, input, ALONE, NOMINAL);
+    push_group(rt, input, ALONE, &NOMINAL);
     push(rt, input, "edits\n");
     push(rt, output, "plan 1\n");
-    push_group(rt, output, ALONE, NOMINAL);
-    push_view(rt, output, ALONE, NOMINAL_VIEW);
+    push_group(rt, output, ALONE, &NOMINAL);
+    push_view(rt, output, ALONE, &NOMINAL);
 }
 
 #[test]
 fn most_packets(rt: HostRuntime) {
-    let mut input = String::new(rt.alloc());
-    let mut output = String::new(rt.alloc());
-    push_alone(&rt, &mut input, &mut output);
-    let texts = (input.as_str(), output.as_str());
-    check_at_once(&rt, rt.alloc(), VIEW, texts, Status::Accepted);
+    let mut texts = (String::new(rt.alloc()), String::new(rt.alloc()));
+    push_alone(&rt, &mut texts.0, &mut texts.1);
+    check_texts(&rt, rt.alloc(), VIEW, &texts);
 }
 
 fn push_reviews(rt: &impl Abort, text: &mut String) {
@@ -154,25 +160,23 @@ fn push_reviews(rt: &impl Abort, text: &mut String) {
 /// A group of eight that is turned, with its reviews and its view.
 fn push_turned(rt: &impl Abort, input: &mut String, output: &mut String) {
     push(rt, input, "plan 1\n");
-    push_group(rt, input, EIGHT, NOMINAL);
+    push_group(rt, input, EIGHT, &NOMINAL);
     push(rt, input, LINK);
     push(rt, input, "edits\nturn 5.100\n");
     push(rt, output, "ok 1\n");
     push_reviews(rt, output);
     push(rt, output, "review 5.101 0 0 D_LINK 0 500\nplan 1\n");
-    push_group(rt, output, REVERSED, REVERSE);
+    push_group(rt, output, REVERSED, &REVERSE);
     push(rt, output, TURNED_LINK);
-    push_view(rt, output, REVERSED, REVERSE_VIEW);
+    push_view(rt, output, REVERSED, &REVERSE);
     push(rt, output, TURNED_LINK_VIEW);
 }
 
 #[test]
 fn most_reviews(rt: HostRuntime) {
-    let mut input = String::new(rt.alloc());
-    let mut output = String::new(rt.alloc());
-    push_turned(&rt, &mut input, &mut output);
-    let texts = (input.as_str(), output.as_str());
-    check_at_once(&rt, rt.alloc(), VIEW, texts, Status::Accepted);
+    let mut texts = (String::new(rt.alloc()), String::new(rt.alloc()));
+    push_turned(&rt, &mut texts.0, &mut texts.1);
+    check_texts(&rt, rt.alloc(), VIEW, &texts);
 }
 
 /// A group of eight that is added, with the journal. The input begins with this, and the output with the reply.
@@ -181,41 +185,34 @@ fn push_added(rt: &impl Abort, input: &mut String, output: &mut String, front: &
     push_words(rt, input, EIGHT);
     push(rt, output, reply);
     push(rt, output, "plan 1\n");
-    push_group(rt, output, EIGHT, NOMINAL);
+    push_group(rt, output, EIGHT, &NOMINAL);
     push(rt, output, "journal 2 2\n1 add ^");
     push_words(rt, output, EIGHT);
     push(rt, output, "\n");
 }
 
+/// That a run over the line of eight telegrams, after a front and before an end, has this reply and prints them.
+fn check_added(rt: &impl Abort, alloc: Global, front: &str, end: &str, reply: &str) {
+    let mut texts = (String::new(alloc), String::new(alloc));
+    push_added(rt, &mut texts.0, &mut texts.1, front, reply);
+    push(rt, &mut texts.0, end);
+    check_texts(rt, alloc, JOURNAL, &texts);
+}
+
 #[test]
 fn eight_telegrams_are_added(rt: HostRuntime) {
-    let mut input = String::new(rt.alloc());
-    let mut output = String::new(rt.alloc());
-    push_added(
-        &rt,
-        &mut input,
-        &mut output,
-        "plan 1\nedits\nadd 0",
-        "ok 1\n",
-    );
-    let texts = (input.as_str(), output.as_str());
-    check_at_once(&rt, rt.alloc(), JOURNAL, texts, Status::Accepted);
+    check_added(&rt, rt.alloc(), "plan 1\nedits\nadd 0", "", "ok 1\n");
 }
 
 #[test]
 fn eight_telegrams_are_in_a_journal(rt: HostRuntime) {
-    let mut input = String::new(rt.alloc());
-    let mut output = String::new(rt.alloc());
-    push_added(
+    check_added(
         &rt,
-        &mut input,
-        &mut output,
+        rt.alloc(),
         "plan 1\njournal 2 2\n1 add ^",
+        "\nedits\n",
         "",
     );
-    push(&rt, &mut input, "\nedits\n");
-    let texts = (input.as_str(), output.as_str());
-    check_at_once(&rt, rt.alloc(), JOURNAL, texts, Status::Accepted);
 }
 
 /// What stands before nine telegrams and after them, with what is printed and how the run ends.

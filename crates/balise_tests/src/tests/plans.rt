@@ -1,6 +1,6 @@
 //! More plans that are refused on a line, and one whose last line has no end.
 
-use crate::runs::{PLAIN, check_at_once};
+use crate::tests::runs::{PLAIN, check_at_once};
 use balise_cli::Status;
 
 const LONG_INPUT: &str =

@@ -1,0 +1,15 @@
+//! The tests, by topic.
+
+mod bounds;
+mod cuts;
+mod devices;
+mod exits;
+mod faults;
+mod flags;
+mod journal_cuts;
+mod large_packets;
+mod largest;
+mod plans;
+mod programs;
+mod rows;
+mod runs;

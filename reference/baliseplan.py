@@ -7,15 +7,11 @@ from collections.abc import Callable
 from dataclasses import dataclass
 
 from refusals import Fault, Refusal
-from run import Flags, run
+from run import FLAGS, run
 
-FLAGS = ("--quiet", "--stop", "--journal", "--json")
 HELP = "usage: baliseplan.py [--quiet] [--stop] [--journal] [--json] < INPUT > OUTPUT"
 BAD_ARGUMENTS = 64
 FAULTED = 3
-
-
-Read = Callable[[int], bytes]
 
 
 @dataclass(frozen=True)
@@ -31,7 +27,7 @@ class Usage(Exception):
     """The arguments aren't the program's."""
 
 
-def flags_of(arguments: list[str]) -> Flags | None:
+def flags_of(arguments: list[str]) -> set[str] | None:
     """The flags from left to right, each at most once; none where help is asked for."""
     given: set[str] = set()
     for place, word in enumerate(arguments):
@@ -42,31 +38,13 @@ def flags_of(arguments: list[str]) -> Flags | None:
         if word not in FLAGS or word in given:
             raise Usage(word)
         given.add(word)
-    return Flags(**{word[2:]: word in given for word in FLAGS})
+    return given
 
 
-def read(count: int) -> bytes:
-    """Bytes of standard input, or 31."""
-    try:
-        return os.read(0, count)
-    except OSError:
-        raise Fault(Refusal.ReadFault) from None
-
-
-def write(text: bytes) -> None:
-    """All of a text to standard output, or 32."""
-    try:
-        while text:
-            text = text[os.write(1, text) :]
-    except OSError:
-        raise Fault(Refusal.WriteFault) from None
-
-
-def answer(arguments: list[str], read: Read) -> Answer:
+def answer(arguments: list[str], read: Callable[[int], bytes]) -> Answer:
     """What a run with these arguments prints, and its status."""
     out: list[str] = []
-    fault: Fault | None = None
-    status = 0
+    status, error = 0, ""
     try:
         flags = flags_of(arguments)
         if flags is None:
@@ -75,23 +53,28 @@ def answer(arguments: list[str], read: Read) -> Answer:
             status = run(read, flags, out)
     except Usage as unknown:
         return Answer(b"", BAD_ARGUMENTS, f"unexpected argument: {unknown}\n{HELP}\n")
-    except Fault as ended:
-        fault = ended
-    text = "".join(line + "\n" for line in out).encode("ascii")
-    return Answer(text, status) if fault is None else faulted(text, fault)
+    except Fault as fault:
+        status, error = FAULTED, f"fault {fault}\n"
+    return Answer("".join(line + "\n" for line in out).encode("ascii"), status, error)
 
 
-def faulted(text: bytes, fault: Fault) -> Answer:
-    return Answer(text, FAULTED, f"fault {fault}\n")
+def read_input(count: int) -> bytes:
+    """Bytes of standard input, or 31."""
+    try:
+        return os.read(0, count)
+    except OSError:
+        raise Fault(Refusal.ReadFault) from None
 
 
 def main(arguments: list[str]) -> int:
-    given = answer(arguments, read)
+    given = answer(arguments, read_input)
+    text = given.output
     try:
-        write(given.output)
-    except Fault as fault:
+        while text:
+            text = text[os.write(1, text) :]
+    except OSError:
         if given.status != FAULTED:
-            given = faulted(b"", fault)
+            given = Answer(b"", FAULTED, f"fault {Fault(Refusal.WriteFault)}\n")
     sys.stderr.write(given.error)
     return given.status
 

@@ -1,13 +1,12 @@
 """The nine edits: what each makes of a plan, and what it notes."""
 
 from collections.abc import Callable
-from dataclasses import dataclass, replace
+from dataclasses import dataclass
 
 from packets import NO_GROUP, STEERING, WIDTHS, Packet, read_packet_in_bytes
-from plans import MOST_TELEGRAMS, BaliseGroup, Identity, Plan, identities, make_group
-from plans import named_by, with_new_group
+from plans import MOST_TELEGRAMS, BaliseGroup, Identity, Plan, identities, make_group, named_by
 from refusals import Refusal, Refused
-from telegrams import FREE_IN_HEADER, TaggedPacket, Telegram, anchor_at, place_after, place_of
+from telegrams import FREE_IN_HEADER, Telegram, anchor_at, place_after, place_of
 from telegrams import read_telegram, tag_at
 
 
@@ -39,156 +38,148 @@ class Note:
     names: tuple[Identity, ...] = ()
 
 
-def _check_width(variable: str, value: int) -> None:
-    if value >= 1 << WIDTHS[variable]:
+def _check_value(edit: Edit, is_steering: bool) -> None:
+    """A value that may be set and fits (7.5.1), or 18 or 19."""
+    if is_steering:
+        raise Refused(Refusal.Steering)
+    if edit.value >= 1 << WIDTHS[edit.variable]:
         raise Refused(Refusal.ValueTooWide)
 
 
-def _set(edit: Edit, packet: Packet, country: int) -> tuple[Packet, Note]:
-    """A variable of a packet (7.5)."""
+def _set(edit: Edit, telegram: Telegram, at: int) -> Note:
+    """A variable of a packet (7.5.1)."""
+    packet, country = telegram.packets[at], telegram.header["NID_C"]
     place = packet.place(edit.variable, edit.occurrence)
     if place is None:
         raise Refused(Refusal.NoSuchVariable)
-    if edit.variable in STEERING:
-        raise Refused(Refusal.Steering)
-    _check_width(edit.variable, edit.value)
-    changed = packet.with_value(place, edit.value)
+    _check_value(edit, edit.variable in STEERING)
+    telegram.packets[at] = packet.with_value(place, edit.value)
     names: list[Identity] = []
     if edit.variable in ("NID_BG", "Q_LINKORIENTATION"):
         names.append(named_by(packet, country)[edit.occurrence])
     if edit.variable == "NID_BG":
-        names.append(named_by(changed, country)[edit.occurrence])
+        names.append(named_by(telegram.packets[at], country)[edit.occurrence])
     named = tuple(name for name in names if name[1] != NO_GROUP)
-    return changed, Note(old=packet.fields[place][1], names=named)
+    return Note(old=packet.fields[place][1], names=named)
 
 
-def _seth(edit: Edit, telegram: Telegram) -> tuple[Telegram, Note]:
+def _seth(edit: Edit, telegram: Telegram) -> Note:
     """M_DUP, M_MCOUNT or Q_LINK of a header (8.4.2)."""
     if edit.variable not in telegram.header:
         raise Refused(Refusal.NoSuchVariable)
-    if edit.variable not in FREE_IN_HEADER:
-        raise Refused(Refusal.Steering)
-    _check_width(edit.variable, edit.value)
-    note = Note(old=telegram.header[edit.variable])
-    return telegram.with_header(**{edit.variable: edit.value}), note
+    _check_value(edit, edit.variable not in FREE_IN_HEADER)
+    old = telegram.header[edit.variable]
+    telegram.header[edit.variable] = edit.value
+    return Note(old=old)
 
 
-def _insert(edit: Edit, telegram: Telegram, country: int, tag: str) -> tuple[Telegram, Note]:
+def _insert(edit: Edit, telegram: Telegram, tag: str) -> Note:
     place = place_after(telegram.packets, edit.after, Refusal.NoSuchPacket)
-    packet = read_packet_in_bytes(edit.bits[0], telegram.header["M_VERSION"])
-    if packet.l_packet > telegram.room():
+    packet = read_packet_in_bytes(edit.bits[0], telegram.header["M_VERSION"], tag)
+    if len(packet.bits()) > telegram.room():
         raise Refused(Refusal.NoRoom)
-    note = Note(names=tuple(identities(packet, country)))
-    return telegram.with_packets(place, place, TaggedPacket(tag, packet)), note
+    telegram.packets.insert(place, packet)
+    return Note(names=tuple(identities(packet, telegram.header["NID_C"])))
 
 
-def _move(edit: Edit, telegram: Telegram) -> tuple[Telegram, Note]:
-    packets = telegram.packets
-    place = place_of(packets, edit.packet, Refusal.NoSuchPacket)
-    if edit.after in (edit.packet, anchor_at(packets, place)):
+def _delete(telegram: Telegram, at: int) -> Note:
+    before = tag_at(telegram.packets, at + 1)
+    packet = telegram.packets.pop(at)
+    return Note(before=before, names=tuple(identities(packet, telegram.header["NID_C"])))
+
+
+def _move(edit: Edit, telegram: Telegram, at: int) -> Note:
+    if edit.after in (edit.packet, anchor_at(telegram.packets, at)):
         raise Refused(Refusal.SamePlace)
-    rest = telegram.with_packets(place, place + 1)
-    at = place_after(rest.packets, edit.after, Refusal.NoSuchPacket)
-    moved = rest.with_packets(at, at, packets[place])
-    return moved, Note(before=tag_at(packets, place + 1))
-
-
-def _in_telegram(edit: Edit, telegram: Telegram, country: int, tag: str) -> tuple[Telegram, Note]:
-    if edit.kind == "seth":
-        return _seth(edit, telegram)
-    if edit.kind == "insert":
-        return _insert(edit, telegram, country, tag)
-    if edit.kind == "move":
-        return _move(edit, telegram)
-    place = place_of(telegram.packets, edit.packet, Refusal.NoSuchPacket)
-    packet = telegram.packets[place].packet
-    if edit.kind == "delete":
-        names = tuple(identities(packet, country))
-        note = Note(before=tag_at(telegram.packets, place + 1), names=names)
-        return telegram.with_packets(place, place + 1), note
-    changed, note = _set(edit, packet, country)
-    return telegram.with_packets(place, place + 1, TaggedPacket(edit.packet, changed)), note
+    before = tag_at(telegram.packets, at + 1)
+    packet = telegram.packets.pop(at)
+    place = place_after(telegram.packets, edit.after, Refusal.NoSuchPacket)
+    telegram.packets.insert(place, packet)
+    return Note(before=before)
 
 
 def _where_named(
     plan: Plan, identity: Identity, variable: str, change: Callable[[int], int]
-) -> Plan:
-    """The plan with a variable changed in each element that names an identity (3.4)."""
-
-    def changed(packet: Packet, country: int) -> Packet:
-        for element, name in enumerate(named_by(packet, country)):
+) -> None:
+    """Changes a variable in each element that names an identity (3.4)."""
+    for group, pig, place, packet in plan.packets():
+        for element, name in enumerate(named_by(packet, group.identity[0])):
             at = packet.place(variable, element)
             if name == identity and at is not None:
                 packet = packet.with_value(at, change(packet.fields[at][1]))
-        return packet
-
-    return plan.each_packet(changed)
+        group.telegrams[pig].packets[place] = packet
 
 
-def _renumber(edit: Edit, plan: Plan, place: int) -> tuple[Plan, Note]:
+def _renumber(edit: Edit, plan: Plan, group: BaliseGroup) -> Note:
     """A new NID_BG in the headers of a group and wherever it is named (3.4)."""
-    group = plan.groups[place]
     old = group.identity
     new = (old[0], edit.value)
-    _check_width("NID_BG", edit.value)
+    if edit.value >= 1 << WIDTHS["NID_BG"]:
+        raise Refused(Refusal.ValueTooWide)
     if edit.value == NO_GROUP:
         raise Refused(Refusal.NumberReserved)
     if plan.has(new) or new in plan.names():
         raise Refused(Refusal.NumberTaken)
-    telegrams = tuple(telegram.with_header(NID_BG=edit.value) for telegram in group.telegrams)
-    plan = plan.with_groups(place, place + 1, replace(group, telegrams=telegrams))
-    plan = _where_named(plan, old, "NID_BG", lambda _: edit.value)
-    return plan, Note(old=old[1], own=(old, new))
+    for telegram in group.telegrams:
+        telegram.header["NID_BG"] = edit.value
+    _where_named(plan, old, "NID_BG", lambda _: edit.value)
+    return Note(old=old[1], own=(old, new))
 
 
-def _other_direction(packet: Packet, _: int) -> Packet:
-    """Q_DIR 0 becomes 1 and 1 becomes 0; both directions and spare stay (7.5)."""
+def _other_direction(packet: Packet) -> Packet:
+    """Q_DIR 0 becomes 1 and 1 becomes 0; both directions and spare stay (7.5.1)."""
     q_dir = packet.fields[1][1]
     return packet.with_value(1, 1 - q_dir) if q_dir < 2 else packet
 
 
-def _turned(group: BaliseGroup) -> BaliseGroup:
-    """The telegrams in the other order, with N_PIG, M_DUP and Q_DIR to match (8.4.2)."""
-    telegrams = []
-    for place, telegram in enumerate(reversed(group.telegrams)):
-        m_dup = (0, 2, 1, 3)[telegram.header["M_DUP"]]
-        telegrams.append(telegram.with_header(N_PIG=place, M_DUP=m_dup))
-    return replace(group, telegrams=tuple(telegrams)).each_packet(_other_direction)
+def _turn(plan: Plan, group: BaliseGroup) -> Note:
+    """The telegrams of a group in the other order, with N_PIG, M_DUP and Q_DIR to match (8.4.2).
+
+    Each link to the group gets the other Q_LINKORIENTATION (3.4).
+    """
+    group.telegrams.reverse()
+    for place, telegram in enumerate(group.telegrams):
+        telegram.header["N_PIG"] = place
+        telegram.header["M_DUP"] = (0, 2, 1, 3)[telegram.header["M_DUP"]]
+        telegram.packets = [_other_direction(packet) for packet in telegram.packets]
+    _where_named(plan, group.identity, "Q_LINKORIENTATION", lambda value: 1 - value)
+    return Note(own=(group.identity,))
 
 
-def _turn(plan: Plan, place: int) -> tuple[Plan, Note]:
-    """A group turned, and the other Q_LINKORIENTATION in each link to it (3.4)."""
-    turned = plan.groups[place].identity
-    plan = plan.with_groups(place, place + 1, _turned(plan.groups[place]))
-    plan = _where_named(plan, turned, "Q_LINKORIENTATION", lambda value: 1 - value)
-    return plan, Note(own=(turned,))
-
-
-def _add(edit: Edit, plan: Plan, tag: str) -> tuple[Plan, Note]:
+def _add(edit: Edit, plan: Plan, tag: str) -> Note:
     place = place_after(plan.groups, edit.after, Refusal.NoSuchGroup)
     if len(edit.bits) > MOST_TELEGRAMS:
         raise Refused(Refusal.GroupSize)
-    telegrams = tuple(read_telegram(bits, pig) for pig, bits in enumerate(edit.bits))
-    group = make_group(tag, telegrams)
-    note = Note(own=(group.identity,), names=Plan((group,)).names())
-    return with_new_group(plan, place, group), note
+    group = make_group(tag, [read_telegram(bits, pig) for pig, bits in enumerate(edit.bits)])
+    plan.add(place, group)
+    return Note(own=(group.identity,), names=Plan([group]).names())
 
 
-def do(plan: Plan, serial: int, edit: Edit) -> tuple[Plan, Note]:
-    """The plan after an edit, and what the edit notes; or its first refusal."""
-    tag = f"n{serial}"
+def _drop(plan: Plan, place: int) -> Note:
+    before = tag_at(plan.groups, place + 1)
+    group = plan.groups.pop(place)
+    return Note(before=before, own=(group.identity,), names=Plan([group]).names())
+
+
+def do(plan: Plan, serial: int, edit: Edit) -> Note:
+    """Does an edit on a plan; what it notes, or its first refusal."""
     if edit.kind == "add":
-        return _add(edit, plan, tag)
+        return _add(edit, plan, f"n{serial}")
     place = place_of(plan.groups, edit.group, Refusal.NoSuchGroup)
     group = plan.groups[place]
-    if edit.kind == "renumber":
-        return _renumber(edit, plan, place)
-    if edit.kind == "turn":
-        return _turn(plan, place)
     if edit.kind == "drop":
-        own, before = (group.identity,), tag_at(plan.groups, place + 1)
-        note = Note(before=before, own=own, names=Plan((group,)).names())
-        return plan.with_groups(place, place + 1), note
-    pig = group.telegram_place(edit.telegram)
-    telegram, note = _in_telegram(edit, group.telegrams[pig], group.identity[0], tag)
-    return plan.with_groups(place, place + 1, group.with_telegram(pig, telegram)), note
+        return _drop(plan, place)
+    if edit.kind == "renumber":
+        return _renumber(edit, plan, group)
+    if edit.kind == "turn":
+        return _turn(plan, group)
+    pig = place_of(group.telegrams, edit.telegram, Refusal.NoSuchTelegram)
+    telegram = group.telegrams[pig]
+    if edit.kind == "seth":
+        return _seth(edit, telegram)
+    if edit.kind == "insert":
+        return _insert(edit, telegram, f"n{serial}")
+    at = place_of(telegram.packets, edit.packet, Refusal.NoSuchPacket)
+    if edit.kind == "move":
+        return _move(edit, telegram, at)
+    return _delete(telegram, at) if edit.kind == "delete" else _set(edit, telegram, at)

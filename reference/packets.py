@@ -1,4 +1,4 @@
-"""Variables and packets from track to train (SUBSET-026, chapter 7).
+"""Variables and packets from track to train (SUBSET-026, 7.4.2 and 7.5.1).
 
 Bits are strings of "0" and "1", in the order of the telegram.
 """
@@ -26,17 +26,16 @@ WIDTHS: dict[str, int] = {
     }.items()
     for name in names.split()
 }
-"""The width of each variable in bits (7.5)."""
-
+"""The width of each variable in bits (7.5.1)."""
 STEERING = "NID_PACKET L_PACKET Q_NEWCOUNTRY NID_C N_ITER M_LEVELTR Q_DIFF".split()
 """The variables of packets that no edit sets in place."""
+NO_GROUP = 16383
+"""The NID_BG that names no group (7.5.1)."""
+
 OPENING = "NID_PACKET Q_DIR L_PACKET"
 """The fields that open each packet but 0 and 255 (7.4.2)."""
 OPENING_BITS = 23
 END_OF_INFORMATION = 255
-NO_GROUP = 16383
-"""The NID_BG that names no group (7.5)."""
-
 PACKETS: dict[int, str] = {
     5: "Q_SCALE LINK n*LINK",
     21: "Q_SCALE GRADIENT n*GRADIENT",
@@ -46,7 +45,7 @@ PACKETS: dict[int, str] = {
     66: "NID_TSR",
     136: "Q_NEWCOUNTRY NID_BG",
 }
-"""The packets that are known, after the first three fields (7.4.2)."""
+"""The packets that are known, after the fields that open them (7.4.2)."""
 PARTS: dict[str, str] = {
     "LINK": "D_LINK Q_NEWCOUNTRY NID_BG Q_LINKORIENTATION Q_LINKREACTION Q_LOCACC",
     "GRADIENT": "D_GRADIENT Q_GDIR G_A",
@@ -63,6 +62,8 @@ FOLLOWS: dict[tuple[str, int], str] = {
 }
 """The variable that follows where another one has a value (7.4.2)."""
 ONLY_IN_VERSION_2 = (27, 41)
+
+Fields = tuple[tuple[str, int], ...]
 
 
 def walk(layout: str, take: Callable[[str], int]) -> None:
@@ -82,43 +83,35 @@ def walk(layout: str, take: Callable[[str], int]) -> None:
 
 
 def bits_of(name: str, value: int) -> str:
-    """A variable's value in its width, the most significant bit first (7.5)."""
+    """A variable's value in its width, the most significant bit first (7.5.1)."""
     return format(value, f"0{WIDTHS[name]}b")
 
 
-class Taker:
-    """Takes variables off the front of bits."""
+def read_fields(layout: str, bits: str) -> tuple[Fields, str]:
+    """The fields of a layout at the front of bits, and the bits after them; or 8."""
+    fields: list[tuple[str, int]] = []
+    place = 0
 
-    def __init__(self, bits: str) -> None:
-        self.bits = bits
-        self.place = 0
-        self.fields: list[tuple[str, int]] = []
-
-    def take(self, name: str) -> int:
-        end = self.place + WIDTHS[name]
-        if end > len(self.bits):
+    def take(name: str) -> int:
+        nonlocal place
+        start, place = place, place + WIDTHS[name]
+        if place > len(bits):
             raise Refused(Refusal.LayoutMismatch)
-        value = int(self.bits[self.place : end], 2)
-        self.fields.append((name, value))
-        self.place = end
-        return value
+        fields.append((name, int(bits[start:place], 2)))
+        return fields[-1][1]
+
+    walk(layout, take)
+    return tuple(fields), bits[place:]
 
 
 @dataclass(frozen=True)
 class Packet:
-    """A packet: its fields and, where it is opaque, the bits after the first three."""
+    """A packet under its tag: its fields and, where it is opaque, the rest of its bits."""
 
-    fields: tuple[tuple[str, int], ...]
+    tag: str
+    fields: Fields
     rest: str
     known: bool
-
-    @property
-    def nid_packet(self) -> int:
-        return self.fields[0][1]
-
-    @property
-    def l_packet(self) -> int:
-        return self.fields[2][1]
 
     def bits(self) -> str:
         return "".join(bits_of(name, value) for name, value in self.fields) + self.rest
@@ -129,9 +122,8 @@ class Packet:
         return places[occurrence] if occurrence < len(places) else None
 
     def with_value(self, place: int, value: int) -> "Packet":
-        fields = list(self.fields)
-        fields[place] = (fields[place][0], value)
-        return replace(self, fields=tuple(fields))
+        changed = (self.fields[place][0], value)
+        return replace(self, fields=(*self.fields[:place], changed, *self.fields[place + 1 :]))
 
 
 def length_at(bits: str, place: int) -> int:
@@ -143,20 +135,18 @@ def length_at(bits: str, place: int) -> int:
     raise Refused(Refusal.PacketCut)
 
 
-def read_packet(bits: str, version: int) -> Packet:
+def read_packet(bits: str, version: int, tag: str) -> Packet:
     """A packet from its bits (7.4.2), or 8 where its fields don't end with them."""
-    taker = Taker(bits)
-    walk(OPENING, taker.take)
-    number = taker.fields[0][1]
+    number = int(bits[:8], 2)
     if number not in PACKETS or (number in ONLY_IN_VERSION_2 and version >> 4 != 2):
-        return Packet(tuple(taker.fields), bits[taker.place :], False)
-    walk(PACKETS[number], taker.take)
-    if taker.place != len(bits):
+        return Packet(tag, *read_fields(OPENING, bits), known=False)
+    fields, rest = read_fields(f"{OPENING} {PACKETS[number]}", bits)
+    if rest:
         raise Refused(Refusal.LayoutMismatch)
-    return Packet(tuple(taker.fields), "", True)
+    return Packet(tag, fields, rest, known=True)
 
 
-def read_packet_in_bytes(bits: str, version: int) -> Packet:
+def read_packet_in_bytes(bits: str, version: int, tag: str) -> Packet:
     """A packet in whole bytes, as `insert` has it, or its first refusal."""
     number = int(bits[:8], 2)
     if number == 0:
@@ -168,4 +158,4 @@ def read_packet_in_bytes(bits: str, version: int) -> Packet:
         raise Refused(Refusal.BadLength)
     if "1" in bits[length:]:
         raise Refused(Refusal.SpareBits)
-    return read_packet(bits[:length], version)
+    return read_packet(bits[:length], version, tag)

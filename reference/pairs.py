@@ -13,7 +13,7 @@ from io import BytesIO
 from itertools import product
 
 from packets import bits_of
-from run import Commands, Flags, Lines, Reading
+from run import Commands, Lines, read_session
 from telegrams import HEADER
 from texts import digits_of_bits
 
@@ -126,8 +126,8 @@ def commands() -> list[str]:
 def main() -> int:
     start = "".join(line + "\n" for line in [*plan(), "edits"])
     sys.stdout.write(start)
-    session = Reading(Lines(BytesIO(start.encode()).read)).session()
-    doing = Commands(session, Flags(quiet=True), [])
+    session = read_session(Lines(BytesIO(start.encode()).read))
+    doing = Commands(session, set(), [])
 
     def take(line: str) -> None:
         doing.take(line)
@@ -138,7 +138,7 @@ def main() -> int:
         take(second)
         if session.standing:
             take(f"strike {session.standing[0].serial}")
-        while session.stack:
+        while session.undone:
             take("redo")
         while session.standing:
             take("undo")

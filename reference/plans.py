@@ -1,59 +1,42 @@
 """Balise groups, the plan, and which group a link names (SUBSET-026, 3.4)."""
 
-from collections.abc import Callable, Iterator
-from dataclasses import dataclass, replace
+from collections.abc import Iterator
+from dataclasses import dataclass, field
 
 from packets import NO_GROUP, Packet
 from refusals import Refusal, Refused
 from telegrams import Telegram
 
 MOST_TELEGRAMS = 8
+AGREED = ("N_PIG", "N_TOTAL", "NID_C", "NID_BG")
 
 Identity = tuple[int, int]
 """NID_C and NID_BG (3.4)."""
 
 
-@dataclass(frozen=True)
+@dataclass
 class BaliseGroup:
     """A balise group: one to eight telegrams, in the order of N_PIG (3.4.2)."""
 
     tag: str
-    telegrams: tuple[Telegram, ...]
+    telegrams: list[Telegram]
 
     @property
     def identity(self) -> Identity:
         header = self.telegrams[0].header
         return header["NID_C"], header["NID_BG"]
 
-    def telegram_place(self, tag: int) -> int:
-        """Where the telegram with a tag is now, or 15."""
-        for place, telegram in enumerate(self.telegrams):
-            if telegram.tag == tag:
-                return place
-        raise Refused(Refusal.NoSuchTelegram)
 
-    def with_telegram(self, place: int, telegram: Telegram) -> "BaliseGroup":
-        telegrams = list(self.telegrams)
-        telegrams[place] = telegram
-        return replace(self, telegrams=tuple(telegrams))
-
-    def each_packet(self, change: Callable[[Packet, int], Packet]) -> "BaliseGroup":
-        """The group with each packet changed, which is told the group's NID_C."""
-        country = self.identity[0]
-        telegrams = []
-        for telegram in self.telegrams:
-            packets = [
-                replace(item, packet=change(item.packet, country)) for item in telegram.packets
-            ]
-            telegrams.append(replace(telegram, packets=tuple(packets)))
-        return replace(self, telegrams=tuple(telegrams))
-
-
-@dataclass(frozen=True)
+@dataclass
 class Plan:
     """The groups of a line, in order."""
 
-    groups: tuple[BaliseGroup, ...] = ()
+    groups: list[BaliseGroup] = field(default_factory=list)
+
+    def copy(self) -> "Plan":
+        """Another plan, whose changes leave this one."""
+        copies = [(group.tag, [each.copy() for each in group.telegrams]) for group in self.groups]
+        return Plan([BaliseGroup(tag, telegrams) for tag, telegrams in copies])
 
     def has(self, identity: Identity) -> bool:
         return any(group.identity == identity for group in self.groups)
@@ -65,19 +48,18 @@ class Plan:
                 return group
         raise Refused(Refusal.NoSuchGroup)
 
-    def with_groups(self, start: int, end: int, *groups: BaliseGroup) -> "Plan":
-        """The plan with other groups from one place up to another."""
-        return Plan((*self.groups[:start], *groups, *self.groups[end:]))
-
-    def each_packet(self, change: Callable[[Packet, int], Packet]) -> "Plan":
-        return Plan(tuple(group.each_packet(change) for group in self.groups))
+    def add(self, place: int, group: BaliseGroup) -> None:
+        """Puts a group in, or 13."""
+        if self.has(group.identity):
+            raise Refused(Refusal.GroupTwice)
+        self.groups.insert(place, group)
 
     def packets(self) -> Iterator[tuple[BaliseGroup, int, int, Packet]]:
         """Each packet with its group, N_PIG and place."""
         for group in self.groups:
             for pig, telegram in enumerate(group.telegrams):
-                for place, item in enumerate(telegram.packets):
-                    yield group, pig, place, item.packet
+                for place, packet in enumerate(telegram.packets):
+                    yield group, pig, place, packet
 
     def names(self) -> tuple[Identity, ...]:
         """The identities that links and infill location references name (3.4)."""
@@ -107,23 +89,15 @@ def identities(packet: Packet, country: int) -> list[Identity]:
     return [name for name in named_by(packet, country) if name[1] != NO_GROUP]
 
 
-def make_group(tag: str, telegrams: tuple[Telegram, ...]) -> BaliseGroup:
+def make_group(tag: str, telegrams: list[Telegram]) -> BaliseGroup:
     """A group of telegrams that agree (8.4.2, 3.4.2), or 10, 11 or 12."""
     if not 1 <= len(telegrams) <= MOST_TELEGRAMS:
         raise Refused(Refusal.GroupSize)
     group = BaliseGroup(tag, telegrams)
     for place, telegram in enumerate(telegrams):
-        header = telegram.header
         agreed = (place, len(telegrams) - 1, *group.identity)
-        if tuple(header[name] for name in ("N_PIG", "N_TOTAL", "NID_C", "NID_BG")) != agreed:
+        if tuple(telegram.header[name] for name in AGREED) != agreed:
             raise Refused(Refusal.HeaderDisagrees)
     if group.identity[1] == NO_GROUP:
         raise Refused(Refusal.NumberReserved)
     return group
-
-
-def with_new_group(plan: Plan, place: int, group: BaliseGroup) -> Plan:
-    """The plan with one more group at a place, or 13."""
-    if plan.has(group.identity):
-        raise Refused(Refusal.GroupTwice)
-    return plan.with_groups(place, place, group)

@@ -15,8 +15,8 @@ from packets import NO_GROUP, STEERING, WIDTHS, Packet
 from plans import BaliseGroup, Plan, identities
 from random_plans import SIZES, PlanMaker, Size
 from refusals import Refused
-from run import BadInput, Commands, Flags, Lines, Reading, journal_lines
-from session import Session
+from run import BadInput, Commands, Lines, journal_lines, read_session
+from session import Session, without
 from telegrams import FREE_IN_HEADER, Telegram
 from texts import digits_of_bits
 
@@ -50,7 +50,7 @@ class Maker(PlanMaker):
 
     def command(self, session: Session) -> str:
         plan = session.plan()
-        if session.stack and self.chance(35) or self.chance(1):
+        if session.undone and self.chance(35) or self.chance(1):
             return "redo"
         roll = self.random.randrange(100)
         if roll < 25 and (session.standing or self.chance(5)):
@@ -68,9 +68,8 @@ class Maker(PlanMaker):
             return f"strike {self.random.choice(serials[-5:-1])}"
         self.random.shuffle(serials)
         for serial in serials if self.chance(80) else []:
-            trial = Session(session.first, 1, list(session.standing))
             try:
-                trial.strike(serial)
+                without(session.standing, serial)
             except Refused:
                 continue
             return f"strike {serial}"
@@ -94,7 +93,7 @@ class Maker(PlanMaker):
         kind = self.random.choice(("turn", "turn", "renumber", "renumber", "drop"))
         if kind == "drop":
             self.dropped.append(group.identity)
-            inside = Plan((group,)).packets()
+            inside = Plan([group]).packets()
             for _, _, _, packet in inside:
                 self.named += identities(packet, group.identity[0])
         if kind != "renumber":
@@ -126,7 +125,7 @@ class Maker(PlanMaker):
         if roll < 44 or count == 0:
             return self.insert(where, telegram)
         place = self.place_beside([item.tag for item in telegram.packets], count - 1)
-        packet = telegram.packets[place].packet
+        packet = telegram.packets[place]
         self.hot.append(telegram.packets[place].tag)
         self.named += identities(packet, group.identity[0])
         if roll < 54:
@@ -136,7 +135,7 @@ class Maker(PlanMaker):
         return self.set(f"{where} {place}", packet, plan)
 
     def new_place(self, telegram: Telegram, place: int) -> int:
-        rest = [item.tag for item in telegram.with_packets(place, place + 1).packets]
+        rest = [item.tag for item in telegram.packets if item.tag != telegram.packets[place].tag]
         if self.chance(3):
             return len(rest) + 1
         at = self.place_beside(rest, len(rest))
@@ -172,7 +171,8 @@ class Maker(PlanMaker):
         words = line.split(" ")
         place = self.random.randrange(len(words))
         other = ("0", "1", "7", "9", "16383", "16384", "4294967295", "4294967296", "00", "zz", "")
-        names = ("NID_C", "NID_BG", "NID_PACKET", "L_PACKET", "N_PIG", "M_DUP", "D_LINK", "SPEED")
+        names = (*STEERING, "NID_BG", "N_PIG", "M_DUP", "D_LINK", "SPEED")
+        variables = [i for i, word in enumerate(words) if word in WIDTHS]
         kind = self.random.randrange(9)
         numbers = [i for i, word in enumerate(words) if word.isdecimal()]
         if kind > 5 and numbers:
@@ -181,7 +181,7 @@ class Maker(PlanMaker):
         elif kind == 0:
             words[place] = self.random.choice(other)
         elif kind == 1:
-            words[place] = self.random.choice(names)
+            words[variables[0] if variables else place] = self.random.choice(names)
         elif kind == 2:
             words.insert(place, self.random.choice(other))
         elif kind == 3:
@@ -212,7 +212,7 @@ class Maker(PlanMaker):
 
     def session_commands(self, session: Session, most: int) -> list[str]:
         """Commands for a session, which are also done there."""
-        commands = Commands(session, Flags(), [])
+        commands = Commands(session, set(), [])
         lines = []
         for _ in range(self.random.randint(0, most)):
             line = self.command(session)
@@ -277,7 +277,7 @@ class Maker(PlanMaker):
         lines.append("edits")
         if session is not None:
             lines += self.session_commands(session, self.size.commands)
-        if self.chance(1):
+        if self.chance(3):
             lines.append("undo" + " " * self.random.choice((4092, 4093)))
         if self.chance(5):
             lines = [line if line in FIXED else line.replace("a", "A") for line in lines]
@@ -290,7 +290,7 @@ class Maker(PlanMaker):
         """The session of a plan and perhaps a journal, or none if it is refused."""
         text = "".join(line + "\n" for line in [*lines, "edits"]).encode("latin-1")
         try:
-            return Reading(Lines(BytesIO(text).read)).session()
+            return read_session(Lines(BytesIO(text).read))
         except BadInput:
             return None
 

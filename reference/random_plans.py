@@ -122,7 +122,7 @@ class PlanMaker:
     @staticmethod
     def is_read(packet: str, version: int) -> bool:
         try:
-            read_packet(packet, version)
+            read_packet(packet, version, "b0")
         except Refused:
             return False
         return True

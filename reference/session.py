@@ -1,4 +1,4 @@
-"""Independent edits, and a session: standing edits, the stack, undo, redo and strike.
+"""Independent edits, and a session: undo, redo and strike.
 
 The plan is made from the plan first read, for every answer.
 """
@@ -10,6 +10,23 @@ from plans import Identity, Plan
 from refusals import Refusal, Refused
 
 Path = tuple[str, ...]
+
+CHANGES: dict[str, str] = {
+    "set": "g/t/p/VAR/k",
+    "seth": "g/t/head/VAR",
+    "insert": "g/t/n g/t/a/after",
+    "delete": "g/t/p g/t/b/front",
+    "move": "g/t/p/front g/t/p/after g/t/b/front g/t/a/after",
+    "add": "n a/after",
+    "drop": "g b/front",
+    "renumber": "g/name",
+    "turn": "g/turn",
+}
+"""The places that an edit changes, besides its own identities.
+
+g, t, p: what it edits; VAR, k: the variable; a: the tag after which it puts something in; n: the
+tag of that; b: what came next.
+"""
 
 
 @dataclass(frozen=True)
@@ -25,6 +42,14 @@ class Entry:
         """The tag of what the edit puts in."""
         return f"n{self.serial}"
 
+    def path(self, place: str) -> Path:
+        """A place as it is written in CHANGES, with the words of this edit."""
+        edit = self.edit
+        names = {"g": edit.group, "t": str(edit.telegram), "p": edit.packet, "VAR": edit.variable}
+        names |= {"k": str(edit.occurrence), "a": edit.after, "n": self.new}
+        names["b"] = str(self.note.before)
+        return tuple(names.get(step, step) for step in place.split("/"))
+
 
 def _identity_paths(names: tuple[Identity, ...]) -> set[Path]:
     return {(f"#{country}.{number}",) for country, number in names}
@@ -32,39 +57,17 @@ def _identity_paths(names: tuple[Identity, ...]) -> set[Path]:
 
 def changes(entry: Entry) -> set[Path]:
     """The places that an edit changes."""
-    edit, before, own = entry.edit, str(entry.note.before), _identity_paths(entry.note.own)
-    in_telegram = (edit.group, str(edit.telegram))
-    p = (*in_telegram, edit.packet)
-    match edit.kind:
-        case "set":
-            return {(*p, edit.variable, str(edit.occurrence))}
-        case "seth":
-            return {(*in_telegram, "head", edit.variable)}
-        case "insert":
-            return {(*in_telegram, entry.new), (*in_telegram, edit.after, "after")}
-        case "delete":
-            return {p, (*in_telegram, before, "front")}
-        case "move":
-            old = {(*p, "front"), (*p, "after"), (*in_telegram, before, "front")}
-            return old | {(*in_telegram, edit.after, "after")}
-        case "add":
-            return {(entry.new,), (edit.after, "after")} | own
-        case "drop":
-            return {(edit.group,), (before, "front")} | own
-        case "renumber":
-            return {(edit.group, "name")} | own
-    return {(edit.group, "turn")} | own
+    places = {entry.path(place) for place in CHANGES[entry.edit.kind].split()}
+    return places | _identity_paths(entry.note.own)
 
 
 def needs(entry: Entry) -> set[Path]:
     """The places that an edit needs, besides those that it changes."""
-    edit = entry.edit
-    places = _identity_paths(entry.note.names)
+    edit, places = entry.edit, _identity_paths(entry.note.names)
     if edit.kind in ("insert", "delete") or edit.variable in ("Q_DIR", "M_DUP"):
-        places.add((edit.group, "turn"))
+        places.add(entry.path("g/turn"))
     if edit.variable == "Q_LINKORIENTATION":
-        k = str(edit.occurrence)
-        places.add((edit.group, str(edit.telegram), edit.packet, "NID_BG", k))
+        places.add(entry.path("g/t/p/NID_BG/k"))
     return places
 
 
@@ -96,44 +99,63 @@ def stands_after(e: Entry, f: Entry) -> bool:
     if f.edit.after != e.new:
         return False
     if (e.edit.kind, f.edit.kind) == ("add", "add"):
-        return are_apart(e, f, (e.new, "after"))
+        return are_apart(e, f, e.path("n/after"))
     if e.edit.kind != "insert" or f.edit.kind not in ("insert", "move"):
         return False
-    telegram = (e.edit.group, e.edit.telegram)
-    place = (e.edit.group, str(e.edit.telegram), e.new, "after")
-    return telegram == (f.edit.group, f.edit.telegram) and are_apart(e, f, place)
+    same = (e.edit.group, e.edit.telegram) == (f.edit.group, f.edit.telegram)
+    return same and are_apart(e, f, e.path("g/t/n/after"))
 
 
-def _re_anchored(entry: Entry, anchor: str) -> Entry:
-    return replace(entry, edit=replace(entry.edit, after=anchor))
+def without(entries: list[Entry], serial: int) -> list[Entry]:
+    """The entries that stand once one of them is struck, or 25 or 26.
 
-
-@dataclass(frozen=True)
-class TakenBack:
-    """An entry on the stack, and the serials of the entries to anchor on it again."""
-
-    entry: Entry
-    re_anchored: tuple[int, ...]
+    A later one that stands after it is anchored where it was.
+    """
+    places = [i for i, entry in enumerate(entries) if entry.serial == serial]
+    if not places:
+        raise Refused(Refusal.NoSuchEdit)
+    kept, (struck, *later) = entries[: places[0]], entries[places[0] :]
+    for entry in later:
+        if not are_apart(struck, entry):
+            if not stands_after(struck, entry):
+                raise Refused(Refusal.DependsOn, entry.serial)
+            entry = replace(entry, edit=replace(entry.edit, after=struck.edit.after))
+        kept.append(entry)
+    return kept
 
 
 @dataclass
 class Session:
-    """A plan first read, its standing edits by serial, and the stack."""
+    """A plan first read, and what was done on it.
+
+    `undone` has the serials of the edits taken back, the last one at its end. `levels` has the
+    edits that would stand if all of these were done again, and then those that each of them
+    left when it was struck.
+    """
 
     first: Plan
     next_serial: int = 1
-    standing: list[Entry] = field(default_factory=list)
-    stack: list[TakenBack] = field(default_factory=list)
+    undone: list[int] = field(default_factory=list)
+    levels: list[list[Entry]] = field(default_factory=lambda: [[]])
+
+    @property
+    def entries(self) -> list[Entry]:
+        """The entries of the journal."""
+        return self.levels[0]
+
+    @property
+    def standing(self) -> list[Entry]:
+        return self.levels[-1]
 
     def plan(self) -> Plan:
         """What the standing edits make of the plan first read.
 
         Each has to be accepted and to note the same again; else a rule of strikes is wrong.
         """
-        plan = self.first
+        plan = self.first.copy()
         for entry in self.standing:
             try:
-                plan, note = do(plan, entry.serial, entry.edit)
+                note = do(plan, entry.serial, entry.edit)
             except Refused as refused:
                 raise AssertionError(f"edit {entry.serial} is refused: {refused}") from None
             if note != entry.note:
@@ -141,17 +163,23 @@ class Session:
         return plan
 
     def accept(self, serial: int, edit: Edit) -> Note:
-        """Does an edit as the last one."""
-        _, note = do(self.plan(), serial, edit)
-        self.standing.append(Entry(serial, edit, note))
+        """Does an edit as the last one. What was undone is gone for good."""
+        note = do(self.plan(), serial, edit)
+        self.levels = [[*self.standing, Entry(serial, edit, note)]]
+        self.undone = []
         return note
 
     def edit(self, edit: Edit) -> int:
-        """Does an edit under the next serial, and empties the stack for good."""
+        """Does an edit under the next serial."""
         serial = self.next_serial
         self.accept(serial, edit)
         self.next_serial += 1
-        self.stack.clear()
+        return serial
+
+    def strike(self, serial: int) -> int:
+        """Takes back one edit and keeps the later ones, or 25 or 26."""
+        self.levels.append(without(self.standing, serial))
+        self.undone.append(serial)
         return serial
 
     def undo(self) -> int:
@@ -160,41 +188,9 @@ class Session:
             raise Refused(Refusal.NothingToUndo)
         return self.strike(self.standing[-1].serial)
 
-    def strike(self, serial: int) -> int:
-        """Takes back one edit and keeps the later ones, or 25 or 26."""
-        places = [i for i, entry in enumerate(self.standing) if entry.serial == serial]
-        if not places:
-            raise Refused(Refusal.NoSuchEdit)
-        struck = self.standing[places[0]]
-        kept: list[Entry] = []
-        moved: list[int] = []
-        for entry in self.standing[places[0] + 1 :]:
-            if are_apart(struck, entry):
-                kept.append(entry)
-            elif stands_after(struck, entry):
-                kept.append(_re_anchored(entry, struck.edit.after))
-                moved.append(entry.serial)
-            else:
-                raise Refused(Refusal.DependsOn, entry.serial)
-        self.standing[places[0] :] = kept
-        self.stack.append(TakenBack(struck, tuple(moved)))
-        return serial
-
     def redo(self) -> int:
         """Does again what was taken back last, at the place of its serial, or 24."""
-        if not self.stack:
+        if not self.undone:
             raise Refused(Refusal.NothingToRedo)
-        item = self.stack.pop()
-        entries = [
-            _re_anchored(entry, item.entry.new) if entry.serial in item.re_anchored else entry
-            for entry in self.standing
-        ]
-        self.standing = sorted([*entries, item.entry], key=lambda entry: entry.serial)
-        return item.entry.serial
-
-    def all_back(self) -> list[Entry]:
-        """The entries that would stand if all of the stack were done again."""
-        copy = replace(self, stack=list(self.stack))
-        while copy.stack:
-            copy.redo()
-        return copy.standing
+        self.levels.pop()
+        return self.undone.pop()

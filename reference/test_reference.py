@@ -3,6 +3,7 @@
 Run them here: python3 -m unittest
 """
 
+import re
 import subprocess
 import sys
 import unittest
@@ -12,9 +13,11 @@ from pathlib import Path
 import compare
 import pairs
 from baliseplan import Answer, answer
+from packets import FOLLOWS, OPENING, PACKETS, PARTS, WIDTHS, walk
 from random_inputs import Input, make_input
 from refusals import Fault, Refused
-from run import GREATEST_NEXT, BadInput, Commands, Flags, Lines, Reading, journal_lines
+from run import GREATEST_NEXT, BadInput, Commands, Lines, journal_lines, read_journal
+from run import read_session
 from session import Session
 
 HERE = Path(__file__).resolve().parent
@@ -36,8 +39,8 @@ def done(given: Input) -> Session | None:
     """The session that an input leaves, if its plan and journal are read."""
     lines = Lines(BytesIO(given.text).read)
     try:
-        session = Reading(lines).session()
-        commands = Commands(session, Flags(), [])
+        session = read_session(lines)
+        commands = Commands(session, set(), [])
         while (line := lines.next()) is not None:
             commands.take(line)
     except (BadInput, Fault):
@@ -71,6 +74,43 @@ class WorkedExamples(unittest.TestCase):
                 given = answered(row.read_bytes(), *words_of_file(row.with_suffix(".flags")))
                 self.assertEqual(given.output, row.with_suffix(".out").read_bytes())
                 self.assertEqual(given.status, int(row.with_suffix(".status").read_text()))
+
+
+class Tables(unittest.TestCase):
+    """The tables of docs/FORMATS.md are those of packets.py."""
+
+    def rows(self, heading: str) -> list[list[str]]:
+        page = (ROOT / "docs" / "FORMATS.md").read_text()
+        section = page.partition(f"\n## {heading}\n")[2].partition("\n## ")[0]
+        return [line.split(" | ") for line in section.splitlines() if line.startswith("| ")]
+
+    def test_widths_in_packets(self) -> None:
+        found = re.findall(r"([A-Z]+_[A-Z]+) (\d+)", str(self.rows("Packets")))
+        self.assertEqual({(name, int(width)) for name, width in found} - set(WIDTHS.items()), set())
+        shown = {name for name, _ in found}
+        for layout in (*PACKETS.values(), *PARTS.values(), " ".join(FOLLOWS.values())):
+            fields = {word for word in layout.split() if word in WIDTHS and word != "N_ITER"}
+            self.assertEqual(fields - shown, set())
+
+    def test_lengths(self) -> None:
+        due = {row[0].removeprefix("| "): row[-1] for row in self.rows("Packets")}
+        for number, layout in PACKETS.items():
+            length = 0
+
+            def take(name: str) -> int:
+                nonlocal length
+                length += WIDTHS[name]
+                return 0
+
+            walk(f"{OPENING} {layout}", take)
+            self.assertEqual(re.findall(r"\d+", due[str(number)])[0], str(length))
+
+    def test_variables_by_width(self) -> None:
+        rows = [row for row in self.rows("Variables") if row[0].removeprefix("| ").isdecimal()]
+        for row in rows:
+            for name in re.findall(r"[A-Z]+_[A-Z]+", str(row[1:])):
+                self.assertEqual(WIDTHS[name], int(row[0].removeprefix("| ")), name)
+        self.assertEqual(set(WIDTHS), set(re.findall(r"[A-Z]+_[A-Z]+", str(rows))))
 
 
 class Arguments(unittest.TestCase):
@@ -139,9 +179,8 @@ class Laws(unittest.TestCase):
         for session in readable:
             lines = [*journal_lines(session), "edits"]
             text = "".join(line + "\n" for line in lines).encode()
-            reading = Reading(Lines(BytesIO(text).read), session.first)
-            again = reading.journal(reading.line())
-            self.assertEqual(again, session)
+            rest = Lines(BytesIO(text).read)
+            self.assertEqual(read_journal(rest, rest.due(), session.first), session)
 
 
 class Inputs(unittest.TestCase):

@@ -1,7 +1,6 @@
 """Words, digits, commands and journal entries as texts."""
 
 import re
-from dataclasses import dataclass, field, replace
 from typing import Any
 
 from edits import Edit, Note
@@ -40,8 +39,13 @@ ENTRIES: dict[str, str] = {
     "renumber": "group value old",
 }
 """The words of each journal entry after its serial and its kind."""
+IN_EDITS = ("variable", "occurrence", "value", "bits")
+"""What an edit has as its command has it."""
 TAGS = {"group": "", "packet": "", "after": START, "before": END}
 """The words that are tags, and the mark that may stand in place of one."""
+
+Values = dict[str, Any]
+"""What the words of a line say, by the names that its grammar has for them."""
 
 
 def words_of(line: str) -> list[str]:
@@ -83,92 +87,81 @@ def telegram_bits(word: str) -> str:
     raise Refused(Refusal.BadLength)
 
 
-@dataclass
-class Words:
-    """The words of a command or an entry, by what they stand for."""
-
-    kind: str
-    values: dict[str, Any] = field(default_factory=dict)
-    bits: tuple[str, ...] = ()
-
-    def take(self, what: str, word: str) -> None:
-        """Takes a word by what it stands for, or 1."""
-        for mark in "/.":
-            if mark in what:
-                names, parts = what.split(mark), word.split(mark)
-                if len(names) != len(parts):
-                    raise Refused(Refusal.BadLine)
-                for name, part in zip(names, parts, strict=True):
-                    self.take(name, part)
-                return
-        if what == "variable":
-            if word not in WIDTHS:
+def _read_word(what: str, word: str, values: Values) -> None:
+    """Notes what a word says, or 1."""
+    for mark in "/.":
+        if mark in what:
+            names, parts = what.split(mark), word.split(mark)
+            if len(names) != len(parts):
                 raise Refused(Refusal.BadLine)
-        elif what in TAGS:
-            if word != TAGS[what] or not word:
-                if word[:1] not in ("b", "n"):
-                    raise Refused(Refusal.BadLine)
-                number(word[1:])
-        else:
-            self.values[what] = number(word)
+            for name, part in zip(names, parts, strict=True):
+                _read_word(name, part, values)
             return
-        self.values[what] = word
+    values[what] = word
+    if what == "variable":
+        if word not in WIDTHS:
+            raise Refused(Refusal.BadLine)
+    elif what not in TAGS:
+        values[what] = number(word)
+    elif not word or word != TAGS[what]:
+        if word[:1] not in ("b", "n"):
+            raise Refused(Refusal.BadLine)
+        number(word[1:])
 
 
-def _read_words(kind: str, grammar: str, words: list[str]) -> Words:
-    """Words by a grammar: 1 for all of them first, then their digits."""
-    names = grammar.split()
-    digits: list[str] = []
-    if names and names[-1] in ("digits", "telegrams"):
+def _read_words(grammar: str, words: list[str]) -> Values:
+    """Words by a grammar: 1 for all of them first, then 2, 3 or 4 for their digits."""
+    names, digits = grammar.split(), []
+    in_bits = {"digits": bits_of_digits, "telegrams": telegram_bits}.get((names or [""])[-1])
+    if in_bits is not None:
         words, digits = words[: len(names) - 1], words[len(names) - 1 :]
         if not digits or (names.pop() == "digits" and len(digits) > 1):
             raise Refused(Refusal.BadLine)
     if len(words) != len(names):
         raise Refused(Refusal.BadLine)
-    read = Words(kind)
+    values: Values = {}
     for what, word in zip(names, words, strict=True):
-        read.take(what, word)
-    in_bits = telegram_bits if kind == "add" else bits_of_digits
-    read.bits = tuple(in_bits(word) for word in digits)
-    return read
+        _read_word(what, word, values)
+    if in_bits is not None:
+        values["bits"] = tuple(in_bits(word) for word in digits)
+    return values
 
 
-def command(line: str) -> Words:
-    """The words of a command, or 1 for its grammar, and then 2, 3 or 4."""
+def command(line: str) -> tuple[str, Values]:
+    """The kind of a command and what it says, or 1 for its grammar, and then 2, 3 or 4."""
     kind, *words = words_of(line)
     if kind not in COMMANDS:
         raise Refused(Refusal.BadLine)
-    return _read_words(kind, COMMANDS[kind], words)
+    return kind, _read_words(COMMANDS[kind], words)
 
 
-def edit_of(plan: Plan, asked: Words) -> Edit:
+def edit_of(plan: Plan, kind: str, asked: Values) -> Edit:
     """The edit by tags that a command asks for, or 14, 15 or 16."""
-    kind, values = asked.kind, asked.values
+    at, place = asked.get("at"), asked.get("place")
     if kind == "add":
-        if values["at"] > len(plan.groups):
+        if asked["at"] > len(plan.groups):
             raise Refused(Refusal.NoSuchGroup)
-        return Edit(kind, after=anchor_at(plan.groups, values["at"]), bits=asked.bits)
-    group = plan.find((values["country"], values["nid_bg"]))
-    edit = Edit(kind, group.tag, value=values.get("value", 0), bits=asked.bits)
-    if kind in ("drop", "turn", "renumber"):
-        return edit
-    if values["pig"] >= len(group.telegrams):
+        return Edit(kind, after=anchor_at(plan.groups, asked["at"]), bits=asked["bits"])
+    group = plan.find((asked["country"], asked["nid_bg"]))
+    words = {name: asked[name] for name in asked if name in IN_EDITS}
+    words["group"] = group.tag
+    if "pig" not in asked:
+        return Edit(kind, **words)
+    if asked["pig"] >= len(group.telegrams):
         raise Refused(Refusal.NoSuchTelegram)
-    telegram = group.telegrams[values["pig"]]
-    edit = replace(edit, telegram=telegram.tag, variable=values.get("variable", ""))
-    packets, place, at = telegram.packets, values.get("place"), values.get("at")
+    telegram = group.telegrams[asked["pig"]]
+    packets = telegram.packets
+    words["telegram"] = telegram.tag
     if place is not None:
         if place >= len(packets):
             raise Refused(Refusal.NoSuchPacket)
-        edit = replace(edit, packet=packets[place].tag, occurrence=values.get("occurrence", 0))
-    if at is None:
-        return edit
-    if at >= len(packets) + (kind == "insert"):
-        raise Refused(Refusal.NoSuchPacket)
-    if at == place:
-        return replace(edit, after=edit.packet)
-    rest = [item for item in packets if item.tag != edit.packet]
-    return replace(edit, after=anchor_at(rest, at))
+        words["packet"] = packets[place].tag
+    if at is not None:
+        if at >= len(packets) + (kind == "insert"):
+            raise Refused(Refusal.NoSuchPacket)
+        rest = [packet for packet in packets if packet.tag != words.get("packet")]
+        words["after"] = words["packet"] if at == place else anchor_at(rest, at)
+    return Edit(kind, **words)
 
 
 def journal_entry(line: str) -> Entry:
@@ -179,17 +172,15 @@ def journal_entry(line: str) -> Entry:
     words = words_of(line)
     if len(words) < 2 or words[1] not in ENTRIES:
         raise Refused(Refusal.BadLine)
-    serial = number(words[0])
-    read = _read_words(words[1], ENTRIES[words[1]], words[2:])
-    note = Note(read.values.pop("old", None), read.values.pop("before", None))
-    return Entry(serial, Edit(read.kind, bits=read.bits, **read.values), note)
+    serial, kind = number(words[0]), words[1]
+    values = _read_words(ENTRIES[kind], words[2:])
+    note = Note(values.pop("old", None), values.pop("before", None))
+    return Entry(serial, Edit(kind, **values), note)
 
 
 def entry_line(entry: Entry) -> str:
     """A line of the journal."""
-    edit, note = entry.edit, entry.note
-    values: dict[str, Any] = {**vars(edit), "old": note.old, "before": note.before}
-    digits = " ".join(digits_of_bits(bits) for bits in edit.bits)
-    values.update(digits=digits, telegrams=digits)
-    words = re.sub("[a-z]+", lambda found: str(values[found[0]]), ENTRIES[edit.kind])
-    return f"{entry.serial} {edit.kind} {words}"
+    digits = " ".join(digits_of_bits(bits) for bits in entry.edit.bits)
+    values = {**vars(entry.edit), **vars(entry.note), "digits": digits, "telegrams": digits}
+    words = re.sub("[a-z]+", lambda found: str(values[found[0]]), ENTRIES[entry.edit.kind])
+    return f"{entry.serial} {entry.edit.kind} {words}"

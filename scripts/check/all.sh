@@ -71,10 +71,12 @@ random() {
 
 small_checks() {
     check "examples and guide" bash examples.sh "$program"
+    check "links and words of the pages" python3 pages.py
     check "docs/FORMATS.md" python3 formats.py "$program"
     check "manual page" python3 man.py "$program"
     check "worked rows" python3 ../../checks/rows.py "$words"
     check "worked rows by the reference" python3 ../../checks/rows.py "python3 $reference/baliseplan.py"
+    check "faults planted in the reference" python3 planted.py
     check "exit statuses" bash statuses.sh "$program"
     check "pairs of commands" bash pairs.sh "$program"
     check "no growth" python3 no_growth.py "$program"

@@ -7,8 +7,8 @@ pub struct Flags {
     pub quiet: bool,
     /// `--stop`: no command after one that was refused.
     pub stop: bool,
-    /// `--journal`: the journal behind the plan.
+    /// `--journal`: the journal after the plan.
     pub journal: bool,
-    /// `--json`: a line of JSON for each group behind the plan.
+    /// `--json`: a line of JSON for each group after the plan.
     pub json: bool,
 }

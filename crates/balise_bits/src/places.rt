@@ -9,8 +9,8 @@ use crate::window::{WINDOW, fill_shifted, number_before, put_over};
 /// The widest number that is read or put at once.
 pub(crate) const WIDEST: usize = 57;
 
-/// Up to so many bits, numbers are put faster than bytes: by instructions, five numbers cost what 285 bits as bytes do.
-const FEW: usize = 285;
+/// The longest part, in bits, that is put as numbers. By instructions, three numbers cost less than bytes, and four more.
+const FEW: usize = 171;
 
 /// The number in the `width` bits from the place `at` on.
 #[inline(always)]

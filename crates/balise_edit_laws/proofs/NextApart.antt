@@ -24,7 +24,7 @@ behind_other {same = same} t p (y ∷ ys) u =
     (λ e q. let g : find same p ys ≡ None = ap (λ s. find same s ys) q ∙ u.0 in simp e (first_other t p ys g))
     (λ e. simp e (behind_other t p ys u.1))
 
--- what comes first comes behind nothing
+-- what comes first comes after nothing
 first_apart : {K A : Type 0} → {same : K → K → Bool} → IsTest same → (p : K) → (x : A) → (xs : List (K × A)) → Distinct same xs → find same p xs ≡ Some x → same_spot same (first xs) (behind same p xs) ≡ false
 first_apart t p x [] u h = absurd cc
 first_apart {same = same} t p x (y ∷ ys) u h =

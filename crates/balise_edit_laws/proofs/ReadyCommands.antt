@@ -57,7 +57,7 @@ or_some : {A : Type 0} → (o : Option A) → (r : Refusal) → (x : A) → ok_o
 or_some None r x h = absurd cc
 or_some (Some y) r x h = cc
 
--- what is read with nothing behind it is read with anything behind it
+-- what is read with nothing after it is read with anything after it
 read_before : (behind : List Bool) → (o : Option (Fields × List Bool)) → (r : Packet × List Bool) → read_packet [] o ≡ Ok r → read_packet behind o ≡ Ok (r.0, behind)
 read_before behind None r h = absurd cc
 read_before behind (Some f) r h = ap (λ (z : Packet × List Bool). Ok (z.0, behind)) (unok h)

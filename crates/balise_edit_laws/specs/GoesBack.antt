@@ -22,7 +22,7 @@ pub record HasGap (g : Tag) (t : ℕ) (p : Tag) (x : Packet) (before : Option Ta
   pub room : used telegram.packets + width x ≤ length telegram.padding
   pub spelt : IsSpelt (version_of telegram) x
 
--- A packet stands in the telegram, and so does its old next neighbour, but not directly behind it.
+-- A packet stands in the telegram, and so does its old next neighbour, but not directly after it.
 pub record IsAstray (g : Tag) (t : ℕ) (p : Tag) (before : Option Tag) (plan : Plan) : Type 0 where
   pub telegram : Telegram
   pub stands : telegram_at g t plan ≡ Some telegram

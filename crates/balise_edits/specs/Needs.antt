@@ -46,7 +46,7 @@ clear out e f =
     not (any_meets (changes e) (but out (changes f) ++ needs f))
     && (not (any_meets (needs e) (but out (changes f))) && room_apart e.0.1 f.0.1)
 
--- the place behind one
+-- the place after one
 abbrev pub just_behind : Option Path → Option Path
 just_behind None = None
 just_behind (Some p) = Some (p ++ After ∷ [])

@@ -15,12 +15,12 @@ use Rattle.balise_plan.specs.Held.{Plan}
 abbrev pub changed_to : rules.Plan → Plan → Plan
 changed_to groups old = record { groups = groups; changes = old.changes + 1 }
 
--- The edit is done under its serial; or its first refusal is answered, or want of memory, and all stays.
+-- The edit is done under its serial; or its first refusal is answered, or out of memory, and all stays.
 abbrev pub DoesItem : {A : Type 0} → Item → Plan → Result A Refusal → Plan → Type 0
 DoesItem e old (Ok a) new = (refusal e.1 old.groups ≡ None) × (new ≡ changed_to (done e old.groups) old)
 DoesItem e old (Err r) new = ((r ≡ OutOfMemory) ⊎ (refusal e.1 old.groups ≡ Some r)) × (new ≡ old)
 
--- The edit is done, and its entry has what it notes; or its first refusal is answered, or want of memory, and all stays.
+-- The edit is done, and its entry has what it notes; or its first refusal is answered, or out of memory, and all stays.
 abbrev pub Applies : Item → Plan → Result Entry Refusal → Plan → Type 0
 Applies e old (Ok f) new = (refusal e.1 old.groups ≡ None) × (f ≡ (e, noted e.1 old.groups)) × (new ≡ changed_to (done e old.groups) old)
 Applies e old (Err r) new = ((r ≡ OutOfMemory) ⊎ (refusal e.1 old.groups ≡ Some r)) × (new ≡ old)

@@ -36,7 +36,7 @@ pub fn apply(plan: &mut Plan, edit: Edit, serial: u32) -> Result<Entry, Refusal>
 }
 
 /// Takes an entry's edit back, where it was the last one. The entry keeps all but what was taken out of the plan, which
-/// stands there again. Refused for want of memory alone, and then nothing has changed.
+/// stands there again. Refused only as out of memory, and then nothing has changed.
 pub fn take_back(plan: &mut Plan, entry: &mut Entry) -> Result<(), Refusal>
     requires count { plan.old.changes < 2 ^ 63 }
     requires last { IsLast entry.old plan.old.groups }

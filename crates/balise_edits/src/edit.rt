@@ -10,7 +10,7 @@ use balise_layout::Packet;
 use balise_rules::{Refusal, Tag, Var};
 
 /// An edit of a plan, by tags: `g` of a group, `t` of a telegram, `p` of a packet. `after` is the anchor, directly
-/// behind which something is put, or none for the first place.
+/// after which something is put, or none for the first place.
 #[derive(Drop)]
 pub enum Edit {
     /// Sets occurrence `k`, from 0, of a variable of a packet.

@@ -1,4 +1,4 @@
-//! When a later entry is independent of an earlier one, and when it stands behind it.
+//! When a later entry is independent of an earlier one, and when it stands after it.
 
 ghost use Rattle.std.specs.Prelude.{◌≡◌, option_map};
 ghost use Rattle.balise_rules.specs.Paths.{apart};
@@ -22,8 +22,8 @@ pub fn apart(entry: &Entry, later: &Entry) -> bool
     clear(entry, later, &None)
 }
 
-/// Whether a later entry stands behind an earlier one: it is anchored on what that one put in, and is apart from it but
-/// for the side behind that. Takes no memory.
+/// Whether a later entry stands after an earlier one: it is anchored on what that one put in, and is apart from it but
+/// for the side after that. Takes no memory.
 #[tactic(auto, using(crate::proofs::Equal::path_one))]
 pub fn stands_behind(entry: &Entry, later: &Entry) -> bool
     ensures { result ≡ stands_behind entry.now later.now }
@@ -40,7 +40,7 @@ pub fn stands_behind(entry: &Entry, later: &Entry) -> bool
     clear(entry, later, &entry.behind_it())
 }
 
-/// Whether a later entry is independent of an earlier one: it is apart from it, or stands behind it. Takes no memory.
+/// Whether a later entry is independent of an earlier one: it is apart from it, or stands after it. Takes no memory.
 pub fn independent(entry: &Entry, later: &Entry) -> bool
     ensures { result ≡ independent entry.now later.now }
 {

@@ -9,7 +9,7 @@ pub fn commute()
     balise_strike_laws::commute();
 }
 
-/// An edit that stands behind what another put in commutes with it, once it is anchored on the other's own anchor.
+/// An edit that stands after what another put in commutes with it, once it is anchored on the other's own anchor.
 pub fn commute_behind()
     ensures { CommutingBehind }
 {

@@ -17,7 +17,7 @@ use links::add_links;
 ///
 /// First each distance and each unknown packet of the group, then of each element that names the group its D_LINK and
 /// that of the next element of its packet. A group of one telegram has no line. Refused where no group has the tag
-/// (14), or for want of memory (30).
+/// (14), or as out of memory (30).
 pub fn review(plan: &Plan, g: Tag) -> Result<Vec<ReviewLine>, Refusal>
     ensures ok { IfOk result (λ lines. lines.items ≡ review g plan.now.groups) }
     ensures group { IfOk result (λ _. no_group g plan.now.groups ≡ None) }

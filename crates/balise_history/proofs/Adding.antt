@@ -1,4 +1,4 @@
--- What is held with one more entry behind those that stand.
+-- What is held with one more entry after those that stand.
 use Rattle.std.proofs.Common.{◌≡◌, ◌≤◌, ◌∙◌, ℕ, List, [], ◌∷◌, ◌++◌, map, refl, sym, ap, subst}
 use Rattle.balise_rules.specs.Accepting.{Unused}
 use Rattle.balise_rules.specs.Plan.{Plan, IsSound}

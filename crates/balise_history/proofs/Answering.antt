@@ -228,7 +228,7 @@ redo-none p h next s = (inr (λ m. ap (λ (x : List Gone). answer_redo (state_at
 
 -- ---- edits
 
--- an edit that is accepted goes behind those that stand
+-- an edit that is accepted goes after those that stand
 pub added-one : (p : Plan) (h : History) (next : ℕ) (c : Command) (e : Edit) (f : Entry) (q : Plan) (k : History) → HeldIn p h next → edit_of c p.groups ≡ Ok e → refusal e p.groups ≡ None → f ≡ ((next, e), noted e p.groups) →
     q ≡ changed_to (done (next, e) p.groups) p → k.standing ≡ h.standing ++ f ∷ [] → k.stack ≡ [] → Leaves p h (suc next) q k (items_of h.standing ++ (next, e) ∷ []) []
 added-one p h next c e f q k o g r x a b d =
@@ -257,7 +257,7 @@ edit-accepts p h next c e f q k o g r x a b d =
       l.changes,
     )
 
--- ---- want of memory
+-- ---- out of memory
 
 -- an edit that isn't one of those that need none may want some
 pub may-want : (b : Bool) → (b ≡ true → false ≡ true) → IsTrue (not b)

@@ -117,7 +117,7 @@ rest-above s (e ∷ es) h =
     let t : eqb e.0.0 s ≡ false = grind (arith, nat_tests) in
     simp t (ap (λ l. e ∷ l) (rest-above s es (All-tail (λ (f : Entry). s < f.0.0) e es h)))
 
--- An entry at a place, and what is before it and behind it.
+-- An entry at a place, and what is before it and after it.
 pub record Cut (es : List Entry) (n : ℕ) (e : Entry) : Type 0 where
   pub within : n < length es
   pub whole : es ≡ take n es ++ e ∷ drop (suc n) es
@@ -216,7 +216,7 @@ none-there s (e ∷ es) r h = split_on (nat_lt e.0.0 s)
         let u : eqb s f.0.0 ≡ false = grind (arith, nat_tests) in
         simp u (high m fs (All-tail (λ (x : Entry). m < x.0.0) f fs a) l)
 
--- ---- the serials of those that stand behind an entry
+-- ---- the serials of those that stand after an entry
 
 pub behind-above : (e : Entry) (s : ℕ) (fs : List Entry) → Above s fs → All (λ m. s < m) (serials_behind e fs)
 behind-above e s [] h = All-nil (λ m. s < m)

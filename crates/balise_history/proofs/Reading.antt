@@ -14,7 +14,7 @@ use Rattle.balise_edit_laws.proofs.LinesReady.{when_some}
 use Rattle.balise_history.specs.Held.{Edited, state_at, Accepts, Answered}
 use Rattle.balise_history.specs.Openings.{Enters, IsOpening}
 
--- one more entry behind those that stand, and nothing undone
+-- one more entry after those that stand, and nothing undone
 pub record OneMore (s t : State) : Type 0 where
   pub none_undone : length s.stack ≡ 0
   pub stack : t.stack ≡ s.stack

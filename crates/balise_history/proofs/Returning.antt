@@ -24,7 +24,7 @@ use Rattle.balise_history.proofs.Cuts.{take-before, drop-behind}
 use Rattle.balise_history.proofs.Entries.{cut, items-entries, items-append, items-hung, notes-append, notes-hung, same-entries, hung-append, hung-low, below-items, all-above, behind-above, behind-ascends, rising-drop, place-of-found, place-cut, put-between, Above, above-hung}
 use Rattle.balise_history.proofs.Taking.{held_state, rest-entries}
 
--- the entries with one more at a place, and those behind it with another anchor
+-- the entries with one more at a place, and those after it with another anchor
 abbrev pub with_back : List Entry → ℕ → Gone → Plan → List Entry
 with_back es n r groups = take n es ++ (r.0.0, noted r.0.0.1 groups) ∷ entries_hung (Some (Fresh r.0.0.0)) r.1 (drop n es)
 

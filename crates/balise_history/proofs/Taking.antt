@@ -39,7 +39,7 @@ held_state base st sk n = record { base = base; standing = items_of st; stack = 
 pub rising : (base groups : Plan) (st : List Entry) (sk : List Gone) (n : ℕ) → Holds base groups st sk n → Rising (items_of st)
 rising base groups st sk n h = rises (held_state base st sk n) h.session
 
--- the entries before a place, and those behind it with another anchor
+-- the entries before a place, and those after it with another anchor
 abbrev pub rest_of : List Entry → ℕ → Entry → List ℕ → List Entry
 rest_of es n e serials = take n es ++ entries_hung (anchor_of e.0.1) serials (drop (suc n) es)
 
@@ -71,7 +71,7 @@ rest-entries base items es n e B left q c h l m =
     (rest-items es n e B c h ∙ ap (left_of e B) is ∙ l ∙ sym (items-entries base left))
     (rest-notes es n e B c ∙ ap (λ (fs : List Entry). notes_of (filter (λ (f : Entry). not (eqb f.0.0 e.0.0)) fs)) q ∙ sym m)
 
--- The entry at a place is found under its serial, was the last one but for those behind it, and what is held without it is held.
+-- The entry at a place is found under its serial, was the last one but for those after it, and what is held without it is held.
 pub record IsOut (base groups : Plan) (st : List Entry) (sk : List Gone) (serial n : ℕ) (e : Entry) (B : List ℕ) : Type 0 where
   pub found : find (λ (f : Entry). eqb e.0.0 f.0.0) (entries base (items_of st)) ≡ Some e
   pub later_are : later e.0.0 (entries base (items_of st)) ≡ drop (suc n) st

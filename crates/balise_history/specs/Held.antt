@@ -52,7 +52,7 @@ IsHeld groups standing stack serial = Holds (back_along standing groups) groups 
 abbrev pub Accepts : Call → Edited → Reply → Edited → Type 0
 Accepts c s r t = ((n : ℕ) → ◌≡◌ {A = Reply × State} (answer_in_time c (state_at n s)) (r, state_at (suc n) t)) × (t.changes ≡ s.changes + 1)
 
--- it is refused, or wants memory where it may take some, and all stays
+-- it is refused, or is out of memory where it may take some, and all stays
 abbrev pub Refuses : Call → Edited → Refusal → Edited → Type 0
 Refuses c s r t = (((r ≡ OutOfMemory) × IsTrue (takes_memory c (state_at 0 s))) ⊎ ((n : ℕ) → ◌≡◌ {A = Reply × State} (answer_in_time c (state_at n s)) (Refused r, state_at n s))) × (t ≡ s)
 

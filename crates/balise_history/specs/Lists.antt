@@ -16,7 +16,7 @@ use Rattle.balise_edits.specs.Anchors.{hung_on}
 use Rattle.balise_edits.specs.Standing.{changed_to}
 use Rattle.balise_history.specs.declared.history.Undone.{Undone}
 
--- an entry that was undone or struck, and the serials of the later edits that stood behind it
+-- an entry that was undone or struck, and the serials of the later edits that stood after it
 abbrev pub Gone : Type 0
 Gone = Entry × List ℕ
 
@@ -58,7 +58,7 @@ place_of serial (e ∷ es) = cond (nat_lt e.0.0 serial) (suc (place_of serial es
 abbrev pub entries_hung : Option Tag → List ℕ → List Entry → List Entry
 entries_hung a serials es = map (λ (e : Entry). cond (is_among e.0.0 serials) (hung_on a e) e) es
 
--- The entry at a place is taken back and goes to the stack, and those of these serials behind it get its anchor; or memory is wanted, and all stays.
+-- The entry at a place is taken back and goes to the stack, and those of these serials after it get its anchor; or it is out of memory, and all stays.
 abbrev pub TakesOut : ℕ → List ℕ → Plan → History → {A : Type 0} → Result A Refusal → Plan → History → Type 0
 TakesOut n serials p h (Ok u) q k =
     (e : Entry) × (slice_get h.standing n ≡ Some e) × (q ≡ changed_to (back e.0 e.1 p.groups) p)
@@ -66,7 +66,7 @@ TakesOut n serials p h (Ok u) q k =
     × (k.stack ≡ ((e.0, without_content e.1), serials) ∷ h.stack)
 TakesOut n serials p h (Err r) q k = (r ≡ OutOfMemory) × (q ≡ p) × (k ≡ h)
 
--- The top of the stack is done again and put at a place, and those behind it of its serials get what it put in as their anchor; or memory is wanted, and all stays.
+-- The top of the stack is done again and put at a place, and those after it of its serials get what it put in as their anchor; or it is out of memory, and all stays.
 abbrev pub PutsBack : ℕ → Gone → Plan → History → {A : Type 0} → Result A Refusal → Plan → History → Type 0
 PutsBack n r p h (Ok u) q k =
     (q ≡ changed_to (done r.0.0 p.groups) p)

@@ -34,7 +34,7 @@ EntersIn l next p h (Err r) q k =
     Mismatches r (with_entry (state_at 0 (seen p.groups h.standing h.stack next p.changes)) l)
     × (((q ≡ p) × (k.standing ≡ h.standing) × (k.stack ≡ h.stack)) ⊎ ((r ≡ JournalMismatch) × ((n : Noted) × EntersOneIn (record l { noted = n }) next p h q k)))
 
--- a line's edit is done behind those that stand, by one change
+-- a line's edit is done after those that stand, by one change
 abbrev pub EntersOne : Line → Edited → Edited → Type 0
 EntersOne l s t = (◌≡◌ {A = Option State} (with_entry (state_at 0 s) l) (Some (state_at 0 t))) × (t.changes ≡ s.changes + 1) × (length t.standing + length t.stack < t.serial)
 

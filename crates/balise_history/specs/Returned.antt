@@ -5,7 +5,7 @@ use Rattle.balise_rules.specs.Paths.{Entry}
 use Rattle.balise_strike_laws.specs.InSession.{Rising}
 use Rattle.balise_history.specs.Lists.{Gone, items_of, place_of, entries_hung, Ascends}
 
--- with one put at its own place, and those that stood behind it anchored on what it puts in
+-- with one put at its own place, and those that stood after it anchored on what it puts in
 abbrev pub returned : List Entry → Gone → List Entry
 returned es r = take (place_of r.0.0.0 es) es ++ r.0 ∷ entries_hung (Some (Fresh r.0.0.0)) r.1 (drop (place_of r.0.0.0 es) es)
 

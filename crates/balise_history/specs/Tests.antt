@@ -1,4 +1,4 @@
--- Why an entry isn't struck under those behind it.
+-- Why an entry isn't struck under those after it.
 use Rattle.std.specs.Prelude.{◌≡◌, ◌≢◌, ◌⊎◌, ℕ, eqb, List, [], find, take, Some, None}
 use Rattle.balise_rules.specs.declared.refusal.Refusal.{Refusal}
 use Rattle.balise_rules.specs.declared.refusal.Refusal.TheVariants.{DependsOn, OutOfMemory}
@@ -8,7 +8,7 @@ use Rattle.balise_rules.specs.Paths.{Entry}
 use Rattle.balise_rules.specs.Plan.{Plan}
 use Rattle.balise_rules.specs.Session.{entries, first_dependent, later}
 
--- Where memory runs out as entries are tested, some of those tested stand behind e, and none of them depends on it.
+-- Where memory runs out as entries are tested, some of those tested stand after e, and none of them depends on it.
 pub record RunsOutAmong (e : Entry) (fs : List Entry) : Type 0 where
   pub tested : ℕ
   pub independent : first_dependent e (take tested fs) ≡ None

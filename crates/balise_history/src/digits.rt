@@ -8,7 +8,7 @@ use balise_layout::Packet;
 use balise_rules::Refusal;
 
 /// The packet in the bits of a word of digits, for a telegram of this M_VERSION: as many bytes as its L_PACKET needs,
-/// and zeros behind it.
+/// and zeros after it.
 ///
 /// Refused in this order: `PacketCut` where fewer than 8 bits are there, `PacketZero`, `LayoutMismatch` for packet 255,
 /// `PacketCut`, `BadLength`, `SpareBits`, `LayoutMismatch`. `OutOfMemory` may stand in place of any answer.

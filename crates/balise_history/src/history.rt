@@ -17,7 +17,7 @@ use balise_rules::Refusal;
 use std::alloc::Global;
 use std::marker::Model;
 
-/// An entry that was undone or struck, and the rising serials of the later edits that stood behind it: they stand on
+/// An entry that was undone or struck, and the rising serials of the later edits that stood after it: they stand on
 /// its own anchor meanwhile.
 #[derive(Drop)]
 pub(crate) struct Undone {
@@ -161,7 +161,7 @@ impl History {
         Ok(())
     }
 
-    /// Adds an entry behind those that stand. What was undone or struck is dropped.
+    /// Adds an entry after those that stand. What was undone or struck is dropped.
     pub(crate) fn push(&mut self, entry: Entry)
         requires { 0 < self.old.room }
         ensures standing { self.new.standing ≡ self.old.standing ++ entry ∷ [] }
@@ -173,8 +173,8 @@ impl History {
 }
 
 impl History {
-    /// Takes the entry at a place back and moves it to the stack, with the serials of those behind it, which get its
-    /// anchor. On want of memory, which is met only where the entry's edit takes some, all stays.
+    /// Takes the entry at a place back and moves it to the stack, with the serials of those after it, which get its
+    /// anchor. If it is out of memory, which is possible only where the entry's edit takes some, all stays.
     pub(crate) fn take_out(
         &mut self,
         plan: &mut Plan,
@@ -195,8 +195,8 @@ impl History {
         Ok(())
     }
 
-    /// Does the top of the stack again and puts it at a place among those that stand; those that stood behind it are
-    /// anchored on what it puts in, as before. On want of memory, which is met only where the entry's edit takes some,
+    /// Does the top of the stack again and puts it at a place among those that stand; those that stood after it are
+    /// anchored on what it puts in, as before. If it is out of memory, which is possible only where the entry's edit takes some,
     /// all stays.
     pub(crate) fn put_back(&mut self, plan: &mut Plan, place: usize) -> Result<(), Refusal>
         ghost r: { Gone }

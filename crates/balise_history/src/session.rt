@@ -212,7 +212,7 @@ impl Session {
         lines_of(alloc, &entries)
     }
 
-    /// The standing edits, where nothing is undone or struck: the journal tells them alone then. Takes no memory.
+    /// The standing edits, where nothing is undone or struck: its journal says only these. Takes no memory.
     pub fn all_standing(&self) -> Option<&[Entry]>
         ensures some { IfSome result (λ es. self.now.state.stack ≡ []) }
         ensures none { IfNone result (self.now.state.stack ≢ []) }
@@ -225,8 +225,8 @@ impl Session {
         }
     }
 
-    /// The edits that its journal tells: those that would stand if all that was undone or struck were done again, with
-    /// the anchors and notes that they would have; of a note, as much as its line tells. Refused as `OutOfMemory` alone.
+    /// The edits that its journal says: those that would stand if all that was undone or struck were done again, with
+    /// the anchors and notes that they would have; of a note, as much as its line says. Refused only as `OutOfMemory`.
     pub fn all_back(&self) -> Result<Vec<Entry>, Refusal>
         ensures ok { IfOk result (λ v. map line_of v.items ≡ lines self.now.state) }
         ensures fault { IsOkUnless result Refusal.OutOfMemory }

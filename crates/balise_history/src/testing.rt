@@ -1,4 +1,4 @@
-//! Whether an entry can be struck under those behind it.
+//! Whether an entry can be struck under those after it.
 
 ghost use Rattle.std.specs.Prelude.{◌≡◌, ◌≢◌, true, IfErr, IfOk, None, Some};
 ghost use Rattle.balise_history.specs.Tests.{Fails};
@@ -9,7 +9,7 @@ use balise_edits::{Entry, apart, stands_behind};
 use balise_rules::Refusal;
 use std::alloc::Global;
 
-/// The serials of the later entries that stand behind an entry, where all are independent of it; each is tested once.
+/// The serials of the later entries that stand after an entry, where all are independent of it; each is tested once.
 /// Refused as `DependsOn` with the serial of the first that isn't, or as `OutOfMemory`, which is met only where the
 /// entry's edit puts something in.
 pub(crate) fn serials_behind(

@@ -25,7 +25,7 @@ spelt_reads version p behind s = first_again version p behind s
 pub reads_begins : (version : ℕ) (b : List Bool) (p : Packet) (behind : List Bool) → read_first version b ≡ Ok (p, behind) → PacketFound version b (p, behind)
 reads_begins version b p behind e = first_found version b (p, behind) e
 
--- the place behind a packet that was read is as far as it is long
+-- the place after a packet that was read is as far as it is long
 pub read_lies : (version at end : ℕ) (b : List Bool) (p : Packet) → at ≤ end → end ≤ length b → read_first version (drop at b) ≡ Ok (p, drop end b) → IsSpelt version p × (at + width p ≡ end) × (end ≤ length b)
 read_lies version at end b p ordered within e =
     let g = reads_begins version (drop at b) p (drop end b) e in

@@ -16,7 +16,7 @@ use Rattle.balise_layout.specs.Held.{before, further}
 use Rattle.balise_layout.proofs.Walks.{fits_is}
 use Rattle.balise_rules.proofs.Found as rules
 
--- a field that stands behind so many bits
+-- a field that stands after so many bits
 pub record Standing (v : Var) (k : ℕ) (fs : Fields) (raw : List Bool) (d : ℕ) : Type 0 where
   pub value : ℕ
   pub is : field_of v k fs ≡ Some value
@@ -41,7 +41,7 @@ take_further : (a b : List Bool) (d : ℕ) → take (length a + d) (a ++ b) ≡ 
 take_further [] b d = ap (λ (n : ℕ). take n b) (let e : 0 + d ≡ d = omega arith in e)
 take_further (x ∷ a) b d = ap (λ (n : ℕ). take n (x ∷ (a ++ b))) (let e : suc (length a) + d ≡ suc (length a + d) = omega arith in e) ∙ ap (λ (l : List Bool). x ∷ l) (take_further a b d)
 
--- bits put behind others
+-- bits put after others
 pub put_further : (a b new : List Bool) (d : ℕ) → put_at (length a + d) new (a ++ b) ≡ a ++ put_at d new b
 put_further a b new d =
     let far : (length a + d) + length new ≡ length a + (d + length new) = omega arith in

@@ -51,7 +51,7 @@ key_other v k f h = at (same_var v f.0.0) (other_no var_test v f.0.0 (λ e. no (
     at : (x : Bool) → x ≡ false → (x && eqb k f.0.1) ≡ false
     at x p = rw p refl
 
--- a search that skips so many goes on behind those that were counted
+-- a search that skips so many goes on after those that were counted
 pub search_from : (v : Var) (skip total : ℕ) (seen fs : Fields) → NumberedFrom seen fs → (kept look (searching v skip) total fs).found ≡ left_from total (before (v, count_of v seen + skip) fs)
 search_from v skip total seen [] m = refl
 search_from v zero total seen (f ∷ fs) m = here (same_var f.0.0 v) refl (λ h. search_from v zero (total - width_of f.0.0) (seen ++ f ∷ []) fs m.1)

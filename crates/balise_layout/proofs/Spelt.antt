@@ -64,7 +64,7 @@ head_of next (((v, k), a) ∷ ((w, i), b) ∷ ((x, j), c) ∷ more) raw m n =
       fits_size = fits_is (width_of LPacket) c m.2.2.1;
     }
 
--- the first 23 bits of a packet, whatever stands behind it
+-- the first 23 bits of a packet, whatever stands after it
 pub record Front (b : List Bool) (number size : ℕ) : Type 0 where
   pub long : 23 ≤ length b
   pub has_number : num (take 8 b) ≡ number

@@ -1,4 +1,4 @@
-//! What is told of each field of a packet.
+//! What a visitor is given of each field of a packet.
 
 ghost use Rattle.std.specs.Prelude.{◌≡◌, ℕ, Bool, true, false, MatchResult};
 ghost use Rattle.balise_rules.specs.declared.variable.Var.{Var};
@@ -7,7 +7,7 @@ ghost use Rattle.balise_layout.specs.declared.fault.LayoutFault.TheVariants.{Out
 use crate::fault::LayoutFault;
 use balise_rules::Var;
 
-/// Goes along a packet and is told of each field. After an error it is asked no more.
+/// Goes along a packet and is given each field. After an error it is given no more.
 pub trait Visit: Sized {
     /// Whether it takes memory, and so may run out of it.
     ghost allocates: { Bool };

@@ -1,4 +1,4 @@
--- The bytes held, after a read behind them or a step past their front.
+-- The bytes held, after a further read or a step past their front.
 use Rattle.std.proofs.Common.{◌≡◌, ℕ, ◌+◌, ◌-◌, ◌≤◌, List, ◌++◌, length, take, drop, slice_range, Option, Some, None, refl, sym, ap, ◌∙◌, arith, append_assoc}
 use Rattle.std.proofs.lemmas.List.{take_at, drop_at, take-append-le, drop-append-le, drop-take, drop-drop, length-take, length-take-le, length-drop}
 use Rattle.std.specs.Io.KnownBytes.{Keeps, Consumes, prepend_known}
@@ -9,7 +9,7 @@ use Rattle.balise_lines.specs.Reading.{ahead}
 use Rattle.balise_lines.specs.declared.line_buffer.LineBuffer.{LineBuffer}
 use Rattle.balise_lines.specs.declared.lines.Lines.{Lines}
 
--- a read behind the part from start to end makes it longer by what it gave
+-- a read after the part from start to end makes it longer by what it gave
 pub grown : (xs ys : List ℕ) (start end k n : ℕ) → start ≤ end → end ≤ length xs → n ≤ length ys
     → slice_range (put_mid end k xs ys) start (end + n) ≡ slice_range xs start end ++ take n ys
 grown xs ys start end k n ordered within fits =
@@ -31,7 +31,7 @@ stepped_past xs start end count inside =
     sym (ap (λ j. drop count (take j (drop start xs))) parts ∙ drop-take count _ (drop start xs)
     ∙ ap (take (end - (start + count))) (drop-drop count start xs))
 
--- the reader gave more, which went behind what was held: what is left of the input is the same
+-- the reader gave more, which went after what was held: what is left of the input is the same
 pub Keeps-read : (a b : Option (List ℕ)) (xs ys zs more : List ℕ) → Consumes a b more → ys ≡ xs → zs ≡ ys ++ more → Keeps (prepend_known xs a) (prepend_known zs b)
 Keeps-read None b xs ys zs more p e f = tt
 Keeps-read (Some a) None xs ys zs more p e f = absurd p

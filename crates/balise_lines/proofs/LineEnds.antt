@@ -20,7 +20,7 @@ none_before xs k inside nowhere = All-from_get_or (λ b. b ≢ 10) (take k xs) 0
         let below : i < k = omega (arith, length-take {A = ℕ}) in
         nowhere i (omega arith) below (eq-eqb (get_or xs i 0) 10 (sym (get_or-take k xs i 0 below) ∙ is))
 
--- a search behind the first n bytes found none
+-- a search after the first n bytes found none
 pub none_found : (xs hay : List ℕ) (n : ℕ) → hay ≡ drop n xs → HasNoEnd (take n xs) → Nowhere (Passes (is_byte 10) hay) 0 (length hay) → HasNoEnd xs
 none_found xs hay n e front nowhere =
     subst HasNoEnd (take-append-drop n xs) (All-append (λ b. b ≢ 10) (take n xs) (drop n xs) front (subst HasNoEnd e back))
@@ -28,7 +28,7 @@ none_found xs hay n e front nowhere =
     back : HasNoEnd hay
     back = All-from_get_or (λ b. b ≢ 10) hay 0 (λ k l is. nowhere k (omega arith) l (eq-eqb (get_or hay k 0) 10 is))
 
--- a search behind the first n bytes found one
+-- a search after the first n bytes found one
 pub found_at : (xs hay : List ℕ) (n k : ℕ) → hay ≡ drop n xs → HasNoEnd (take n xs) → NoneBefore (Passes (is_byte 10) hay) 0 (length hay) k
     → Passes (is_byte 10) hay k → EndsAt xs (n + k)
 found_at xs hay n k e front before passes =

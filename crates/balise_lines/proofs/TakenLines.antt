@@ -18,7 +18,7 @@ consumed (Some xs) (Some ys) bytes n k ends =
     let parts : bytes ≡ front ++ drop (n + 1) bytes = ends.1 ∙ ap (λ t. take n bytes ++ 10 ∷ t) behind ∙ sym (append_assoc (take n bytes) (10 ∷ []) (drop (n + 1) bytes)) in
     sym k ∙ ap (λ t. t ++ ys) parts ∙ append_assoc front (drop (n + 1) bytes) ys
 
--- the reading goes on behind a line with its end, of n bytes without it
+-- the reading goes on after a line with its end, of n bytes without it
 pub took_ended : (old new : Lines) (had has : Option (List ℕ)) (bytes : List ℕ) (n : ℕ) → Keeps (left old had) (prepend_known bytes has) → EndsAt bytes n → n ≤ 4096
     → held new.buffer ≡ bytes → (new.len ≡ n) × (new.taken ≡ n + 1) → place_of old + (n + 1) ≤ 67108864 → place_of new ≡ place_of old + (n + 1) → number_of new ≡ number_of old + 1
     → is_over old ≡ false → is_over new ≡ false → TookLine old had (ended (line_of new)) new has

@@ -39,7 +39,7 @@ SamePlace old new = (place_of new ≡ place_of old) × (number_of new ≡ number
 abbrev pub OverAtEnd : Lines → Option (List ℕ) → Type 0
 OverAtEnd l remaining = is_over l ≡ true → IsAtEnd (left l remaining)
 
--- the line that fits was the first of what was left, and the reading goes on behind it
+-- the line that fits was the first of what was left, and the reading goes on after it
 pub record TookLine (old : Lines) (had : Option (List ℕ)) (line : Line) (new : Lines) (has : Option (List ℕ)) : Type 0 where
   pub is_line : IsLine line
   pub consumed : Consumes (left old had) (left new has) (whole line)

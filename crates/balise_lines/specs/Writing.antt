@@ -19,7 +19,7 @@ pub record WritesAll {W : Type 0} (contents : W → Option (List ℕ)) (old new 
   pub appended : Appends (contents old.inner) (contents new.inner) text
   pub unfailed : new.failed ≡ old.failed
 
--- A beginning of the text was written. Why it isn't all is told by how many calls had failed before, and behind it.
+-- A beginning of the text was written. Why it isn't all is told by how many calls had failed before, and after it.
 pub record WritesSome {W : Type 0} (Cause : ℕ → ℕ → Type 0) (contents : W → Option (List ℕ)) (old new : Counted W) (text : List ℕ) : Type 0 where
   pub begun : AppendsSome (contents old.inner) (contents new.inner) text
   pub cause : Cause old.failed new.failed

@@ -84,7 +84,7 @@ impl LineBuffer {
         }
     }
 
-    /// Reads once, behind what is held, and answers how many bytes came.
+    /// Reads once, after what is held, and answers how many bytes came.
     fn read_from<R: Read>(&mut self, reader: &mut Counted<R>) -> Result<usize, LineFault>
         requires room { length (held self.old) < 4097 }
         ensures bytes { Keeps (prepend_known (held self.old) (R.remaining reader.old.inner))

@@ -29,17 +29,17 @@ with_read plan ys = with_group plan (group_of ys)
 abbrev pub WereRead : Group → Type 0
 WereRead ys = (bs : List (List Bool)) × (length bs ≤ most_telegrams) × (read_telegrams 0 bs ≡ Ok ys)
 
--- One telegram more stands at the end; or it is refused, or memory is wanted, and all stays.
+-- One telegram more stands at the end; or it is refused, or it is out of memory, and all stays.
 abbrev pub ReadsOn : List Bool → Group → {A : Type 0} → Result A Refusal → Group → Type 0
 ReadsOn b old (Ok u) new = with_telegram old b ≡ Ok new
 ReadsOn b old (Err e) new = ((e ≡ OutOfMemory) ⊎ (with_telegram old b ≡ Err e)) × (new ≡ old)
 
--- One group more stands at the end, and no change is counted; or its first fault is answered, or want of memory, and all stays.
+-- One group more stands at the end, and no change is counted; or its first fault is answered, or out of memory, and all stays.
 abbrev pub PushesRead : Group → Plan → {A : Type 0} → Result A Refusal → Plan → Type 0
 PushesRead ys old (Ok u) new = (with_read old.groups ys ≡ Ok new.groups) × (new.changes ≡ old.changes)
 PushesRead ys old (Err e) new = ((e ≡ OutOfMemory) ⊎ (with_read old.groups ys ≡ Err e)) × (new ≡ old)
 
--- One group more stands at the end, under the tag of its place; or a group has its identity, or memory is wanted, and all stays.
+-- One group more stands at the end, under the tag of its place; or a group has its identity, or it is out of memory, and all stays.
 abbrev pub PushesGroup : Group → Plan → {A : Type 0} → Result A Refusal → Plan → Type 0
 PushesGroup ys old (Ok u) new = (with_group old.groups (Ok ys) ≡ Ok new.groups) × (new.changes ≡ old.changes)
 PushesGroup ys old (Err e) new = ((e ≡ OutOfMemory) ⊎ (with_group old.groups (Ok ys) ≡ Err e)) × (new ≡ old)

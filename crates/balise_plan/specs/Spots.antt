@@ -24,7 +24,7 @@ put_refusal g t s x plan = first_of (no_group g plan ∷ no_telegram g t plan
     ∷ when (in_telegram (telegram_at g t plan) (λ y. not (spot_stands s y.packets))) NoSuchPacket
     ∷ when (in_telegram (telegram_at g t plan) (λ y. nat_lt (room y) (width x))) NoRoom ∷ [])
 
--- The packet stands there under the tag; or the first refusal is answered, or want of memory, the packet is handed back and all stays.
+-- The packet stands there under the tag; or the first refusal is answered, or out of memory, the packet is handed back and all stays.
 abbrev pub PutsPacket : Tag → ℕ → Spot Tag → Tag → Packet → Plan → Result Unit (Refusal × Packet) → Plan → Type 0
 PutsPacket g t s p x old (Ok u) new = (put_refusal g t s x old.groups ≡ None) × (new ≡ record { groups = in_packets g t (put_in s (p, x)) old.groups; changes = old.changes + 1 })
 PutsPacket g t s p x old (Err e) new = ((e.0 ≡ OutOfMemory) ⊎ (put_refusal g t s x old.groups ≡ Some e.0)) × (e.1 ≡ x) × (new ≡ old)
@@ -41,7 +41,7 @@ abbrev pub shifted : Tag → ℕ → Tag → Spot Tag → rules.Plan → rules.P
 shifted g t p (After a) plan = done (0, MovePacket g t p a) plan
 shifted g t p (Before n) plan = in_packets g t (moved_before p n) plan
 
--- The packet stands there; or the first refusal is answered, or want of memory, and all stays.
+-- The packet stands there; or the first refusal is answered, or out of memory, and all stays.
 abbrev pub ShiftsPacket : Tag → ℕ → Tag → Spot Tag → Plan → Result (Option Tag) Refusal → Plan → Type 0
 ShiftsPacket g t p s old (Ok was) new = (shift_refusal g t p s old.groups ≡ None) × (new ≡ record { groups = shifted g t p s old.groups; changes = old.changes + 1 })
 ShiftsPacket g t p s old (Err e) new = ((e ≡ OutOfMemory) ⊎ (shift_refusal g t p s old.groups ≡ Some e)) × (new ≡ old)
@@ -50,12 +50,12 @@ ShiftsPacket g t p s old (Err e) new = ((e ≡ OutOfMemory) ⊎ (shift_refusal g
 abbrev pub group_refusal : Spot Tag → Group → rules.Plan → Option Refusal
 group_refusal s ys plan = first_of (when (not (spot_stands s plan)) NoSuchGroup ∷ when (is_some (group_named (identity_of ys) plan)) GroupTwice ∷ [])
 
--- The group stands there under the tag; or the first refusal is answered, or want of memory, the group is handed back and all stays.
+-- The group stands there under the tag; or the first refusal is answered, or out of memory, the group is handed back and all stays.
 abbrev pub PutsGroup : Spot Tag → Tag → Group → Plan → Result Unit (Refusal × Group) → Plan → Type 0
 PutsGroup s g ys old (Ok u) new = (group_refusal s ys old.groups ≡ None) × (new ≡ record { groups = put_in s (g, ys) old.groups; changes = old.changes + 1 })
 PutsGroup s g ys old (Err e) new = ((e.0 ≡ OutOfMemory) ⊎ (group_refusal s ys old.groups ≡ Some e.0)) × (e.1 ≡ ys) × (new ≡ old)
 
--- One more group stands at the end, as the rules read it, and no change is counted; or the first refusal is answered, or want of memory, and all stays.
+-- One more group stands at the end, as the rules read it, and no change is counted; or the first refusal is answered, or out of memory, and all stays.
 abbrev pub Pushes : List (List Bool) → Plan → Result Unit Refusal → Plan → Type 0
 Pushes bs old (Ok u) new = (pushed old.groups bs ≡ Ok new.groups) × (new.changes ≡ old.changes)
 Pushes bs old (Err e) new = ((e ≡ OutOfMemory) ⊎ (pushed old.groups bs ≡ Err e)) × (new ≡ old)

@@ -1,6 +1,6 @@
--- An anchor that stands: what is put in behind it, or moved there, is found and has the anchor's next neighbour.
+-- An anchor that stands: what is put in after it, or moved there, is found and has the anchor's next neighbour.
 -- From the laws of tagged lists.
--- Packets and groups are put in, and packets are moved, behind such an anchor.
+-- Packets and groups are put in, and packets are moved, after such an anchor.
 use Rattle.std.proofs.Common.{◌≡◌, false, List, [], ◌∷◌, Option, Some, None, refl, sym, ap, ◌∙◌}
 use Rattle.balise_rules.specs.declared.tag.Tag.{Tag}
 use Rattle.balise_rules.specs.Tagged.{find, behind, next, same_spot, put, without, move}
@@ -39,7 +39,7 @@ pub anchor-other : {A : Type 0} → (a : Option Tag) → (z : Tag) → (xs : Lis
 anchor-other None z xs s n = refl
 anchor-other (Some t) z xs s n = split_keys tag_test z t (λ e q. absurd (let k = sym s.1 ∙ ap (λ u. find same_tag u xs) (sym q) ∙ n in cc)) (λ e. e)
 
--- what comes behind what was put in is what came behind its anchor
+-- what comes after what was put in is what came after its anchor
 pub behind-put_in : {A : Type 0} → (a : Option Tag) → (z : Tag × A) → (xs : List (Tag × A)) → Stands a xs → find same_tag z.0 xs ≡ None →
     behind same_tag z.0 (put same_tag a z xs) ≡ next same_tag a xs
 behind-put_in None z xs s n = let r = tag_test.itself z.0 in simp r

@@ -131,7 +131,7 @@ pub next-each : {K A : Type 0} → (same : K → K → Bool) → (f : K → A �
 next-each same f None xs = first-each f xs
 next-each same f (Some c) xs = behind-each same f c xs
 
--- what comes behind a key stands in the list
+-- what comes after a key stands in the list
 pub behind_found : {K A : Type 0} → {same : K → K → Bool} → IsTest same → (c q : K) → (xs : List (K × A)) → behind same c xs ≡ Some q → find same q xs ≡ None → ⊥
 behind_found t c q [] h n = cc
 behind_found {same = same} t c q (y ∷ []) h n = split_on (same c y.0) (λ e. let k = simp e at h in cc) (λ e. let k = simp e at h in cc)

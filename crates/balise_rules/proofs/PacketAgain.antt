@@ -1,4 +1,4 @@
--- A packet that is spelt is read again, whatever stands behind it; its number is neither 0 nor 255.
+-- A packet that is spelt is read again, whatever stands after it; its number is neither 0 nor 255.
 -- From reading again what is spelt, and L_PACKET's place.
 use Rattle.std.proofs.Common.{◌≡◌, ℕ, ◌+◌, ◌≤◌, ◌^◌, Bool, true, false, cond, ltb, eqb, ◌||◌, List, [], ◌++◌, length, take, drop, Ok, Err, refl, sym, ap, ◌∙◌, append_assoc, arith, length-append}
 use Rattle.std.proofs.lemmas.Bool.{le-ltb, ltb-true, or_parts}
@@ -12,7 +12,7 @@ use Rattle.balise_rules.proofs.Numbers.{length-bits, num-bits_fit}
 use Rattle.balise_rules.proofs.Spelt.{read_again}
 use Rattle.balise_rules.proofs.PacketRead.{begins, three_spelt, said_is, said_within}
 
--- What the front of a packet's bits tells.
+-- What the front of a packet's bits says.
 pub record Front (b : List Bool) : Type 0 where
   pub least : 23 ≤ length b
   pub number : ℕ
@@ -46,7 +46,7 @@ front_of version p s =
       no_end = n.1;
     }
 
--- L_PACKET of a packet with more bits behind it
+-- L_PACKET of a packet with more bits after it
 pub said_again : (version : ℕ) (p : Packet) (behind : List Bool) → IsSpelt version p → length_said (bits_of p ++ behind) ≡ length (bits_of p)
 said_again version p behind s =
     let b = bits_of p in

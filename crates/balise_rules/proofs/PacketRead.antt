@@ -1,5 +1,5 @@
--- A packet's bits have one spelling, and the packet that is read is spelt by the bits in front of those left behind.
--- From what reading by a form finds; L_PACKET stands 10 bits behind the begin of any packet.
+-- A packet's bits have one spelling, and the packet that is read is spelt by the bits before those that are left.
+-- From what reading by a form finds; L_PACKET stands 10 bits after the begin of any packet.
 use Rattle.std.proofs.Common.{◌≡◌, ℕ, ◌+◌, ◌-◌, ◌^◌, ◌≤◌, Bool, true, false, cond, ltb, ◌||◌, List, [], ◌∷◌, ◌++◌, length, take, drop, Option, Some, None, Ok, Err, refl, sym, ap, subst, ◌∙◌, append_assoc, arith, length-append, eqb}
 use Rattle.std.specs.Prelude.{IsTrue}
 use Rattle.std.proofs.lemmas.Bool.{ltb-false, ltb-true}

@@ -12,7 +12,7 @@ use Rattle.balise_rules.specs.Forms.{Form, done, shut, never, valued, Fields, Ma
 use Rattle.balise_rules.proofs.Numbers.{length-bits, num-bits_fit, bits-num, num_below}
 use Rattle.balise_rules.proofs.Cases.{unsome}
 
--- what reading finds: the fields behind those seen before, and the bits behind them
+-- what reading finds: the fields after those seen before, and the bits after them
 pub record Found (form : Form) (seen : Fields) (b : List Bool) (r : Fields × List Bool) : Type 0 where
   pub fields : Fields
   pub all : r.0 ≡ seen ++ fields
@@ -60,7 +60,7 @@ read_found (valued v next) seen b r e =
       spelt = sym (take-append-drop w b) ∙ ap (λ (x : List Bool). take w b ++ x) more.spelt ∙ ap (λ (x : List Bool). x ++ (spelling more.fields ++ r.1)) (sym own) ∙ sym (spelling-cons f more.fields r.1);
     }
 
--- a value that is written is read, and what stands behind it
+-- a value that is written is read, and what stands after it
 front : (w n : ℕ) (rest : List Bool) → IsTrue (fits w n) → num (take w (bits w n ++ rest)) ≡ n
 front w n rest h = ap num (take_at (bits w n) rest w (length-bits w n)) ∙ num-bits_fit w n (ltb-true n (2 ^ w) h)
 

@@ -92,7 +92,7 @@ pub body_steady : (version n : ℕ) → IsSteady steers (body version n)
 unfolding body
 body_steady version n = steady_if (eqb n 0 || eqb n 255) never _ tt (steady_if (is_known version n) _ done (known_steady n) tt)
 
--- behind the first three fields: the number steers, and so does the length
+-- after the first three fields: the number steers, and so does the length
 pub headed_steady : (next : ℕ → Form) → ((n : ℕ) → IsSteady steers (next n)) → IsSteady steers (valued NidPacket (λ n. plain QDir (plain LPacket (next n))))
 unfolding steers
 headed_steady next s = (λ e. absurd cc, λ n. (λ _ x y. refl, λ _. (λ e. absurd cc, λ _. s n)))

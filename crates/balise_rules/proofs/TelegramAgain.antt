@@ -79,7 +79,7 @@ header_again y b rest m u e =
     let own : take 50 b ≡ spelling y.head ++ [] = ap (take 50) e ∙ take_at (spelling y.head) rest 50 fifty ∙ sym (append-nil (spelling y.head)) in
     (ap (λ (x : List Bool). fields_or_none (read_form header [] x)) own ∙ ap fields_or_none (read_again header [] y.head [] m u), ap (drop 50) e ∙ drop_at (spelling y.head) rest 50 fifty)
 
--- what is shown behind packet 255 is the padding
+-- what is shown after packet 255 is the padding
 pub padding_shown : (y : Telegram) → Matches header y.head [] → drop (used y.packets) (shown y) ≡ drop (used y.packets) y.padding
 padding_shown y m =
     let behind = drop (used y.packets) y.padding in

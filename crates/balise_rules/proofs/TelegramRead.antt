@@ -24,7 +24,7 @@ eight_ones : (b : List Bool) → 8 ≤ length b → num (take 8 b) ≡ 255 → t
 unfolding num
 eight_ones b h e = num_injective (take 8 b) (ones 8) (omega (arith, length-take 8 b)) e
 
--- What reading the packets finds: them, packet 255, and the bits behind it.
+-- What reading the packets finds: them, packet 255, and the bits after it.
 pub record PacketsFound (version n : ℕ) (b : List Bool) (r : List (Tag × Packet) × List Bool) : Type 0 where
   pub tags : TaggedFrom n r.0
   pub packets : All (λ p. IsSpelt version p.1) r.0

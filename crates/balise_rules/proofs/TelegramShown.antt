@@ -31,7 +31,7 @@ least : (n : ℕ) → IsLength n → 50 ≤ n
 least n (inl e) = omega (arith, e)
 least n (inr e) = omega (arith, e)
 
--- the telegram of a header, packets and what stands behind packet 255
+-- the telegram of a header, packets and what stands after packet 255
 made_of : (b : List Bool) → IsLength (length b) → is_balise (read_header b) ≡ true → (r : List (Tag × Packet) × List Bool) → read_packets (length b) (value MVersion 0 (read_header b)) 0 (drop 50 b) ≡ Ok r → IsRead b (record { head = read_header b; packets = r.0; padding = ones (used r.0) ++ r.1 })
 made_of b size balise r e =
     let h = header_found b (least (length b) size) in

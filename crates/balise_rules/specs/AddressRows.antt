@@ -44,7 +44,7 @@ GroupsRefused =
     × IsRefused ((empty ∷ empty ∷ empty ∷ empty ∷ empty ∷ empty ∷ empty ∷ empty ∷ empty ∷ []) ∷ []) GroupSize
     × IsRefused ((empty ∷ empty ∷ empty ∷ empty ∷ empty ∷ empty ∷ empty ∷ empty ∷ []) ∷ []) HeaderDisagrees
 
--- A packet 41 of eight bits behind its first three fields is none in version 33, and is kept bit for bit in version 16. A packet 27 has NC_CDDIFF where Q_DIFF is 0, and NC_DIFF where it is 1 or 2.
+-- A packet 41 of eight bits after its first three fields is none in version 33, and is kept bit for bit in version 16. A packet 27 has NC_CDDIFF where Q_DIFF is 0, and NC_DIFF where it is 1 or 2.
 abbrev pub VersionsTold : Type 0
 VersionsTold =
     Gives (alone empty) (insert 0 (codes "29403e0a") ∷ []) (Refused LayoutMismatch ∷ []) (alone empty)

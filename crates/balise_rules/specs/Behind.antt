@@ -31,11 +31,11 @@ abbrev pub behind_path : Option Path → Path
 behind_path None = []
 behind_path (Some p) = p ++ After ∷ []
 
--- the places that f changes, but for the side behind what e puts in
+-- the places that f changes, but for the side after what e puts in
 abbrev pub changes_but : Item → Entry → List Path
 changes_but e f = filter (λ p. not (same_path p (behind_path (put_in e)))) (changes f)
 
--- a later f is anchored on what e puts in, and is apart from e but for the side behind that
+-- a later f is anchored on what e puts in, and is apart from e but for the side after that
 abbrev pub stands_behind : Entry → Entry → Bool
 stands_behind e f =
     one_path (put_in e.0) (anchored_on f.0)
@@ -59,15 +59,15 @@ anchored a e = e
 abbrev pub re_anchored : Item → Item → Item
 re_anchored e f = (f.0, anchored (anchor_of e.1) f.1)
 
--- a later entry f is independent of e: it is apart from e, or stands behind it
+-- a later entry f is independent of e: it is apart from e, or stands after it
 abbrev pub independent : Entry → Entry → Bool
 independent e f = apart e f || stands_behind e f
 
--- what a later edit becomes where e is struck: itself, where it is apart from e; with the anchor of e, where it stands behind e
+-- what a later edit becomes where e is struck: itself, where it is apart from e; with the anchor of e, where it stands after e
 abbrev pub becomes : Entry → Entry → Option Item
 becomes e f = cond (apart e f) (Some f.0) (cond (stands_behind e f) (Some (re_anchored e.0 f.0)) None)
 
--- the serials of the entries that aren't apart from e; where all are independent of e, these stand behind it
+-- the serials of the entries that aren't apart from e; where all are independent of e, these stand after it
 abbrev pub serials_behind : Entry → List Entry → List ℕ
 serials_behind e fs = map (λ (f : Entry). f.0.0) (filter (λ (f : Entry). not (apart e f)) fs)
 

@@ -47,7 +47,7 @@ first_bits n (Err r) = Err r
 first_bits n (Ok b) =
     if length b == n + fill n then (if all_zero (drop n b) then Ok (take n b) else Err SpareBits) else Err BadLength
 
--- a text of n bits, or the first fault: a bad digit or an odd number of them, another length, a bit behind the last that isn't zero
+-- a text of n bits, or the first fault: a bad digit or an odd number of them, another length, a bit after the last that isn't zero
 abbrev pub read_hex : ℕ → List ℕ → Result (List Bool) Refusal
 read_hex n text = first_bits n (read_digits text)
 

@@ -9,7 +9,7 @@ use Rattle.balise_rules.specs.Tags.{Key, is_of}
 abbrev pub Fields : Type 0
 Fields = List (Key × ℕ)
 
--- the end, with any bits behind it, or with none; what is never right; or a variable, whose value tells what follows
+-- the end, with any bits after it, or with none; what is never right; or a variable, whose value tells what follows
 pub data Form : Type 0 where
   done : Form
   shut : Form
@@ -25,7 +25,7 @@ abbrev pub repeat : ℕ → (Form → Form) → Form → Form
 repeat zero part rest = rest
 repeat (suc n) part rest = part (repeat n part rest)
 
--- the fields are of this form, each value in its width, and the bits behind them may stand there
+-- the fields are of this form, each value in its width, and the bits after them may stand there
 abbrev pub Matches : Form → Fields → List Bool → Type 0
 Matches done [] rest = Unit {0}
 Matches shut [] rest = rest ≡ []
@@ -53,7 +53,7 @@ unfoldable pub spelling : Fields → List Bool
 spelling [] = []
 spelling (f ∷ fs) = bits (width_of f.0.0) f.1 ++ spelling fs
 
--- the fields of a form at the front of the bits, after those seen before, and the bits behind them; none where the bits aren't of the form
+-- the fields of a form at the front of the bits, after those seen before, and the bits after them; none where the bits aren't of the form
 unfoldable pub read_form : Form → Fields → List Bool → Option (Fields × List Bool)
 read_form done seen b = Some (seen, b)
 read_form shut seen [] = Some (seen, [])

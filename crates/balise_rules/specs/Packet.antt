@@ -42,7 +42,7 @@ pub record Spells (version : ℕ) (b : List Bool) (p : Packet) : Type 0 where
 abbrev pub IsSpelt : ℕ → Packet → Type 0
 IsSpelt version p = Spells version (bits_of p) p
 
--- what L_PACKET says, 10 bits behind a packet's begin
+-- what L_PACKET says, 10 bits after a packet's begin
 abbrev pub length_said : List Bool → ℕ
 length_said b = num (take 13 (drop 10 b))
 
@@ -54,7 +54,7 @@ abbrev pub read_packet : List Bool → Option (Fields × List Bool) → Result (
 read_packet behind None = Err LayoutMismatch
 read_packet behind (Some r) = Ok (record { fields = r.0; rest = r.1 }, behind)
 
--- the packet at the front of the bits, which has no number 0 or 255, and the bits behind it, or the first fault
+-- the packet at the front of the bits, which has no number 0 or 255, and the bits after it, or the first fault
 unfoldable pub read_body : ℕ → List Bool → Result (Packet × List Bool) Refusal
 read_body version b =
     if is_cut b then Err PacketCut

@@ -9,7 +9,7 @@ use Rattle.balise_rules.specs.Tags.{same_tag, same_var, same_id}
 use Rattle.balise_rules.specs.Edits.{Edit, Item, SetVar, SetHead, InsertPacket, DeletePacket, MovePacket, AddGroup, DropGroup, Renumber, TurnGroup}
 use Rattle.balise_rules.specs.Notes.{Note}
 
--- a part of a place: a group's or packet's tag; a telegram's, or an occurrence; a variable; the start and the end of a list; the sides behind and in front; a group's orientation and number; a header; an identity
+-- a part of a place: a group's or packet's tag; a telegram's, or an occurrence; a variable; the start and the end of a list; the sides after and in front; a group's orientation and number; a header; an identity
 pub data Part : Type 0 where
   At : Tag → Part
   Nth : ℕ → Part

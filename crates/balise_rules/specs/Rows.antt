@@ -44,7 +44,7 @@ InsertedAndUndone =
     Gives (alone empty) (insert 0 (codes "42403e0a") ∷ []) (Done 1 ∷ []) (alone revoking)
     × Gives (alone empty) (insert 0 (codes "42403e0a") ∷ Undo ∷ []) (Done 1 ∷ Undone 1 ∷ []) (alone empty)
 
--- Bits behind the last of a text, and a text that is too short.
+-- Bits after the last of a text, and a text that is too short.
 abbrev pub SpareRefused : Type 0
 SpareRefused = IsRefused (alone (codes "a1007f80a0327f" ++ (padded 19 ++ codes "c1"))) SpareBits × IsRefused (alone (codes "a1007f80a0327f" ++ padded 19)) BadLength
 

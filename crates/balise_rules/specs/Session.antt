@@ -35,12 +35,12 @@ abbrev pub entries : Plan → List Item → List Entry
 entries plan [] = []
 entries plan (e ∷ es) = (e, noted e.1 plan) ∷ entries (done e plan) es
 
--- An edit that was undone or struck, and the serials of the later edits that stood behind it: they stand on its own anchor meanwhile.
+-- An edit that was undone or struck, and the serials of the later edits that stood after it: they stand on its own anchor meanwhile.
 pub record Removed : Type 0 where
   pub item : Item
   pub behind : List ℕ
 
--- an edit behind which none stands
+-- an edit after which none stands
 abbrev pub lone : Item → Removed
 lone e = record { item = e; behind = [] }
 
@@ -108,7 +108,7 @@ abbrev pub answer_undo : State → Option Item → Reply × State
 answer_undo s None = (Refused NothingToUndo, s)
 answer_undo s (Some e) = (Undone e.0, taken_out s (others e.0 s.standing) (lone e))
 
--- the standing edits with one put back at its own place; those that stood behind it are anchored on what it puts in, as before
+-- the standing edits with one put back at its own place; those that stood after it are anchored on what it puts in, as before
 abbrev pub put_back : Removed → List Item → List Item
 put_back r es = put_by_serial r.item (hung (Some (Fresh r.item.0)) r.behind es)
 
@@ -116,7 +116,7 @@ abbrev pub answer_redo : State → List Removed → Reply × State
 answer_redo s [] = (Refused NothingToRedo, s)
 answer_redo s (r ∷ rs) = (Redone r.item.0, record { base = s.base; standing = put_back r s.standing; stack = rs; serial = s.serial; count = suc s.count })
 
--- the entries behind that of a serial
+-- the entries after that of a serial
 abbrev pub later : ℕ → List Entry → List Entry
 later serial [] = []
 later serial (e ∷ es) = cond (eqb serial e.0.0) es (later serial es)
@@ -126,11 +126,11 @@ abbrev pub first_dependent : Entry → List Entry → Option ℕ
 first_dependent e [] = None
 first_dependent e (f ∷ fs) = cond (independent e f) (first_dependent e fs) (Some f.0.0)
 
--- the state where e was struck, and these serials stood behind it
+-- the state where e was struck, and these serials stood after it
 abbrev pub struck_out : State → Item → List ℕ → State
 struck_out s e behind = taken_out s (hung (anchor_of e.1) behind (others e.0 s.standing)) (record { item = e; behind = behind })
 
--- a strike of e, which has these entries behind it, of which this is the first that depends on it
+-- a strike of e, which has these entries after it, of which this is the first that depends on it
 abbrev pub answer_dependent : State → Entry → List Entry → Option ℕ → Reply × State
 answer_dependent s e fs (Some serial) = (Refused (DependsOn serial), s)
 answer_dependent s e fs None = (Struck e.0.0, struck_out s e.0 (serials_behind e fs))
@@ -164,14 +164,14 @@ abbrev pub top : List Removed → Option Item
 top [] = None
 top (r ∷ rs) = Some r.item
 
--- whether a command may be refused for want of memory
+-- whether a command may be refused as out of memory
 abbrev pub takes_memory : Call → State → Bool
 takes_memory (Ask c) s = true
 takes_memory Undo s = not (needs_no_memory (last s.standing))
 takes_memory Redo s = not (needs_no_memory (top s.stack))
 takes_memory (Strike serial) s = not (needs_no_memory (find (λ e. eqb serial e.0) s.standing))
 
--- A command's reply and the state after it: want of memory, where it may be met, leaves the state as it was.
+-- A command's reply and the state after it: out of memory, where it is possible, leaves the state as it was.
 abbrev pub Answers : Call → State → Reply → State → Type 0
 Answers c s r s' = (◌≡◌ {A = Reply × State} (r, s') (answer c s)) ⊎ (IsTrue (takes_memory c s) × (r ≡ Refused OutOfMemory) × (s' ≡ s))
 

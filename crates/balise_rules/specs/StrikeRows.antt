@@ -1,4 +1,4 @@
--- Worked rows of strikes under later edits that stand behind what was struck.
+-- Worked rows of strikes under later edits that stand after what was struck.
 use Rattle.std.specs.Prelude.{[], ◌∷◌, ◌++◌, codes}
 use Rattle.balise_rules.specs.Session.{Strike, Redo, Done, Redone, Struck}
 use Rattle.balise_rules.specs.Examples.{Text, padded, alone, empty, revoking, linking_100, linking_twice}

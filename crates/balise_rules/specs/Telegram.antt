@@ -62,7 +62,7 @@ pub record IsRead (b : List Bool) (y : Telegram) : Type 0 where
   pub shows : shown y ≡ b
   pub padding : y.padding ≡ ones (used y.packets) ++ drop (used y.packets) b
 
--- a packet read, and those that are read from the bits behind it
+-- a packet read, and those that are read from the bits after it
 abbrev pub with_more : Tag → Packet → Result (List (Tag × Packet) × List Bool) Refusal → Result (List (Tag × Packet) × List Bool) Refusal
 with_more t p (Err r) = Err r
 with_more t p (Ok more) = Ok ((t, p) ∷ more.0, more.1)
@@ -71,7 +71,7 @@ abbrev pub and_more : Tag → Result (Packet × List Bool) Refusal → (List Boo
 and_more t (Err r) rest = Err r
 and_more t (Ok p) rest = with_more t p.0 (rest p.1)
 
--- the packets up to packet 255 and the bits behind it, or the first fault; the tags count on from n, and no more than `most` packets are looked at
+-- the packets up to packet 255 and the bits after it, or the first fault; the tags count on from n, and no more than `most` packets are looked at
 unfoldable pub read_packets : ℕ → ℕ → ℕ → List Bool → Result (List (Tag × Packet) × List Bool) Refusal
 read_packets zero version n b = Err NoEnd
 read_packets (suc most) version n b =

@@ -1,5 +1,5 @@
--- Striking under later neighbours, on the plan: an edit behind what another put in commutes with it, on the other's own anchor.
--- Proves it for an insertion and a move behind an inserted packet, and for a group behind an added one.
+-- Striking under later neighbours, on the plan: an edit after what another put in commutes with it, on the other's own anchor.
+-- Proves it for an insertion and a move after an inserted packet, and for a group after an added one.
 -- From the same on lists, the room that both need, and the identities of the two groups.
 use Rattle.std.proofs.Common.{◌≡◌, ℕ, ◌+◌, ◌≤◌, Bool, false, cond, ◌&&◌, eqb, List, [], ◌∷◌, ◌++◌, length, Option, Some, None, refl, sym, ap, subst, ◌∙◌, arith}
 use Rattle.std.specs.Option.{option_map}
@@ -69,7 +69,7 @@ packets-same g t a b c d plan h g2 t2 y q = split_on (same_tag g g2 && eqb t t2)
     (λ e. simp e (h y (place_is g g2 t t2 plan e ∙ q)))
     (λ e. simp e)
 
--- an insertion behind an inserted packet
+-- an insertion after an inserted packet
 module _ (s0 : ℕ) (g : Tag) (t : ℕ) (a : Option Tag) (x : Packet) (s1 : ℕ) (plan : Plan) (s : Facts plan) (u0 : Unused s0 plan) (u1 : Unused s1 plan) (ae : Accepted (InsertPacket g t a x) plan) where
   abbrev e0 : Item
   e0 = (s0, InsertPacket g t a x)
@@ -145,7 +145,7 @@ module _ (s0 : ℕ) (g : Tag) (t : ℕ) (a : Option Tag) (x : Packet) (s1 : ℕ)
           moves-behind a (Fresh s0, x) p (length y.padding) y.packets (s.heads g t y q).1 (new-here y q) n k.0 k.1
           (subst (λ c. Accepts (Move p (Some (Fresh s0))) (changed same_tag c y.packets)) (at-home g t (Put a (Fresh s0, x))) f)
 
--- two groups, the second behind the first
+-- two groups, the second after the first
 pub add-behind : (s0 : ℕ) → (a : Option Tag) → (bs : List (List Bool)) → (s1 : ℕ) → (cs : List (List Bool)) → (plan : Plan) → Facts plan → Unused s0 plan →
     Unused s1 plan →
     ((pl : Path) → In pl (changes ((s0, AddGroup a bs), noted (AddGroup a bs) plan) ++ needs ((s0, AddGroup a bs), noted (AddGroup a bs) plan)) → meet (Whose (identity_of (group_of cs)) ∷ []) pl ≡ false) →

@@ -1,4 +1,4 @@
--- An edit and a later one exchanged: the later one first, as it is where they are independent, or anchored as the first where it stands behind it.
+-- An edit and a later one exchanged: the later one first, as it is where they are independent, or anchored as the first where it stands after it.
 -- Proves that both are then accepted, note what they noted and make the same plan, and that packets to be put in are spelt there too.
 -- From the commuting law and the law of later neighbours, and from what an accepted edit keeps.
 use Rattle.std.proofs.Common.{◌≡◌, true, Option, Some, refl, subst}

@@ -1,4 +1,4 @@
--- An edit that later ones are independent of, or stand behind, moves past them to the end.
+-- An edit that later ones are independent of, or stand after, moves past them to the end.
 -- Proves, by induction over the later edits, that what they become is accepted without it and notes the same, and that it is accepted at the end, with its note, and gives the same plan.
 -- From exchanging it with the next one, and from what an accepted edit keeps.
 use Rattle.std.proofs.Common.{◌≡◌, ◌≢◌, ℕ, All, List, [], ◌∷◌, refl, sym, ap, subst, ◌∙◌}

@@ -1,5 +1,5 @@
--- Striking under later neighbours, in a list: what stands behind what was put in can stand behind its anchor instead.
--- Proves that putting, or moving, an item behind one that was put in gives what putting it behind the anchor first gives.
+-- Striking under later neighbours, in a list: what stands after what was put in can stand after its anchor instead.
+-- Proves that putting, or moving, an item after one that was put in gives what putting it after the anchor first gives.
 -- From the laws of tagged lists; what was put in was new.
 use Rattle.std.proofs.Common.{◌≡◌, ℕ, ◌+◌, ◌≤◌, false, List, [], ◌∷◌, Option, Some, None, refl, sym, ap, ◌∙◌, arith}
 use Rattle.balise_rules.specs.declared.tag.Tag.{Tag}
@@ -15,7 +15,7 @@ use Rattle.balise_rules.proofs.Anchors.{behind-put_in, stands-move, anchor-other
 use Rattle.balise_strike_laws.proofs.Neighbours.{Accepts}
 use Rattle.balise_strike_laws.proofs.Rooms.{used-move}
 
--- behind what was put in, and behind its anchor
+-- after what was put in, and after its anchor
 put_behind-put_in : {A : Type 0} → (a : Tag) → (z w : Tag × A) → same_tag z.0 a ≡ false → (xs : List (Tag × A)) → find same_tag z.0 xs ≡ None →
     put_behind same_tag z.0 w (put_behind same_tag a z xs) ≡ put_behind same_tag a z (put_behind same_tag a w xs)
 put_behind-put_in a z w n [] h = refl
@@ -30,7 +30,7 @@ pub put-put_in : {A : Type 0} → (a : Option Tag) → (z w : Tag × A) → same
 put-put_in None z w n xs h = let s = tag_test.itself z.0 in simp s
 put-put_in (Some a) z w n xs h = put_behind-put_in a z w n xs h
 
--- a move to behind what was put in
+-- a move to after what was put in
 pub move-put_in : {A : Type 0} → (a : Option Tag) → (z : Tag × A) → (p : Tag) → same_spot same_tag (Some z.0) a ≡ false → same_tag p z.0 ≡ false →
     same_spot same_tag (Some p) a ≡ false → (xs : List (Tag × A)) → find same_tag z.0 xs ≡ None →
     move same_tag p (Some z.0) (put same_tag a z xs) ≡ put same_tag a z (move same_tag p a xs)
@@ -40,7 +40,7 @@ move-put_in a z p n np na xs h = found (find same_tag p xs)
     simp (e, g) (ap (put same_tag (Some z.0) (p, x)) (without-put tag_test p a z np na xs)
     ∙ put-put_in a z (p, x) n (without same_tag p xs) (find-without tag_test z.0 p (flip_no tag_test p z.0 np) xs ∙ h)))
 
--- What a move to behind what was put in asks, notes and makes is what a move to its anchor does.
+-- What a move to after what was put in asks, notes and makes is what a move to its anchor does.
 pub record MovesBehind (a : Option Tag) (z : Tag × Packet) (p : Tag) (room : ℕ) (xs : List (Tag × Packet)) : Type 0 where
   pub accepted : Accepts (Move p a) xs
   pub neighbour : behind same_tag p xs ≡ behind same_tag p (put same_tag a z xs)

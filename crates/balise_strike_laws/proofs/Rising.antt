@@ -1,5 +1,5 @@
 -- Serials that rise.
--- Proves that they rise among fewer edits and with other anchors, that they rise where they lie between two numbers, and what one more behind them keeps.
+-- Proves that they rise among fewer edits and with other anchors, that they rise where they lie between two numbers, and what one more after them keeps.
 use Rattle.std.proofs.Common.{◌≡◌, ◌≢◌, ◌<◌, ◌≤◌, ℕ, suc, All, Bool, true, false, not, cond, eqb, nat_lt, List, [], ◌∷◌, ◌++◌, Option, arith}
 use Rattle.std.specs.Prelude.{find, is_some}
 use Rattle.std.proofs.lemmas.List.Elements.{All-nil, All-cons, All-head, All-tail}
@@ -83,7 +83,7 @@ pub between-back : (l n : ℕ) → (rs : List Removed) → (es : List Item) → 
 between-back l n [] es b = b
 between-back l n (r ∷ rs) es b = between-hung l n _ r.behind es (between-put l n r.item _ (between-back l n rs _ b))
 
--- with the next serial behind them
+-- with the next serial after them
 pub between-next : (l n : ℕ) → (x : Item) → x.0 ≡ n → l < n → (es : List Item) → Between l n es → Between l (suc n) (es ++ x ∷ [])
 between-next l n x q h [] b = (omega arith, omega arith, tt)
 between-next l n x q h (e ∷ es) b = (b.0, let k = b.1 in omega arith, between-next e.0 n x q b.1 es b.2)

@@ -35,7 +35,7 @@ all-middle P (b ∷ bs) e after a = all-middle P bs e after (All-tail P b (bs ++
 other-no : (s : ℕ) → (f : Item) → Other s f → eqb s f.0 ≡ false
 other-no s f n = split_on (eqb s f.0) (λ e. absurd (n (sym (eqb-true s f.0 e)))) (λ e. e)
 
--- the entries behind that of a serial
+-- the entries after that of a serial
 pub later-there : (base : Plan) → (before : List Item) → (e : Item) → (after : List Item) → AllUnused base (before ++ e ∷ after) → (plan : Plan) →
     later e.0 (entries plan (before ++ e ∷ after)) ≡ entries (done e (made plan before)) after
 later-there base [] e after u plan = let s = nat_test.itself e.0 in simp s
@@ -172,7 +172,7 @@ before-none e base [] after plan u = All-nil (λ f. among f.0 (serials_behind e 
 before-none e base (b ∷ bs) after plan u =
     All-cons (λ f. among f.0 (serials_behind e (entries plan after)) ≡ false) b bs (not-among e b.0 plan after (all-after (Other b.0) bs e.0 after u.1)) (before-none e base bs after plan u.2)
 
--- what stands behind e has what it put in as its anchor
+-- what stands after e has what it put in as its anchor
 packet_back : (g : Tag) → (t : ℕ) → (g1 : Tag) → (t1 : ℕ) → (z b : Tag) → (same_tag g g1 && (eqb t t1 && (same_tag z b && true))) ≡ true → b ≡ z
 packet_back g t g1 t1 z b h = sym (tag_test.one z b (parts4 (same_tag g g1) (eqb t t1) (same_tag z b) true h).2)
 
@@ -284,7 +284,7 @@ pub no-more : (l : List Item) → l ++ [] ≡ l
 no-more [] = refl
 no-more (f ∷ fs) = ap (λ l. f ∷ l) (no-more fs)
 
--- nothing stands behind the last edit
+-- nothing stands after the last edit
 undone-here : (base : Plan) → (before : List Item) → (e : Item) → Standing base (before ++ e ∷ []) →
     StruckHere base (before ++ e ∷ []) (e, noted e.1 (made base (others e.0 (before ++ e ∷ [])))) [] (others e.0 (before ++ e ∷ []))
 undone-here base before e s =

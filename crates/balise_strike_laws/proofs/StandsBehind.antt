@@ -31,7 +31,7 @@ in-filter test x [] n h = elim h [ ]
 in-filter test x (y ∷ ys) n (first_of) = simp n first_of
 in-filter test x (y ∷ ys) n (later_of h) = split_on (test y) (λ e. simp e (later_of (in-filter test x ys n h))) (λ e. simp e (in-filter test x ys n h))
 
--- no place that e changes meets one that f changes or needs, but for the side behind what e puts in; nor does one that e needs meet one that f changes
+-- no place that e changes meets one that f changes or needs, but for the side after what e puts in; nor does one that e needs meet one that f changes
 pub record ApartBut (e f : Entry) : Type 0 where
   pub changed : {p q : Path} → In p (changes e) → In q (changes_but e.0 f ++ needs f) → meet p q ≡ false
   pub needed : {p q : Path} → In p (needs e) → In q (changes_but e.0 f) → meet p q ≡ false
@@ -87,7 +87,7 @@ insert-move s0 g t a x s1 p plan h far =
     other_packet : Accepted (MovePacket g t p (Some (Fresh s0))) (done (s0, InsertPacket g t a x) plan) → same_tag p (Fresh s0) ≡ false
     other_packet k = other_in (telegram_at g t (done (s0, InsertPacket g t a x) plan)) k.1
 
--- a group behind an added one
+-- a group after an added one
 module _ (s0 : ℕ) (a : Option Tag) (bs : List (List Bool)) (s1 : ℕ) (cs : List (List Bool)) (plan : Plan) where
   abbrev e1 : Entry
   e1 = ((s0, AddGroup a bs), noted (AddGroup a bs) plan)
@@ -113,7 +113,7 @@ module _ (s0 : ℕ) (a : Option Tag) (bs : List (List Bool)) (s1 : ℕ) (cs : Li
   not_anchor None = refl
   not_anchor (Some b) = refl
 
-  -- the places that the second group changes behind the first one's anchor
+  -- the places that the second group changes after the first one's anchor
   clear_changes : ApartBut e1 f1 → (pl : Path) → In pl ((At (Fresh s1) ∷ []) ∷ (anchor a ∷ After ∷ []) ∷ (Whose own1 ∷ []) ∷ []) → meet (Whose own0 ∷ []) pl ≡ false
   clear_changes w pl (first_of) = refl
   clear_changes w pl (later_of (first_of)) = not_anchor a

@@ -1,5 +1,5 @@
 -- A strike is one change, and so is the way back.
--- Proves what standing edits are without one that no later edit depends on, but by standing behind it: the others stand, taking it back gives what they make, and doing it again at the end gives what all make.
+-- Proves what standing edits are without one that no later edit depends on, but by standing after it: the others stand, taking it back gives what they make, and doing it again at the end gives what all make.
 -- From moving it past the later edits, and from what an accepted edit keeps.
 use Rattle.std.proofs.Common.{◌≡◌, ℕ, All, List, [], ◌∷◌, ◌++◌, refl, sym, ap, subst, ◌∙◌}
 use Rattle.std.proofs.lemmas.List.Elements.{All-cons, All-head, All-tail}

@@ -35,7 +35,7 @@ out_struck base items m e st ri f d =
       was = record { standing = st; rising = ri; note = e.1; found = found-there base items m e f; independent = d; behind = refl; left_is = refl };
     }
 
--- the last edit is found under its serial, and none stands behind it
+-- the last edit is found under its serial, and none stands after it
 last-at : (base : Plan) → (before : List Item) → (e : Item) → Standing base (before ++ e ∷ []) → Rising (before ++ e ∷ []) → WasStruck base (before ++ e ∷ []) (lone e) (others e.0 (before ++ e ∷ []))
 last-at base before e st ri =
     let l : later e.0 (entries base (before ++ e ∷ [])) ≡ [] = later-there base before e [] st.unused base in

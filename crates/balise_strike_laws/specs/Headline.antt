@@ -28,7 +28,7 @@ StrikesRedone s = (m n : ℕ) → (t : State) → ◌≡◌ {A = Answer} (answer
 abbrev pub RedosStruck : State → Type 0
 RedosStruck s = (n : ℕ) → (t : State) → ◌≡◌ {A = Answer} (answer Redo s) (Redone n, t) → TakesBack (Strike n) (Struck n) s t
 
--- The first of the entries behind e that isn't independent of it, by its serial.
+-- The first of the entries after e that isn't independent of it, by its serial.
 pub record FirstDependent (e : Entry) (fs : List Entry) (n : ℕ) : Type 0 where
   pub before : List Entry
   pub dependent : Entry
@@ -69,6 +69,6 @@ pub record Promised (plan : Plan) (s : State) : Type 0 where
 abbrev pub SessionsPromised : Type 0
 SessionsPromised = (s : State) → IsSession s → Promised s.base s
 
--- For every sound plan that no serial tags and every list of commands, want of memory at any of them included.
+-- For every sound plan that no serial tags and every list of commands, out of memory at any of them included.
 abbrev pub Headline : Type 0
 Headline = (plan : Plan) → IsSound plan → Untagged plan → (cs : List Call) → (rs : List Reply) → (s : State) → Leads cs (opened plan) rs s → Promised plan s

@@ -1,4 +1,4 @@
--- The same in the words of a session: the edit of a serial, the entries behind it, the edits of other serials with their anchors, and an edit put back at its own place.
+-- The same in the words of a session: the edit of a serial, the entries after it, the edits of other serials with their anchors, and an edit put back at its own place.
 use Rattle.std.specs.Prelude.{◌≡◌, ◌<◌, ℕ, not, eqb, List, [], ◌∷◌, All, filter, find, Some, None}
 use Rattle.balise_rules.specs.Plan.{Plan}
 use Rattle.balise_rules.specs.Edits.{Item}
@@ -21,7 +21,7 @@ abbrev pub Between : ℕ → ℕ → List Item → Type 0
 Between last next [] = Unit {0}
 Between last next (e ∷ es) = (last < e.0) × (e.0 < next) × Between e.0 next es
 
--- Without the edit of this entry `left` stand and note what those of other serials noted; taken back from what all make it gives what these make; at the end it is ready to be done again, notes what it noted, and gives what all make; serials rise as before; and put back with those that stood behind it, all stand as they did.
+-- Without the edit of this entry `left` stand and note what those of other serials noted; taken back from what all make it gives what these make; at the end it is ready to be done again, notes what it noted, and gives what all make; serials rise as before; and put back with those that stood after it, all stand as they did.
 pub record StruckHere (base : Plan) (items : List Item) (e : Entry) (behind : List ℕ) (left : List Item) : Type 0 where
   pub standing : Standing base left
   pub notes : notes_of (entries base left) ≡ notes_of (filter (λ f. not (eqb f.0.0 e.0.0)) (entries base items))
@@ -42,7 +42,7 @@ StrikingHere = (base : Plan) → (items : List Item) → (serial : ℕ) → (e :
     find (λ f. eqb serial f.0.0) (entries base items) ≡ Some e → first_dependent e (later e.0.0 (entries base items)) ≡ None →
     StruckHere base items e (serials_behind e (later e.0.0 (entries base items))) (left_of e (serials_behind e (later e.0.0 (entries base items))) items)
 
--- An undo is the strike of the last edit, behind which none stands.
+-- An undo is the strike of the last edit, after which none stands.
 abbrev pub UndoingHere : Type 0
 UndoingHere = (base : Plan) → (items : List Item) → (e : Item) → Standing base items → last items ≡ Some e →
     StruckHere base items (e, noted e.1 (made base (others e.0 items))) [] (others e.0 items)

@@ -40,6 +40,6 @@ pub record CommutesBehind (e f : Item) (plan : Plan) : Type 0 where
   pub first_notes : noted e.1 (done (re_anchored e f) plan) ≡ noted e.1 plan
   pub same_plan : done f (done e plan) ≡ done e (done (re_anchored e f) plan)
 
--- An edit that stands behind what another put in commutes with it, on the other's own anchor.
+-- An edit that stands after what another put in commutes with it, on the other's own anchor.
 abbrev pub CommutingBehind : Type 0
 CommutingBehind = (e f : Item) → (plan : Plan) → InTurn e f plan → stands_behind (e, noted e.1 plan) (f, noted f.1 (done e plan)) ≡ true → CommutesBehind e f plan

@@ -8,7 +8,7 @@ use Rattle.balise_rules.specs.Session.{State, Removed, Reply, entries, later, ot
 use Rattle.balise_strike_laws.specs.Striking.{Standing}
 use Rattle.balise_strike_laws.specs.InSession.{Rising, StruckHere}
 
--- The standing edits `left` are what a strike leaves of `all`: with r put back, all later edits are independent of it, and those of these serials stand behind it.
+-- The standing edits `left` are what a strike leaves of `all`: with r put back, all later edits are independent of it, and those of these serials stand after it.
 pub record WasStruck (base : Plan) (all : List Item) (r : Removed) (left : List Item) : Type 0 where
   pub standing : Standing base all
   pub rising : Rising all

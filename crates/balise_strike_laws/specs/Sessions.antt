@@ -47,7 +47,7 @@ pub record IsMade (s : State) : Type 0 where
 abbrev pub PlansMade : Type 0
 PlansMade = (s : State) → IsSession s → IsMade s
 
--- what commands answer, one after another, want of memory at any of them included, and the state that they lead to
+-- what commands answer, one after another, out of memory at any of them included, and the state that they lead to
 abbrev pub Leads : List Call → State → List Reply → State → Type 0
 Leads [] s [] t = t ≡ s
 Leads (c ∷ cs) s (r ∷ rs) t = (u : State) × Answers c s r u × Leads cs u rs t

@@ -1,4 +1,4 @@
--- A plan and three edits for which the premises of the laws hold, with edits that are apart, a pair that isn't, and an edit that stands behind another.
+-- A plan and three edits for which the premises of the laws hold, with edits that are apart, a pair that isn't, and an edit that stands after another.
 use Rattle.std.specs.Prelude.{◌≡◌, false, List, [], ◌∷◌, codes, Some, None, Ok}
 use Rattle.balise_rules.specs.declared.variable.Var.TheVariants.{NidTsr}
 use Rattle.balise_rules.specs.declared.tag.Tag.TheVariants.{Base, Fresh}
@@ -21,15 +21,15 @@ lines = (revoking ∷ []) ∷ []
 abbrev pub set : Item
 set = (1, SetVar (Base 0) 0 (Base 0) NidTsr 0 9)
 
--- a packet put in behind it
+-- a packet put in after it
 abbrev pub insert : Packet → Item
 insert x = (2, InsertPacket (Base 0) 0 (Some (Base 0)) x)
 
--- another put in behind that one
+-- another put in after that one
 abbrev pub insert_behind : Packet → Item
 insert_behind x = (3, InsertPacket (Base 0) 0 (Some (Fresh 2)) x)
 
--- The three stand on the plan; both insertions are independent of the setting; the second isn't apart from the first, but stands behind it, and becomes an insertion behind the packet 66.
+-- The three stand on the plan; both insertions are independent of the setting; the second isn't apart from the first, but stands after it, and becomes an insertion after the packet 66.
 pub record IsExample (plan : Plan) (x : Packet) : Type 0 where
   pub standing : Standing plan (set ∷ insert x ∷ insert_behind x ∷ [])
   pub outlived : first_dependent (set, noted set.1 plan) (entries (done set plan) (insert x ∷ insert_behind x ∷ [])) ≡ None

@@ -19,17 +19,17 @@ pub fn apart_from_both_sides()
     ensures { IsSymmetric }
 {}
 
-/// An edit that stands behind what another put in commutes with it, once it is anchored on the other's own anchor.
+/// An edit that stands after what another put in commutes with it, once it is anchored on the other's own anchor.
 pub fn commute_behind()
     ensures { CommutingBehind }
 {}
 
-/// A strike of an edit of which all later ones are independent is one change: the others, anchored as it was where they stand behind it, stand and note what they noted; taking it back gives what they make, and doing it again gives what all make.
+/// A strike of an edit of which all later ones are independent is one change: the others, anchored as it was where they stand after it, stand and note what they noted; taking it back gives what they make, and doing it again gives what all make.
 pub fn strike_under()
     ensures { StrikingUnder }
 {}
 
-/// The same in the words of a session: the edit of a serial, the entries behind it, the edits of other serials with their anchors, and its own place among them.
+/// The same in the words of a session: the edit of a serial, the entries after it, the edits of other serials with their anchors, and its own place among them.
 pub fn strike_in_session()
     ensures { StrikingHere }
 {}
@@ -44,12 +44,12 @@ pub fn redo_in_session()
     ensures { RedoingHere }
 {}
 
-/// A plan and three edits for which the premises of these laws hold: edits that are apart, a pair that isn't, and one that stands behind another.
+/// A plan and three edits for which the premises of these laws hold: edits that are apart, a pair that isn't, and one that stands after another.
 pub fn witnessed()
     ensures { HasExample }
 {}
 
-/// A session begins as one, and every command leaves one, want of memory included.
+/// A session begins as one, and every command leaves one, out of memory included.
 pub fn sessions_kept()
     ensures begin { SessionsBegin }
     ensures kept { SessionsKept }

@@ -61,7 +61,7 @@ unfolding digits_in
 no_digits [] k = refl
 no_digits (x ∷ r) k = absurd (omega arith)
 
--- nothing is left behind the last
+-- nothing is left after the last
 pub no_byte_left : (b : List Bool) (i : ℕ) → length b ≤ 8 * i → digits_in (drop (8 * i) (padded b)) ≡ []
 no_byte_left b i h =
     let l : length (drop (8 * i) (padded b)) ≡ length b + fill (length b) - 8 * i = length-drop (8 * i) (padded b) ∙ ap (λ (n : ℕ). n - 8 * i) (length-padded b) in

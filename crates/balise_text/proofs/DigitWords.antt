@@ -5,7 +5,7 @@ use Rattle.balise_rules.specs.Digits.{read_hex}
 use Rattle.balise_text.specs.Words.{Word}
 use Rattle.balise_text.specs.DigitWords.{have_digits, bits_due, with_telegram, telegrams_in}
 
--- behind telegrams that were read
+-- after telegrams that were read
 abbrev pub behind : List (List Bool) → Result (List (List Bool)) Refusal → Result (List (List Bool)) Refusal
 behind done (Err r) = Err r
 behind done (Ok bs) = Ok (done ++ bs)

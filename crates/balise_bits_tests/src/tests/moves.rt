@@ -116,7 +116,7 @@ fn the_longest_parts_are_moved(rt: HostRuntime) {
 }
 
 // Lengths about which bits are put in another way: one number, several, bytes.
-const AROUND: &[usize] = &[57, 58, 228, 229, 285, 286];
+const AROUND: &[usize] = &[57, 58, 171, 172, 228, 229];
 
 #[test]
 fn parts_are_put_as_they_are_moved(rt: HostRuntime) {

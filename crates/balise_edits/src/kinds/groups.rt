@@ -71,7 +71,7 @@ fn put_after(plan: &mut Plan, serial: u32, after: Option<Tag>, group: Group) -> 
     }
 }
 
-/// Takes it out again, and is refused for want of memory alone.
+/// Takes it out again, and is refused only as out of memory.
 pub(crate) fn add_back(plan: &mut Plan, entry: &mut Entry) -> Result<(), Refusal>
     requires count { plan.old.changes < 2 ^ 63 }
     requires is { (a : Option Tag) × (bs : List (List Bool)) × (entry.old.0.1 ≡ AddGroup a bs) }
@@ -84,7 +84,7 @@ pub(crate) fn add_back(plan: &mut Plan, entry: &mut Entry) -> Result<(), Refusal
     Ok(())
 }
 
-/// Puts it in again, and is refused for want of memory alone.
+/// Puts it in again, and is refused only as out of memory.
 pub(crate) fn add_again(plan: &mut Plan, entry: &mut Entry) -> Result<(), Refusal>
     requires count { plan.old.changes < 2 ^ 63 }
     requires is { kind_of entry.old.0.1 ≡ OfAddition }
@@ -127,7 +127,7 @@ pub(crate) fn drop_group(alloc: Global, plan: &mut Plan, g: Tag) -> Result<Note,
     }
 }
 
-/// Puts it back in front of its old next neighbour, and is refused for want of memory alone.
+/// Puts it back in front of its old next neighbour, and is refused only as out of memory.
 pub(crate) fn drop_back(plan: &mut Plan, entry: &mut Entry, g: Tag) -> Result<(), Refusal>
     requires count { plan.old.changes < 2 ^ 63 }
     requires is { entry.old.0.1 ≡ DropGroup g }
@@ -147,7 +147,7 @@ pub(crate) fn drop_back(plan: &mut Plan, entry: &mut Entry, g: Tag) -> Result<()
     }
 }
 
-/// Takes it out again, and is refused for want of memory alone.
+/// Takes it out again, and is refused only as out of memory.
 pub(crate) fn drop_again(plan: &mut Plan, entry: &mut Entry, g: Tag) -> Result<(), Refusal>
     requires count { plan.old.changes < 2 ^ 63 }
     requires is { entry.old.0.1 ≡ DropGroup g }

@@ -29,7 +29,7 @@ pub(crate) fn renumber(plan: &mut Plan, g: Tag, number: u32) -> Result<Note, Ref
     }
 }
 
-/// Gives it its old number back, and is refused for want of memory alone.
+/// Gives it its old number back, and is refused only as out of memory.
 pub(crate) fn renumber_back(plan: &mut Plan, entry: &mut Entry, g: Tag) -> Result<(), Refusal>
     requires count { plan.old.changes < 2 ^ 63 }
     requires is { (number : ℕ) × (entry.old.0.1 ≡ Renumber g number) }

@@ -70,7 +70,7 @@ fn put_after(
     }
 }
 
-/// Takes it out again, and is refused for want of memory alone.
+/// Takes it out again, and is refused only as out of memory.
 pub(crate) fn insert_back(plan: &mut Plan, entry: &mut Entry, g: Tag, t: u32) -> Result<(), Refusal>
     requires count { plan.old.changes < 2 ^ 63 }
     requires is { (a : Option Tag) × (x : Packet) × (entry.old.0.1 ≡ InsertPacket g t a x) }
@@ -83,7 +83,7 @@ pub(crate) fn insert_back(plan: &mut Plan, entry: &mut Entry, g: Tag, t: u32) ->
     Ok(())
 }
 
-/// Puts it in again, and is refused for want of memory alone.
+/// Puts it in again, and is refused only as out of memory.
 pub(crate) fn insert_again(plan: &mut Plan, entry: &mut Entry) -> Result<(), Refusal>
     requires count { plan.old.changes < 2 ^ 63 }
     requires is { kind_of entry.old.0.1 ≡ OfInsertion }
@@ -135,7 +135,7 @@ pub(crate) fn delete(
     }
 }
 
-/// Puts it back in front of its old next neighbour, and is refused for want of memory alone.
+/// Puts it back in front of its old next neighbour, and is refused only as out of memory.
 pub(crate) fn delete_back(
     plan: &mut Plan,
     entry: &mut Entry,
@@ -161,7 +161,7 @@ pub(crate) fn delete_back(
     }
 }
 
-/// Takes it out again, and is refused for want of memory alone.
+/// Takes it out again, and is refused only as out of memory.
 pub(crate) fn delete_again(
     plan: &mut Plan,
     entry: &mut Entry,
@@ -202,7 +202,7 @@ pub(crate) fn shift(
     }
 }
 
-/// Moves it back in front of its old next neighbour, and is refused for want of memory alone.
+/// Moves it back in front of its old next neighbour, and is refused only as out of memory.
 pub(crate) fn shift_back(
     plan: &mut Plan,
     entry: &mut Entry,

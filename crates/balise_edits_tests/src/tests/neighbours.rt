@@ -1,4 +1,4 @@
-//! Insertions one behind the other, and what is anchored anew.
+//! Insertions one after the other, and what is anchored anew.
 
 ghost use Rattle.std.specs.Prelude.{◌≤◌, ℕ};
 ghost use Rattle.balise_rules.specs.Accepting.{Unused};
@@ -10,12 +10,12 @@ use balise_edits::{Entry, Plan, Tag, re_anchor};
 use std::alloc::Global;
 use std::process::Abort;
 
-/// A packet put in behind the one that was put in under a serial.
+/// A packet put in after the one that was put in under a serial.
 fn behind(serial: u32) -> Step {
     Step::Insert(FIRST, Some(Tag::Fresh(serial)), TSR_6)
 }
 
-/// Puts three packets in, each behind the one before it.
+/// Puts three packets in, each after the one before it.
 fn insert(rt: &impl Abort, alloc: Global, plan: &mut Plan)
     requires { (n : ℕ) → 1 ≤ n → Unused n plan.old.groups }
 {
@@ -23,7 +23,7 @@ fn insert(rt: &impl Abort, alloc: Global, plan: &mut Plan)
     let first = made(rt, plan, 1, edit);
     let mut second = made(rt, plan, 2, edit_of(rt, alloc, behind(1)));
     let third = made(rt, plan, 3, edit_of(rt, alloc, behind(2)));
-    // Behind the second, so not behind the first.
+    // After the second, and so not after the first.
     check(rt, &first, &third, true, false);
     anchor_anew(rt, &first, &mut second);
 }

@@ -1,4 +1,4 @@
-//! Two edits one after the other: whether the later one is apart from the earlier, or stands behind it.
+//! Two edits one after the other: whether the later one is apart from the earlier, or stands after it.
 
 use crate::tests::doing::{made, read};
 use crate::tests::edits::{
@@ -9,7 +9,7 @@ use balise_edits::{Entry, Tag, Var, apart, independent, laws, stands_behind};
 use std::alloc::Global;
 use std::process::Abort;
 
-// That a later entry is apart from an earlier one, and stands behind it, or not.
+// That a later entry is apart from an earlier one, and stands after it, or not.
 pub(crate) fn check(rt: &impl Abort, entry: &Entry, later: &Entry, is_apart: bool, behind: bool) {
     assert!(rt; apart(entry, later) == is_apart);
     assert!(rt; stands_behind(entry, later) == behind);
@@ -25,7 +25,7 @@ fn pair(rt: &impl Abort, alloc: Global, row: &Row) {
     check(rt, &entry, &next, is_apart, behind);
 }
 
-/// Groups, two edits of their plan, whether the later one is apart from the earlier, and whether it stands behind it.
+/// Groups, two edits of their plan, whether the later one is apart from the earlier, and whether it stands after it.
 type Row = (&'static [&'static str], Step, Step, bool, bool);
 
 fn check_rows(rt: &impl Abort, alloc: Global, rows: &[Row]) {

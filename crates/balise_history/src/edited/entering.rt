@@ -92,7 +92,7 @@ fn comes_next(history: &History, next: u32, serial: u32) -> bool
     history.count_undone() == 0 && last_serial(history.standing()) < serial && serial < next
 }
 
-// Does the edit of a line that may come next behind those that stand. Where it notes something else than the line says,
+// Does the edit of a line that may come next after those that stand. Where it notes something else than the line says,
 // it is done, and the line is refused.
 fn enter(plan: &mut Plan, history: &mut History, next: u32, line: Line) -> Result<(), Refusal>
     requires count { plan.old.changes < 2 ^ 63 }

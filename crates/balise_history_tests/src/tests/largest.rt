@@ -216,7 +216,7 @@ fn added(rt: &impl Abort, alloc: Global, at: u32, number: u32) -> Command {
     Command::AddGroup { at, telegrams }
 }
 
-/// Adds 1,001 groups, each later one behind the second place.
+/// Adds 1,001 groups, each later one after the second place.
 fn add_groups(rt: &impl Abort, alloc: Global, session: &mut Session) {
     for number in 0..1001 {
         let at = if number == 0 { 1 } else { 2 };

@@ -7,7 +7,7 @@ use std::process::Abort;
 
 // Digits, a place among their bits, and the fault there in a telegram of version 2.1.
 const ROWS: [(&str, usize, LayoutFault); 14] = [
-    // No bits, no bits behind the place, and a place past the end.
+    // No bits, no bits after the place, and a place past the end.
     ("", 0, LayoutFault::PacketCut),
     (REVOCATION, 32, LayoutFault::PacketCut),
     (REVOCATION, 4294967295, LayoutFault::PacketCut),

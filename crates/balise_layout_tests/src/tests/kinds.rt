@@ -70,7 +70,7 @@ fn versions_know_their_packets(rt: HostRuntime) {
     }
 }
 
-// What the laws say of this packet: read again with other bits behind it, it is the same, of the length in
+// What the laws say of this packet: read again with other bits after it, it is the same, of the length in
 // L_PACKET and spelt, whatever Q_DIR is.
 fn check_again(rt: &impl Abort, alloc: Global, packet: &mut Packet, version: u32) {
     for dir in 0..4 {

@@ -138,7 +138,7 @@ unfolding read_telegrams
 same_length n [] ys h = ap length (sym (unok h))
 same_length n (b ∷ bs) ys h = same_step n bs ys (λ zs q. same_length (suc n) bs zs q) (read_telegram b) (read_telegrams (suc n) bs) refl h
 
--- one more behind them
+-- one more after them
 last_step : (n : ℕ) (c b : List Bool) (bs : List (List Bool)) (ys : Group) (y : Telegram) → ((zs : Group) → read_telegrams (suc n) bs ≡ Ok zs → read_telegrams (suc n) (bs ++ b ∷ []) ≡ Ok (zs ++ (suc n + length zs, y) ∷ [])) →
     (r : Result Telegram Refusal) (s : Result Group Refusal) → read_telegram c ≡ r → read_telegrams (suc n) bs ≡ s → with_telegrams n r s ≡ Ok ys →
     with_telegrams n (read_telegram c) (read_telegrams (suc n) (bs ++ b ∷ [])) ≡ Ok (ys ++ (n + length ys, y) ∷ [])

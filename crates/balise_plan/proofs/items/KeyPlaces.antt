@@ -1,4 +1,4 @@
--- Places of keys in a tagged list, as a map tells them: what is taken out there, and what stands behind it.
+-- Places of keys in a tagged list, as a map answers them: what is taken out there, and what stands after it.
 use Rattle.std.proofs.Common.{◌≡◌, ℕ, zero, suc, ◌+◌, ◌<◌, Bool, true, false, List, [], ◌∷◌, ◌++◌, Option, Some, None, length, position, insert, option_map, slice_get, get_or, refl, sym, ◌∙◌, ap, arith}
 use Rattle.std.specs.Map.{keys_of, remove_entry}
 use Rattle.std.specs.Option.{IfSome}

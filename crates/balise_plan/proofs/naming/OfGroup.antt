@@ -79,7 +79,7 @@ one r i a false R x h g = other r i a (R && (a && x))
     other true false a y = refl
     other false i a y = refl
 
--- one item and those behind it, of which none has its key
+-- one item and those after it, of which none has its key
 both : (r b p n m : Bool) → (p ≡ true → m ≡ false) → ((r && ((b && p) && n)) || (r && (b && m))) ≡ (r && (b && cond p n m))
 both false b p n m h = refl
 both true false p n m h = refl

@@ -38,7 +38,7 @@ const FULL: &str =
 
 const FIRST: GroupTag = GroupTag::Base(0);
 
-/// Puts a group of eight such telegrams and one of one telegram of 830 bits behind the others.
+/// Puts a group of eight such telegrams and one of one telegram of 830 bits after the others.
 fn push_nine(rt: &impl Abort, alloc: Global, groups: &mut Vec<Vec<Bits>>, text: &str, other: &str) {
     let mut telegrams = Vec::new(alloc);
     push_eight(rt, alloc, &mut telegrams, text);

@@ -69,7 +69,7 @@ fn put_in(
     put_there(rt, plan, spot, tag, group);
 }
 
-/// Puts each of 1,000 groups in behind the first of them.
+/// Puts each of 1,000 groups in after the first of them.
 fn put_each_in(rt: &impl Abort, alloc: Global, plan: &mut Plan) {
     let mut spot = Spot::After(None);
     let mut n: u32 = 0;
@@ -80,7 +80,7 @@ fn put_each_in(rt: &impl Abort, alloc: Global, plan: &mut Plan) {
     }
 }
 
-/// Whether the groups stand in the opposite order, behind the first.
+/// Whether the groups stand in the opposite order, after the first.
 fn is_turned_round(plan: &Plan) -> bool {
     let mut same = true;
     for n in 1..1000 {

@@ -150,7 +150,7 @@ fn is_same(plan: &Plan, other: &Plan) -> bool {
     same
 }
 
-/// That a change was refused for want of memory, and that the plan is as the other.
+/// That a change was refused as out of memory, and that the plan is as the other.
 fn check_refused(rt: &impl Abort, plan: &Plan, other: &Plan, fault: Refusal) {
     assert!(rt; fault == Refusal::OutOfMemory);
     assert!(rt; is_same(plan, other));

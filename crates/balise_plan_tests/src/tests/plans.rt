@@ -27,7 +27,7 @@ pub(crate) fn bits_of(rt: &impl Abort, alloc: Global, digits: &str) -> Bits {
 /// The bits of this one of eight telegrams of 830 bits, which differ in N_PIG alone.
 pub(crate) fn one_of_eight(rt: &impl Abort, alloc: Global, digits: &str, pig: u32) -> Bits {
     let mut bits = bits_of(rt, alloc, digits);
-    // N_PIG, and behind it N_TOTAL of 7, M_DUP of 0 and six bits of M_MCOUNT.
+    // N_PIG, and after it N_TOTAL of 7, M_DUP of 0 and six bits of M_MCOUNT.
     put_number(rt, &mut bits, 9, (pig << 11) | 1855);
     bits
 }
@@ -40,7 +40,7 @@ pub(crate) fn put_number(rt: &impl Abort, bits: &mut Bits, at: usize, number: u3
     bits.put(at, 14, number);
 }
 
-/// Puts the bits of a telegram behind the others.
+/// Puts the bits of a telegram after the others.
 pub(crate) fn push_bits(rt: &impl Abort, telegrams: &mut Vec<Bits>, bits: Bits) {
     telegrams.push(bits).expect(rt, "memory");
 }
@@ -58,12 +58,12 @@ pub(crate) fn telegrams(rt: &impl Abort, alloc: Global, text: &str) -> Vec<Bits>
     telegrams
 }
 
-/// Puts the bits of a group behind the others.
+/// Puts the bits of a group after the others.
 pub(crate) fn push_group(rt: &impl Abort, groups: &mut Vec<Vec<Bits>>, group: Vec<Bits>) {
     groups.push(group).expect(rt, "memory");
 }
 
-/// Puts a group of one telegram behind the others.
+/// Puts a group of one telegram after the others.
 pub(crate) fn push_alone(rt: &impl Abort, alloc: Global, groups: &mut Vec<Vec<Bits>>, bits: Bits) {
     let mut telegrams = Vec::new(alloc);
     push_bits(rt, &mut telegrams, bits);

@@ -19,7 +19,7 @@ use Rattle.balise_history.proofs.edited.EditedPlan.strike.Goals as goal
 pub place_of-place-requires : goal.place_of-place-requires
 place_of-place-requires c = rw c.standing-standing.ensures (rising-standing c.self.inside.plan.groups c.self.inside.history.standing c.self.inside.history.stack c.self.inside.next c.self.invariant)
 
--- nothing stands behind the last place
+-- nothing stands after the last place
 past : (es : List Entry) (n : ℕ) (e : Entry) → length es ≤ n → slice_get es n ≡ Some e → ⊥
 past [] n e l g = cc
 past (x ∷ xs) zero e l g = omega arith

@@ -20,7 +20,7 @@ told c =
     let l = line_in c.args.line in
     ap (λ (x : Entry). same_noted (noted_of x.0.1 x.1) l.noted) (sym c.in-Ok.ensures.1) ∙ ap (λ (m : Noted). same_noted m l.noted) (sym c.noted.ensures) ∙ sym c.same_noted-is_told.ensures
 
--- its entry stands behind the others
+-- its entry stands after the others
 standing : (c : After-push) → c.push.new.self.standing ≡ c.args.history.now.standing ++ c.in-Ok.entry ∷ []
 standing c = c.push.ensures.standing ∙ ap (λ (es : List Entry). es ++ c.in-Ok.entry ∷ []) c.reserve.ensures.standing
 

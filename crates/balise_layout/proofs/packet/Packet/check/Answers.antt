@@ -1,4 +1,4 @@
--- What was found is read, and as long as the place behind it is far.
+-- What was found is read, and as long as the place after it is far.
 use Rattle.std.proofs.Common.{◌-◌}
 use Rattle.balise_rules.specs.Bits.{part}
 use Rattle.balise_layout.specs.Held.{held}

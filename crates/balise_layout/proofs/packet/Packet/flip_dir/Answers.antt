@@ -1,4 +1,4 @@
--- Q_DIR stands behind 8 bits of every packet.
+-- Q_DIR stands after 8 bits of every packet.
 use Rattle.std.proofs.Common.{arith, ◌≡◌, ◌<◌, ◌^◌, ◌-◌, ℕ, refl, sym, ap, ◌∙◌}
 use Rattle.balise_rules.specs.declared.variable.Var.TheVariants.{QDir}
 use Rattle.balise_rules.specs.Variables.{width_of, steers}

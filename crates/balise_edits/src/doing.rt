@@ -53,8 +53,8 @@ pub fn take_back(plan: &mut Plan, entry: &mut Entry) -> Result<(), Refusal>
     }
 }
 
-/// Does an entry's edit again, where it is the next one. The entry is as it was when the edit stood. Refused for want of
-/// memory alone, and then nothing has changed.
+/// Does an entry's edit again, where it is the next one. The entry is as it was when the edit stood. Refused only as out
+/// of memory, and then nothing has changed.
 pub fn again(plan: &mut Plan, entry: &mut Entry) -> Result<(), Refusal>
     requires count { plan.old.changes < 2 ^ 63 }
     requires next { IsNext entry.old plan.old.groups }
@@ -72,6 +72,7 @@ pub fn again(plan: &mut Plan, entry: &mut Entry) -> Result<(), Refusal>
 }
 
 // Does an edit, and answers what it notes.
+#[inline(always)]
 fn noted(plan: &mut Plan, edit: &Edit, serial: u32) -> Result<Note, Refusal>
     requires count { plan.old.changes < 2 ^ 63 }
     requires new { Unused serial plan.old.groups }

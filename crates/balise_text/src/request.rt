@@ -29,18 +29,21 @@ pub enum Request {
     Strike(u32),
 }
 
+#[inline(always)]
 fn read_undo(words: Parts) -> Option<Request>
     ensures { option_map call result ≡ no_more (left words.entry) session.Undo }
 {
     words.end_with(Request::Undo)
 }
 
+#[inline(always)]
 fn read_redo(words: Parts) -> Option<Request>
     ensures { option_map call result ≡ no_more (left words.entry) session.Redo }
 {
     words.end_with(Request::Redo)
 }
 
+#[inline(always)]
 fn read_strike(words: Parts) -> Option<Request>
     ensures { option_map call result ≡ strike_words (left words.entry) }
 {
@@ -49,6 +52,7 @@ fn read_strike(words: Parts) -> Option<Request>
 }
 
 /// What a name and the words after it ask for, where it is the name of a command that is no edit.
+#[inline(always)]
 pub(crate) fn read_other(name: &[u8], words: Parts) -> Option<Option<Request>>
     ensures { MatchOption result (named_words name.now (left words.entry) ≡ option_map (read_as session.Ask) (command_words (kind_of name.now) (left words.entry))) (λ request. option_map Ok (option_map call request) ≡ named_words name.now (left words.entry)) }
 {

@@ -50,6 +50,7 @@ impl<'a> Parts<'a> {
     }
 
     /// This value, where no part comes any more.
+    #[inline(always)]
     pub(crate) fn end_with<T: Drop>(self, value: T) -> Option<T>
         ensures { result ≡ no_more (left self.entry) value }
     {

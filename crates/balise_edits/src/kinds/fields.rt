@@ -16,6 +16,7 @@ use balise_plan::Plan;
 use balise_rules::{Refusal, Tag, Var};
 
 /// Sets a field of a packet, and answers what that notes.
+#[inline]
 pub(crate) fn set_var(
     plan: &mut Plan,
     g: Tag,
@@ -63,6 +64,7 @@ pub(crate) fn set_var_back(
 }
 
 /// Sets a field of a header, and answers what that notes. Takes no memory.
+#[inline]
 pub(crate) fn set_head(
     plan: &mut Plan,
     g: Tag,

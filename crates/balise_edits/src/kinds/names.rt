@@ -13,6 +13,7 @@ use balise_plan::Plan;
 use balise_rules::{Refusal, Tag};
 
 /// Gives a group another number, and answers what that notes.
+#[inline]
 pub(crate) fn renumber(plan: &mut Plan, g: Tag, number: u32) -> Result<Note, Refusal>
     requires count { plan.old.changes < 2 ^ 63 }
     ensures does { Does (Renumber g number) plan.old result plan.new }

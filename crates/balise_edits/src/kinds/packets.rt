@@ -184,6 +184,7 @@ pub(crate) fn delete_again(
 }
 
 /// Moves a packet to after an anchor, and answers what that notes.
+#[inline]
 pub(crate) fn shift(
     plan: &mut Plan,
     g: Tag,

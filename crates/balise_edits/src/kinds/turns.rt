@@ -13,6 +13,7 @@ use balise_plan::Plan;
 use balise_rules::{Refusal, Tag};
 
 /// Turns a group, and answers what that notes. Takes no memory.
+#[inline]
 pub(crate) fn turn(plan: &mut Plan, g: Tag) -> Result<Note, Refusal>
     requires count { plan.old.changes < 2 ^ 63 }
     ensures does { DoesAlways (TurnGroup g) plan.old result plan.new }

@@ -15,6 +15,7 @@ impl Plan {
     /// The tags that stand at an address. Takes no memory.
     ///
     /// Refused in this order: `NoSuchGroup`, `NoSuchTelegram`, `NoSuchPacket`, `NoSuchVariable`.
+    #[inline(always)]
     pub fn resolve(&self, address: Address) -> Result<Place, Refusal>
         ensures { result ≡ rules.resolve address self.now.groups }
     {
@@ -50,6 +51,7 @@ impl Plan {
 }
 
 // The tag of the group of an identity.
+#[inline(always)]
 fn find_group(plan: &Plan, id: Id) -> Result<Tag, Refusal>
     ensures ok { IfOk result (λ g. (ys : Group) × (find_group id plan.now.groups ≡ Ok (g, ys))) }
     ensures fault { IfErr result (λ e. find_group id plan.now.groups ≡ Err e) }
@@ -61,6 +63,7 @@ fn find_group(plan: &Plan, id: Id) -> Result<Tag, Refusal>
 }
 
 // The telegram at a place of the group of an identity, with the tags that lead to it.
+#[inline(always)]
 fn find_telegram(plan: &Plan, id: Id, pig: u32) -> Result<(Tag, u32, &Telegram), Refusal>
     ensures ok { IfOk result (λ r. find_telegram id pig plan.now.groups ≡ Ok (record { group = r.0; place = r.1; telegram = r.2.now })) }
     ensures tags { IfOk result (λ r. Distinct same_tag r.2.now.packets) }
@@ -80,6 +83,7 @@ fn find_telegram(plan: &Plan, id: Id, pig: u32) -> Result<(Tag, u32, &Telegram),
 }
 
 // The packet at a place of a telegram, with the telegram and the tags that lead to it.
+#[inline(always)]
 fn find_packet(
     plan: &Plan,
     id: Id,

@@ -6,7 +6,7 @@ ghost use Rattle.balise_rules.specs.Behind.{independent, stands_behind};
 ghost use Rattle.balise_edits.specs.Anchors.{hung_on, new_anchor};
 
 use crate::entry::Entry;
-use crate::meeting::clear;
+use crate::overlaps::clear;
 use balise_rules::Tag;
 
 /// Whether two entries are apart: no place that one changes is one that the other changes or needs, or lies in it or

@@ -1,8 +1,8 @@
 //! Edits of a balise plan by tags, what each notes, its places, and which edits are independent.
 #![tactic(auto)]
 
+mod applying;
 mod copying;
-mod doing;
 mod edit;
 mod entry;
 mod home;
@@ -11,19 +11,19 @@ mod kinds;
 pub mod laws;
 mod line;
 mod listing;
-mod meeting;
 mod naming;
 mod note;
+mod overlaps;
 mod path;
 mod reviewing;
 
+pub use applying::{again, apply, take_back};
 pub use balise_commands::{Line, LineEdit, Noted};
 pub use balise_plan::{
     Bits, Group, GroupTag, Id, LinkPlace, Packet, PacketTag, Plan, Refusal, Refusal as EditFault,
     Spot, Tag, Telegram, Var,
 };
 pub use balise_rules::{ReviewLine, Reviewed};
-pub use doing::{again, apply, take_back};
 pub use edit::Edit;
 pub use entry::Entry;
 pub use independence::{apart, independent, re_anchor, stands_behind};

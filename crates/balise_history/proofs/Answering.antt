@@ -24,7 +24,7 @@ use Rattle.balise_strike_laws.specs.Redoing.{Answer}
 use Rattle.balise_strike_laws.proofs.SessionsKept.{sessions_kept}
 use Rattle.balise_strike_laws.proofs.SessionStrikes.{hung-empty}
 use Rattle.balise_history.specs.Tests.{MayRunOut, StrikeMayRunOut}
-use Rattle.balise_history.specs.Lists.{History, Gone, items_of, removed_of, entries_hung, place_of, top_serial, Ascends, TakesOut, PutsBack}
+use Rattle.balise_history.specs.Lists.{History, Gone, items_of, removed_of, entries_re_anchored, place_of, top_serial, Ascends, TakesOut, PutsBack}
 use Rattle.balise_history.specs.Held.{Edited, state_at, seen, Holds, IsHeld, Accepts, Refuses}
 use Rattle.balise_history.proofs.Adding.{added}
 use Rattle.balise_history.proofs.Entries.{items-append}
@@ -101,7 +101,7 @@ took-out u p h next n e B q k o g d b t =
     leaves p h next q k (back e.0 e.1 p.groups) (rest_of h.standing n e B) (((e.0, without_content e.1), B) ∷ h.stack) (left_of e B (items_of h.standing))
     w.holds
     (t.2 ∙ ap (λ (x : Entry). changed_to (back x.0 x.1 p.groups) p) same)
-    (t.3 ∙ ap (λ (x : Entry). take n h.standing ++ entries_hung (anchor_of x.0.1) B (drop (n + 1) h.standing)) same ∙ ap (λ (m : ℕ). take n h.standing ++ entries_hung (anchor_of e.0.1) B (drop m h.standing)) (add-one n))
+    (t.3 ∙ ap (λ (x : Entry). take n h.standing ++ entries_re_anchored (anchor_of x.0.1) B (drop (n + 1) h.standing)) same ∙ ap (λ (m : ℕ). take n h.standing ++ entries_re_anchored (anchor_of e.0.1) B (drop m h.standing)) (add-one n))
     (t.4 ∙ ap (λ (x : Entry). ((x.0, without_content x.1), B) ∷ h.stack) same)
     w.left
 

@@ -16,7 +16,7 @@ use Rattle.balise_rules.proofs.Tests.{split_on}
 use Rattle.balise_edits.specs.Anchors.{hung_on}
 use Rattle.balise_strike_laws.specs.InSession.{Rising}
 use Rattle.balise_strike_laws.specs.Striking.{notes_of}
-use Rattle.balise_history.specs.Lists.{items_of, place_of, is_among, entries_hung, Ascends}
+use Rattle.balise_history.specs.Lists.{items_of, place_of, is_among, entries_re_anchored, Ascends}
 
 -- ---- entries and their items
 
@@ -44,19 +44,19 @@ same-entries (x ∷ xs) (y ∷ ys) h k =
     let ks : notes_of xs ≡ notes_of ys = cc in
     ap (λ (i : Item). (i, x.1) ∷ xs) a ∙ ap (λ (m : Note). (y.0, m) ∷ xs) b ∙ ap (λ l. y ∷ l) (same-entries xs ys hs ks)
 
-pub items-hung : (a : Option Tag) (B : List ℕ) (es : List Entry) → items_of (entries_hung a B es) ≡ hung a B (items_of es)
+pub items-hung : (a : Option Tag) (B : List ℕ) (es : List Entry) → items_of (entries_re_anchored a B es) ≡ hung a B (items_of es)
 items-hung a B [] = refl
 items-hung a B (e ∷ es) = by (is_among e.0.0 B) (items-hung a B es)
   where
-    by : (c : Bool) → items_of (entries_hung a B es) ≡ hung a B (items_of es) → (cond c (hung_on a e) e).0 ∷ items_of (entries_hung a B es) ≡ cond c (e.0.0, anchored a e.0.1) e.0 ∷ hung a B (items_of es)
+    by : (c : Bool) → items_of (entries_re_anchored a B es) ≡ hung a B (items_of es) → (cond c (hung_on a e) e).0 ∷ items_of (entries_re_anchored a B es) ≡ cond c (e.0.0, anchored a e.0.1) e.0 ∷ hung a B (items_of es)
     by true r = ap (λ l. (e.0.0, anchored a e.0.1) ∷ l) r
     by false r = ap (λ l. e.0 ∷ l) r
 
-pub notes-hung : (a : Option Tag) (B : List ℕ) (es : List Entry) → notes_of (entries_hung a B es) ≡ notes_of es
+pub notes-hung : (a : Option Tag) (B : List ℕ) (es : List Entry) → notes_of (entries_re_anchored a B es) ≡ notes_of es
 notes-hung a B [] = refl
 notes-hung a B (e ∷ es) = by (is_among e.0.0 B) (notes-hung a B es)
   where
-    by : (c : Bool) → notes_of (entries_hung a B es) ≡ notes_of es → (cond c (hung_on a e) e).1 ∷ notes_of (entries_hung a B es) ≡ e.1 ∷ notes_of es
+    by : (c : Bool) → notes_of (entries_re_anchored a B es) ≡ notes_of es → (cond c (hung_on a e) e).1 ∷ notes_of (entries_re_anchored a B es) ≡ e.1 ∷ notes_of es
     by true r = ap (λ l. e.1 ∷ l) r
     by false r = ap (λ l. e.1 ∷ l) r
 
@@ -162,13 +162,13 @@ cut (f ∷ fs) (suc n) e r g =
       high = w.high;
     }
 
-pub above-hung : (s : ℕ) (a : Option Tag) (B : List ℕ) (es : List Entry) → Above s es → Above s (entries_hung a B es)
+pub above-hung : (s : ℕ) (a : Option Tag) (B : List ℕ) (es : List Entry) → Above s es → Above s (entries_re_anchored a B es)
 above-hung s a B [] h = All-nil (λ (f : Entry). s < f.0.0)
 above-hung s a B (e ∷ es) h = by (is_among e.0.0 B) (above-hung s a B es (All-tail (λ (f : Entry). s < f.0.0) e es h))
   where
-    by : (c : Bool) → Above s (entries_hung a B es) → Above s (cond c (hung_on a e) e ∷ entries_hung a B es)
-    by true r = All-cons (λ (f : Entry). s < f.0.0) (hung_on a e) (entries_hung a B es) (All-head (λ (f : Entry). s < f.0.0) e es h) r
-    by false r = All-cons (λ (f : Entry). s < f.0.0) e (entries_hung a B es) (All-head (λ (f : Entry). s < f.0.0) e es h) r
+    by : (c : Bool) → Above s (entries_re_anchored a B es) → Above s (cond c (hung_on a e) e ∷ entries_re_anchored a B es)
+    by true r = All-cons (λ (f : Entry). s < f.0.0) (hung_on a e) (entries_re_anchored a B es) (All-head (λ (f : Entry). s < f.0.0) e es h) r
+    by false r = All-cons (λ (f : Entry). s < f.0.0) e (entries_re_anchored a B es) (All-head (λ (f : Entry). s < f.0.0) e es h) r
 
 -- ---- the place of a serial
 

@@ -13,7 +13,7 @@ use Rattle.balise_rules.specs.Session.{entries}
 use Rattle.balise_edits.specs.Anchors.{hung_on}
 use Rattle.balise_strike_laws.specs.InSession.{Rising}
 use Rattle.balise_history.specs.Held.{Holds}
-use Rattle.balise_history.specs.Lists.{Gone, items_of, removed_of, place_of, is_among, entries_hung}
+use Rattle.balise_history.specs.Lists.{Gone, items_of, removed_of, place_of, is_among, entries_re_anchored}
 use Rattle.balise_history.specs.Returned.{returned, all_returned, AllReturn}
 use Rattle.balise_history.proofs.Entries.{items-append, items-hung}
 use Rattle.balise_history.proofs.Taking.{rising}
@@ -50,12 +50,12 @@ noted-anchored a (DropGroup g) m = refl
 noted-anchored a (Renumber g n) m = refl
 noted-anchored a (TurnGroup g) m = refl
 
-noted-hung : (a : Option Tag) (B : List ℕ) (es : List Entry) → all_noted (entries_hung a B es) ≡ all_noted es
+noted-hung : (a : Option Tag) (B : List ℕ) (es : List Entry) → all_noted (entries_re_anchored a B es) ≡ all_noted es
 noted-hung a B [] = refl
 noted-hung a B (e ∷ es) = by (is_among e.0.0 B) (noted-hung a B es)
   where
-    by : (c : Bool) → all_noted (entries_hung a B es) ≡ all_noted es → noted_in_line (cond c (hung_on a e) e) ∷ all_noted (entries_hung a B es) ≡ noted_in_line e ∷ all_noted es
-    by true r = ap (λ (n : Noted). n ∷ all_noted (entries_hung a B es)) (noted-anchored a e.0.1 e.1) ∙ ap (λ (l : List Noted). noted_in_line e ∷ l) r
+    by : (c : Bool) → all_noted (entries_re_anchored a B es) ≡ all_noted es → noted_in_line (cond c (hung_on a e) e) ∷ all_noted (entries_re_anchored a B es) ≡ noted_in_line e ∷ all_noted es
+    by true r = ap (λ (n : Noted). n ∷ all_noted (entries_re_anchored a B es)) (noted-anchored a e.0.1 e.1) ∙ ap (λ (l : List Noted). noted_in_line e ∷ l) r
     by false r = ap (λ (l : List Noted). noted_in_line e ∷ l) r
 
 module _ {A B : Type 0} (f : A → B) where
@@ -103,16 +103,16 @@ place-items s [] = refl
 place-items s (e ∷ es) = ap (λ (n : ℕ). cond (nat_lt e.0.0 s) (suc n) 0) (place-items s es)
 
 -- one put at a place, by items and by what their lines say
-put-items : (es : List Entry) (n : ℕ) (f : Entry) (a : Option Tag) (B : List ℕ) → items_of (take n es ++ f ∷ entries_hung a B (drop n es)) ≡ take n (items_of es) ++ f.0 ∷ hung a B (drop n (items_of es))
+put-items : (es : List Entry) (n : ℕ) (f : Entry) (a : Option Tag) (B : List ℕ) → items_of (take n es ++ f ∷ entries_re_anchored a B (drop n es)) ≡ take n (items_of es) ++ f.0 ∷ hung a B (drop n (items_of es))
 put-items es n f a B =
-    items-append (take n es) (f ∷ entries_hung a B (drop n es))
-    ∙ ap (λ (l : List Item). l ++ f.0 ∷ items_of (entries_hung a B (drop n es))) (map-take (λ (e : Entry). e.0) n es)
+    items-append (take n es) (f ∷ entries_re_anchored a B (drop n es))
+    ∙ ap (λ (l : List Item). l ++ f.0 ∷ items_of (entries_re_anchored a B (drop n es))) (map-take (λ (e : Entry). e.0) n es)
     ∙ ap (λ (l : List Item). take n (items_of es) ++ f.0 ∷ l) (items-hung a B (drop n es) ∙ ap (hung a B) (map-drop (λ (e : Entry). e.0) n es))
 
-put-noted : (es : List Entry) (n : ℕ) (f : Entry) (a : Option Tag) (B : List ℕ) → all_noted (take n es ++ f ∷ entries_hung a B (drop n es)) ≡ take n (all_noted es) ++ noted_in_line f ∷ drop n (all_noted es)
+put-noted : (es : List Entry) (n : ℕ) (f : Entry) (a : Option Tag) (B : List ℕ) → all_noted (take n es ++ f ∷ entries_re_anchored a B (drop n es)) ≡ take n (all_noted es) ++ noted_in_line f ∷ drop n (all_noted es)
 put-noted es n f a B =
-    map-append noted_in_line (take n es) (f ∷ entries_hung a B (drop n es))
-    ∙ ap (λ (l : List Noted). l ++ noted_in_line f ∷ all_noted (entries_hung a B (drop n es))) (map-take noted_in_line n es)
+    map-append noted_in_line (take n es) (f ∷ entries_re_anchored a B (drop n es))
+    ∙ ap (λ (l : List Noted). l ++ noted_in_line f ∷ all_noted (entries_re_anchored a B (drop n es))) (map-take noted_in_line n es)
     ∙ ap (λ (l : List Noted). take n (all_noted es) ++ noted_in_line f ∷ l) (noted-hung a B (drop n es) ∙ map-drop noted_in_line n es)
 
 -- putting all back, without a plan or on it, is the same for the lines
@@ -130,7 +130,7 @@ lines-back base groups st es (r ∷ rs) serial h i n =
     let f : Entry = (r.0.0, noted r.0.0.1 groups) in
     let same : place_of s es ≡ p = place-items s es ∙ ap (place_in s) i ∙ sym (place-items s st) in
     let es1 = returned es r in
-    let es_is : es1 ≡ take p es ++ r.0 ∷ entries_hung a B (drop p es) = ap (λ (m : ℕ). take m es ++ r.0 ∷ entries_hung a B (drop m es)) same in
+    let es_is : es1 ≡ take p es ++ r.0 ∷ entries_re_anchored a B (drop p es) = ap (λ (m : ℕ). take m es ++ r.0 ∷ entries_re_anchored a B (drop m es)) same in
     let i1 : items_of es1 ≡ items_of st1 =
     ap items_of es_is ∙ put-items es p r.0 a B ∙ ap (λ (l : List Item). take p l ++ r.0.0 ∷ hung a B (drop p l)) i ∙ sym (put-items st p f a B) in
     let one : noted_in_line r.0 ≡ noted_in_line f = ap (noted_of r.0.0.1) (sym w.next.noted_there) ∙ noted-less r.0.0.1 (noted r.0.0.1 groups) in

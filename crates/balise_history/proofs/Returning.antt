@@ -18,7 +18,7 @@ use Rattle.balise_strike_laws.specs.Redoing.{Answer}
 use Rattle.balise_strike_laws.specs.Sessions.{IsSession}
 use Rattle.balise_strike_laws.proofs.SessionsKept.{sessions_kept}
 use Rattle.balise_strike_laws.proofs.SessionStrikes.{striking_here}
-use Rattle.balise_history.specs.Lists.{Gone, items_of, removed_of, place_of, entries_hung, Ascends}
+use Rattle.balise_history.specs.Lists.{Gone, items_of, removed_of, place_of, entries_re_anchored, Ascends}
 use Rattle.balise_history.specs.Held.{Holds, AllKept}
 use Rattle.balise_history.proofs.Cuts.{take-before, drop-behind}
 use Rattle.balise_history.proofs.Entries.{cut, items-entries, items-append, items-hung, notes-append, notes-hung, same-entries, hung-append, hung-low, below-items, all-above, behind-above, behind-ascends, rising-drop, place-of-found, place-cut, put-between, Above, above-hung}
@@ -26,7 +26,7 @@ use Rattle.balise_history.proofs.Taking.{held_state, rest-entries}
 
 -- the entries with one more at a place, and those after it with another anchor
 abbrev pub with_back : List Entry → ℕ → Gone → Plan → List Entry
-with_back es n r groups = take n es ++ (r.0.0, noted r.0.0.1 groups) ∷ entries_hung (Some (Fresh r.0.0.0)) r.1 (drop n es)
+with_back es n r groups = take n es ++ (r.0.0, noted r.0.0.1 groups) ∷ entries_re_anchored (Some (Fresh r.0.0.0)) r.1 (drop n es)
 
 -- The top of the stack is the next one, and what is held with it is held.
 pub record IsBack (base groups : Plan) (st : List Entry) (r : Gone) (rs : List Gone) (serial n : ℕ) : Type 0 where
@@ -54,7 +54,7 @@ brought-back base groups st r rs serial n h p =
     let c = cut E k e up at.1 in
     let X = take k E in
     let Y = drop (suc k) E in
-    let Z = entries_hung (anchor_of it.1) r.1 Y in
+    let Z = entries_re_anchored (anchor_of it.1) r.1 Y in
     let same : serials_behind e Y ≡ r.1 = ap (serials_behind e) (sym c.behind) ∙ w.behind in
     let high : All (λ m. s < m) r.1 = subst (λ (b : List ℕ). All (λ m. s < m) b) same (behind-above e s Y c.high) in
     let asc : Ascends r.1 = subst Ascends same (behind-ascends e Y (rising-drop (suc k) E up)) in
@@ -65,11 +65,11 @@ brought-back base groups st r rs serial n h p =
     let before : take n st ≡ X = ap (λ m. take m st) place ∙ ap (take k) (sym st_is) ∙ take-before X Z k len in
     let after : drop n st ≡ Z = ap (λ m. drop m st) place ∙ ap (drop k) (sym st_is) ∙ drop-behind X Z k len in
     let note : noted it.1 groups ≡ w.note = ap (noted it.1) h.made_of ∙ here.again_notes in
-    let Z1 = entries_hung a1 r.1 Z in
+    let Z1 = entries_re_anchored a1 r.1 Z in
     let L : List Entry = with_back st n r groups in
     let L_is : L ≡ X ++ e ∷ Z1 =
-    ap (λ (l : List Entry). l ++ (it, noted it.1 groups) ∷ entries_hung a1 r.1 (drop n st)) before
-    ∙ ap (λ (l : List Entry). X ++ (it, noted it.1 groups) ∷ entries_hung a1 r.1 l) after
+    ap (λ (l : List Entry). l ++ (it, noted it.1 groups) ∷ entries_re_anchored a1 r.1 (drop n st)) before
+    ∙ ap (λ (l : List Entry). X ++ (it, noted it.1 groups) ∷ entries_re_anchored a1 r.1 l) after
     ∙ ap (λ (m : Note). X ++ (it, m) ∷ Z1) note in
     let IX = items_of X in
     let IZ = items_of Z in

@@ -17,7 +17,7 @@ use Rattle.balise_strike_laws.specs.Redoing.{Answer}
 use Rattle.balise_strike_laws.specs.Sessions.{IsSession}
 use Rattle.balise_strike_laws.proofs.SessionStrikes.{striking_here}
 use Rattle.balise_strike_laws.proofs.SessionsKept.{rises, sessions_kept}
-use Rattle.balise_history.specs.Lists.{Gone, items_of, removed_of, entries_hung, Ascends}
+use Rattle.balise_history.specs.Lists.{Gone, items_of, removed_of, entries_re_anchored, Ascends}
 use Rattle.balise_history.specs.Held.{Holds, IsHeld, AllKept}
 use Rattle.balise_history.proofs.Entries.{Cut, cut, items-entries, items-append, items-hung, notes-append, notes-hung, same-entries, hung-append, hung-low, below-items, behind-above, behind-ascends, rising-drop}
 
@@ -41,14 +41,14 @@ rising base groups st sk n h = rises (held_state base st sk n) h.session
 
 -- the entries before a place, and those after it with another anchor
 abbrev pub rest_of : List Entry → ℕ → Entry → List ℕ → List Entry
-rest_of es n e serials = take n es ++ entries_hung (anchor_of e.0.1) serials (drop (suc n) es)
+rest_of es n e serials = take n es ++ entries_re_anchored (anchor_of e.0.1) serials (drop (suc n) es)
 
 pub rest-items : (es : List Entry) (n : ℕ) (e : Entry) (B : List ℕ) → Cut es n e → All (λ m. e.0.0 < m) B → items_of (rest_of es n e B) ≡ left_of e B (items_of es)
 rest-items es n e B c h =
     let a = anchor_of e.0.1 in
     let X = items_of (take n es) in
     let Y = items_of (drop (suc n) es) in
-    items-append (take n es) (entries_hung a B (drop (suc n) es))
+    items-append (take n es) (entries_re_anchored a B (drop (suc n) es))
     ∙ ap (λ l. X ++ l) (items-hung a B (drop (suc n) es))
     ∙ ap (λ l. l ++ hung a B Y) (sym (hung-low a e.0.0 B X h (below-items e.0.0 (take n es) c.low)))
     ∙ sym (hung-append a B X Y)
@@ -57,7 +57,7 @@ rest-items es n e B c h =
 pub rest-notes : (es : List Entry) (n : ℕ) (e : Entry) (B : List ℕ) → Cut es n e → notes_of (rest_of es n e B) ≡ notes_of (filter (λ (f : Entry). not (eqb f.0.0 e.0.0)) es)
 rest-notes es n e B c =
     let a = anchor_of e.0.1 in
-    notes-append (take n es) (entries_hung a B (drop (suc n) es))
+    notes-append (take n es) (entries_re_anchored a B (drop (suc n) es))
     ∙ ap (λ l. notes_of (take n es) ++ l) (notes-hung a B (drop (suc n) es))
     ∙ sym (notes-append (take n es) (drop (suc n) es))
     ∙ ap notes_of (sym c.rest)

@@ -55,14 +55,14 @@ place_of serial [] = 0
 place_of serial (e ∷ es) = cond (nat_lt e.0.0 serial) (suc (place_of serial es)) 0
 
 -- the entries of these serials with this anchor
-abbrev pub entries_hung : Option Tag → List ℕ → List Entry → List Entry
-entries_hung a serials es = map (λ (e : Entry). cond (is_among e.0.0 serials) (hung_on a e) e) es
+abbrev pub entries_re_anchored : Option Tag → List ℕ → List Entry → List Entry
+entries_re_anchored a serials es = map (λ (e : Entry). cond (is_among e.0.0 serials) (hung_on a e) e) es
 
 -- The entry at a place is taken back and goes to the stack, and those of these serials after it get its anchor; or it is out of memory, and all stays.
 abbrev pub TakesOut : ℕ → List ℕ → Plan → History → {A : Type 0} → Result A Refusal → Plan → History → Type 0
 TakesOut n serials p h (Ok u) q k =
     (e : Entry) × (slice_get h.standing n ≡ Some e) × (q ≡ changed_to (back e.0 e.1 p.groups) p)
-    × (k.standing ≡ take n h.standing ++ entries_hung (anchor_of e.0.1) serials (drop (n + 1) h.standing))
+    × (k.standing ≡ take n h.standing ++ entries_re_anchored (anchor_of e.0.1) serials (drop (n + 1) h.standing))
     × (k.stack ≡ ((e.0, without_content e.1), serials) ∷ h.stack)
 TakesOut n serials p h (Err r) q k = (r ≡ OutOfMemory) × (q ≡ p) × (k ≡ h)
 
@@ -70,6 +70,6 @@ TakesOut n serials p h (Err r) q k = (r ≡ OutOfMemory) × (q ≡ p) × (k ≡ 
 abbrev pub PutsBack : ℕ → Gone → Plan → History → {A : Type 0} → Result A Refusal → Plan → History → Type 0
 PutsBack n r p h (Ok u) q k =
     (q ≡ changed_to (done r.0.0 p.groups) p)
-    × (k.standing ≡ take n h.standing ++ (r.0.0, noted r.0.0.1 p.groups) ∷ entries_hung (Some (Fresh r.0.0.0)) r.1 (drop n h.standing))
+    × (k.standing ≡ take n h.standing ++ (r.0.0, noted r.0.0.1 p.groups) ∷ entries_re_anchored (Some (Fresh r.0.0.0)) r.1 (drop n h.standing))
     × (h.stack ≡ r ∷ k.stack)
 PutsBack n r p h (Err e) q k = (e ≡ OutOfMemory) × (q ≡ p) × (k ≡ h)

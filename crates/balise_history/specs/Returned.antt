@@ -3,11 +3,11 @@ use Rattle.std.specs.Prelude.{List, [], ◌∷◌, ◌++◌, take, drop, Some}
 use Rattle.balise_rules.specs.declared.tag.Tag.TheVariants.{Fresh}
 use Rattle.balise_rules.specs.Paths.{Entry}
 use Rattle.balise_strike_laws.specs.InSession.{Rising}
-use Rattle.balise_history.specs.Lists.{Gone, items_of, place_of, entries_hung, Ascends}
+use Rattle.balise_history.specs.Lists.{Gone, items_of, place_of, entries_re_anchored, Ascends}
 
 -- with one put at its own place, and those that stood after it anchored on what it puts in
 abbrev pub returned : List Entry → Gone → List Entry
-returned es r = take (place_of r.0.0.0 es) es ++ r.0 ∷ entries_hung (Some (Fresh r.0.0.0)) r.1 (drop (place_of r.0.0.0 es) es)
+returned es r = take (place_of r.0.0.0 es) es ++ r.0 ∷ entries_re_anchored (Some (Fresh r.0.0.0)) r.1 (drop (place_of r.0.0.0 es) es)
 
 abbrev pub all_returned : List Gone → List Entry → List Entry
 all_returned [] es = es

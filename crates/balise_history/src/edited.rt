@@ -1,6 +1,6 @@
 //! A plan with the entries that made it: done, undone, struck and done again, before anything is counted.
 
-mod entering;
+mod journal_entry;
 
 ghost use Rattle.std.specs.Prelude.{◌≡◌, ◌+◌, ◌<◌, ◌≤◌, ◌^◌, [], ℕ, length, IfOk, IsErrOf, OnOk};
 ghost use Rattle.balise_commands.specs.Commands.{command_of};
@@ -12,10 +12,10 @@ ghost use Rattle.balise_rules.specs.Session.{entries, later};
 ghost use Rattle.balise_rules.specs.Session as rules;
 ghost use Rattle.balise_strike_laws.specs.Headline.{Promised};
 
+use crate::dependents::serials_behind;
 use crate::history::{History, place_of};
 use crate::resolving::edit_asked;
 use crate::struck::Struck;
-use crate::testing::serials_behind;
 use balise_commands::Command;
 use balise_edits::apply;
 use balise_plan::Plan;

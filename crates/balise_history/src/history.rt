@@ -1,11 +1,11 @@
 //! The entries of a session: those that stand, by rising serial, and those undone or struck.
 
-mod returning;
+mod put_back;
 
 ghost use Rattle.std.specs.Prelude.{◌≡◌, ◌+◌, ◌<◌, ◌≤◌, ◌^◌, [], ◌∷◌, ◌++◌, drop, length, map, reverse, take, vec_capacity, vec_len, List, Some, true, IfOk, IsOk, IsOkUnless, OnOk, slice_get};
 ghost use Rattle.balise_edits.specs.Anchors.{new_anchor};
 ghost use Rattle.balise_edits.specs.Standing.{IsLast, IsNext};
-ghost use Rattle.balise_history.specs.Lists.{entries_hung, is_among, items_of, place_of, Ascends, Gone, PutsBack, TakesOut, top_serial};
+ghost use Rattle.balise_history.specs.Lists.{entries_re_anchored, is_among, items_of, place_of, Ascends, Gone, PutsBack, TakesOut, top_serial};
 ghost use Rattle.balise_rules.specs.Paths as rules;
 ghost use Rattle.balise_rules.specs.Session.{needs_no_memory};
 ghost use Rattle.balise_rules.specs.declared.refusal.Refusal.TheVariants.{OutOfMemory};
@@ -69,9 +69,9 @@ fn is_among(serials: &[u32], serial: u32) -> bool
 }
 
 // Anchors the entries of these serials, which rise, on what an entry put in, or with `on` false on its own anchor.
-fn hang(entries: &mut [Entry], serials: &[u32], entry: &Entry, on: bool)
+fn re_anchor_all(entries: &mut [Entry], serials: &[u32], entry: &Entry, on: bool)
     requires { Ascends serials.now }
-    ensures { entries.new ≡ entries_hung (new_anchor on entry.now.0) serials.now entries.old }
+    ensures { entries.new ≡ entries_re_anchored (new_anchor on entry.now.0) serials.now entries.old }
 {
     for later in entries.iter_mut() {
         if is_among(serials, later.serial()) {
@@ -81,17 +81,17 @@ fn hang(entries: &mut [Entry], serials: &[u32], entry: &Entry, on: bool)
 }
 
 // The same of those from a place on. Where there are no serials nothing is looked at.
-fn hang_from(standing: &mut Vec<Entry>, place: usize, serials: &[u32], entry: &Entry, on: bool)
+fn re_anchor_from(standing: &mut Vec<Entry>, place: usize, serials: &[u32], entry: &Entry, on: bool)
     requires within { place ≤ vec_len standing.old }
     requires rising { Ascends serials.now }
-    ensures items { standing.new.items ≡ take place standing.old.items ++ entries_hung (new_anchor on entry.now.0) serials.now (drop place standing.old.items) }
+    ensures items { standing.new.items ≡ take place standing.old.items ++ entries_re_anchored (new_anchor on entry.now.0) serials.now (drop place standing.old.items) }
     ensures len { vec_len standing.new ≡ vec_len standing.old }
     ensures capacity { vec_capacity standing.new ≡ vec_capacity standing.old }
 {
     if serials.is_empty() {
         return;
     }
-    hang(&mut standing[place..], serials, entry, on);
+    re_anchor_all(&mut standing[place..], serials, entry, on);
 }
 
 impl History {
@@ -190,7 +190,7 @@ impl History {
     {
         take_back(plan, &mut self.standing[place])?;
         let entry = self.standing.remove(place);
-        hang_from(&mut self.standing, place, &behind, &entry, false);
+        re_anchor_from(&mut self.standing, place, &behind, &entry, false);
         self.stack.push(Undone { entry, behind }).unwrap();
         Ok(())
     }
@@ -212,7 +212,7 @@ impl History {
         let undone = &mut self.stack[top];
         again(plan, &mut undone.entry)?;
         let Undone { entry, behind } = self.stack.remove(top);
-        hang_from(&mut self.standing, place, &behind, &entry, true);
+        re_anchor_from(&mut self.standing, place, &behind, &entry, true);
         self.standing.insert(place, entry).unwrap();
         Ok(())
     }

@@ -1,6 +1,7 @@
 //! A session over a balise plan: edits by address, undo, redo and strike in place.
 #![tactic(auto)]
 
+mod dependents;
 mod digits;
 mod edited;
 mod history;
@@ -10,7 +11,6 @@ mod opening;
 mod resolving;
 mod session;
 mod struck;
-mod testing;
 
 pub use balise_commands::Command;
 pub use balise_edits::{

@@ -2,24 +2,24 @@
 use Rattle.std.proofs.Common.{◌≡◌, ◌∙◌, ℕ, ◌+◌, ◌-◌, List, [], ◌∷◌, Bool, true, false, cond, length, take, drop, Option, Some, None, option_map, refl, sym, ap, arith}
 use Rattle.std.specs.Prelude.{position, ◌==◌, IsTrue}
 use Rattle.std.proofs.lemmas.List.{take_all, length-drop}
-use Rattle.balise_text.specs.declared.words.Parts.{Parts}
+use Rattle.balise_text.specs.declared.words.Words.{Words}
 use Rattle.balise_text.specs.Words.{Word, no_more, parts_of}
 use Rattle.balise_text.specs.Left.{left}
 use Rattle.balise_text.proofs.Parts.{one_part, first_part, some_part}
 
-abbrev found : Parts → Option ℕ
+abbrev found : Words → Option ℕ
 found w = position (λ b. b == w.mark) w.text.now
 
-pub left_more : (w : Parts) (i : ℕ) → w.over ≡ false → found w ≡ Some i → left w ≡ take i w.text.now ∷ parts_of w.mark (take (length w.text.now - (i + 1)) (drop (i + 1) w.text.now))
+pub left_more : (w : Words) (i : ℕ) → w.over ≡ false → found w ≡ Some i → left w ≡ take i w.text.now ∷ parts_of w.mark (take (length w.text.now - (i + 1)) (drop (i + 1) w.text.now))
 left_more w i o e =
     let t = w.text.now in
     let rest : take (length t - (i + 1)) (drop (i + 1) t) ≡ drop (i + 1) t = take_all (length t - (i + 1)) (drop (i + 1) t) (omega (arith, length-drop (i + 1) t)) in
     ap (λ (b : Bool). cond b [] (parts_of w.mark t)) o ∙ first_part w.mark t i e ∙ ap (λ (x : Word). take i t ∷ parts_of w.mark x) (sym rest)
 
-pub left_last : (w : Parts) → w.over ≡ false → found w ≡ None → left w ≡ w.text.now ∷ []
+pub left_last : (w : Words) → w.over ≡ false → found w ≡ None → left w ≡ w.text.now ∷ []
 left_last w o e = ap (λ (b : Bool). cond b [] (parts_of w.mark w.text.now)) o ∙ one_part w.mark w.text.now e
 
-pub over_is : (w : Parts) → (IsTrue w.over → left w ≡ []) × (left w ≡ [] → IsTrue w.over)
+pub over_is : (w : Words) → (IsTrue w.over → left w ≡ []) × (left w ≡ [] → IsTrue w.over)
 over_is w = by w.over (parts_of w.mark w.text.now) (some_part w.mark w.text.now)
   where
     by : (b : Bool) (ps : List Word) → (ps ≡ [] → ⊥) → (IsTrue b → cond b [] ps ≡ []) × (cond b [] ps ≡ [] → IsTrue b)
@@ -27,7 +27,7 @@ over_is w = by w.over (parts_of w.mark w.text.now) (some_part w.mark w.text.now)
     by false ps h = (λ t. absurd cc, λ e. absurd (h e))
 
 -- where a part is left, there is no end
-pub no_end : {A : Type 0} (w : Parts) (x : A) → w.over ≡ false → None ≡ no_more (left w) x
+pub no_end : {A : Type 0} (w : Words) (x : A) → w.over ≡ false → None ≡ no_more (left w) x
 no_end {A} w x o = by w.over (parts_of w.mark w.text.now) (some_part w.mark w.text.now) o
   where
     by : (b : Bool) (ps : List Word) → (ps ≡ [] → ⊥) → b ≡ false → None ≡ no_more (cond b [] ps) x

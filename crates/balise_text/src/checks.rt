@@ -12,11 +12,11 @@ use crate::commands::{add_parts, insert_parts, read_plain};
 use crate::digit_checks::{check_digits, check_telegrams};
 use crate::kind::{Kind, read_kind};
 use crate::request::{Request, read_other};
-use crate::words::Parts;
+use crate::words::Words;
 use balise_commands::Command;
 use balise_rules::Refusal;
 
-fn check_insert(words: Parts) -> Result<(), Refusal>
+fn check_insert(words: Words) -> Result<(), Refusal>
     ensures { result ≡ checked (or_bad (insert_words (left words.entry))) }
 {
     let Some(insert) = insert_parts(words) else {
@@ -25,7 +25,7 @@ fn check_insert(words: Parts) -> Result<(), Refusal>
     check_digits(insert.word)
 }
 
-fn check_add(words: Parts) -> Result<(), Refusal>
+fn check_add(words: Words) -> Result<(), Refusal>
     ensures { result ≡ checked (or_bad (add_words (left words.entry))) }
 {
     let Some((_, words)) = add_parts(words) else {
@@ -55,7 +55,7 @@ fn check_other(request: Option<Request>) -> Result<(), Refusal>
 }
 
 // The words after the name of an edit.
-fn check_command(kind: Option<Kind>, words: Parts) -> Result<(), Refusal>
+fn check_command(kind: Option<Kind>, words: Words) -> Result<(), Refusal>
     ensures { result ≡ checked (or_bad (command_words kind (left words.entry))) }
 {
     match kind {
@@ -71,7 +71,7 @@ fn check_command(kind: Option<Kind>, words: Parts) -> Result<(), Refusal>
 pub fn check_request(line: &[u8]) -> Result<(), Refusal>
     ensures { result ≡ checked (call_of line.now) }
 {
-    let Some((name, words)) = Parts::words(line).next() else {
+    let Some((name, words)) = Words::of_line(line).next() else {
         return Err(Refusal::BadLine);
     };
     if let Some(request) = read_other(name, words) {

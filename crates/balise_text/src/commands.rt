@@ -12,13 +12,13 @@ ghost use Rattle.balise_text.specs.Words.{or_bad, read_as};
 
 use crate::digit_words::read_telegrams;
 use crate::kind::Kind;
-use crate::words::Parts;
+use crate::words::Words;
 use balise_bits::Bits;
 use balise_commands::Command;
 use balise_rules::{Id, Refusal};
 use std::alloc::Global;
 
-fn read_set(words: Parts) -> Option<Command>
+fn read_set(words: Words) -> Option<Command>
     ensures { option_map command_of result ≡ set_words (left words.entry) }
 {
     let (id, words) = words.id()?;
@@ -37,7 +37,7 @@ fn read_set(words: Parts) -> Option<Command>
     })
 }
 
-fn read_set_head(words: Parts) -> Option<Command>
+fn read_set_head(words: Words) -> Option<Command>
     ensures { option_map command_of result ≡ set_head_words (left words.entry) }
 {
     let (id, words) = words.id()?;
@@ -52,7 +52,7 @@ fn read_set_head(words: Parts) -> Option<Command>
     })
 }
 
-fn read_delete(words: Parts) -> Option<Command>
+fn read_delete(words: Words) -> Option<Command>
     ensures { option_map command_of result ≡ delete_words (left words.entry) }
 {
     let (id, words) = words.id()?;
@@ -61,7 +61,7 @@ fn read_delete(words: Parts) -> Option<Command>
     words.end_with(Command::DeletePacket { id, pig, pkt })
 }
 
-fn read_move(words: Parts) -> Option<Command>
+fn read_move(words: Words) -> Option<Command>
     ensures { option_map command_of result ≡ move_words (left words.entry) }
 {
     let (id, words) = words.id()?;
@@ -71,14 +71,14 @@ fn read_move(words: Parts) -> Option<Command>
     words.end_with(Command::MovePacket { id, pig, pkt, at })
 }
 
-fn read_drop(words: Parts) -> Option<Command>
+fn read_drop(words: Words) -> Option<Command>
     ensures { option_map command_of result ≡ drop_words (left words.entry) }
 {
     let (id, words) = words.id()?;
     words.end_with(Command::DropGroup { id })
 }
 
-fn read_renumber(words: Parts) -> Option<Command>
+fn read_renumber(words: Words) -> Option<Command>
     ensures { option_map command_of result ≡ renumber_words (left words.entry) }
 {
     let (id, words) = words.id()?;
@@ -86,7 +86,7 @@ fn read_renumber(words: Parts) -> Option<Command>
     words.end_with(Command::Renumber { id, number })
 }
 
-fn read_turn(words: Parts) -> Option<Command>
+fn read_turn(words: Words) -> Option<Command>
     ensures { option_map command_of result ≡ turn_words (left words.entry) }
 {
     let (id, words) = words.id()?;
@@ -103,7 +103,7 @@ pub(crate) struct Insert<'a> {
 }
 
 /// The words of an insert.
-pub(crate) fn insert_parts<'a>(words: Parts<'a>) -> Option<Insert<'a>>
+pub(crate) fn insert_parts<'a>(words: Words<'a>) -> Option<Insert<'a>>
     ensures { MatchOption result (insert_words (left words.entry) ≡ None) (λ p. insert_words (left words.entry) ≡ Some (read_as (AskInsert p.id p.pig p.at) (read_digits p.word.now))) }
 {
     let Some((id, words)) = words.id() else {
@@ -125,7 +125,7 @@ pub(crate) fn insert_parts<'a>(words: Parts<'a>) -> Option<Insert<'a>>
 }
 
 /// The words of an add: its place, and the words of digits.
-pub(crate) fn add_parts<'a>(words: Parts<'a>) -> Option<(u32, Parts<'a>)>
+pub(crate) fn add_parts<'a>(words: Words<'a>) -> Option<(u32, Words<'a>)>
     ensures { MatchOption result (add_words (left words.entry) ≡ None) (λ p. add_words (left words.entry) ≡ Some (read_as (AskAdd p.0) (telegrams_in (left p.1)))) }
 {
     let (at, words) = words.number()?;
@@ -135,7 +135,7 @@ pub(crate) fn add_parts<'a>(words: Parts<'a>) -> Option<(u32, Parts<'a>)>
     Some((at, words))
 }
 
-fn read_insert(alloc: Global, words: Parts) -> Result<Command, Refusal>
+fn read_insert(alloc: Global, words: Words) -> Result<Command, Refusal>
     ensures ok { IfOk result (λ c. or_bad (insert_words (left words.entry)) ≡ Ok (command_of c)) }
     ensures fault { IfErr result (λ e. e ≢ Refusal.OutOfMemory → or_bad (insert_words (left words.entry)) ≡ Err e) }
     ensures memory { IfErr result (λ e. e ≡ Refusal.OutOfMemory → is_some (insert_words (left words.entry)) ≡ true) }
@@ -154,7 +154,7 @@ fn read_insert(alloc: Global, words: Parts) -> Result<Command, Refusal>
     }
 }
 
-fn read_add(alloc: Global, words: Parts) -> Result<Command, Refusal>
+fn read_add(alloc: Global, words: Words) -> Result<Command, Refusal>
     ensures ok { IfOk result (λ c. or_bad (add_words (left words.entry)) ≡ Ok (command_of c)) }
     ensures fault { IfErr result (λ e. e ≢ Refusal.OutOfMemory → or_bad (add_words (left words.entry)) ≡ Err e) }
     ensures memory { IfErr result (λ e. e ≡ Refusal.OutOfMemory → is_some (add_words (left words.entry)) ≡ true) }
@@ -169,7 +169,7 @@ fn read_add(alloc: Global, words: Parts) -> Result<Command, Refusal>
 }
 
 // A command without digits.
-fn plainly(command: Option<Command>) -> Result<Command, Refusal>
+fn or_bad_line(command: Option<Command>) -> Result<Command, Refusal>
     ensures ok { IfOk result (λ c. or_bad (option_map Ok (option_map command_of command)) ≡ Ok (command_of c)) }
     ensures fault { IfErr result (λ e. or_bad (option_map Ok (option_map command_of command)) ≡ Err e) }
     ensures memory { IfErr result (λ e. e ≢ Refusal.OutOfMemory) }
@@ -181,7 +181,7 @@ fn plainly(command: Option<Command>) -> Result<Command, Refusal>
 }
 
 /// The command of an edit whose words hold no digits.
-pub(crate) fn read_plain(kind: Option<Kind>, words: Parts) -> Option<Command>
+pub(crate) fn read_plain(kind: Option<Kind>, words: Words) -> Option<Command>
     ensures { is_digits_kind kind ≡ false → option_map Ok (option_map command_of result) ≡ command_words kind (left words.entry) }
 {
     match kind {
@@ -202,7 +202,7 @@ pub(crate) fn read_plain(kind: Option<Kind>, words: Parts) -> Option<Command>
 pub(crate) fn read_command(
     alloc: Global,
     kind: Option<Kind>,
-    words: Parts,
+    words: Words,
 ) -> Result<Command, Refusal>
     ensures ok { IfOk result (λ c. or_bad (command_words kind (left words.entry)) ≡ Ok (command_of c)) }
     ensures fault { IfErr result (λ e. e ≢ Refusal.OutOfMemory → or_bad (command_words kind (left words.entry)) ≡ Err e) }
@@ -211,6 +211,6 @@ pub(crate) fn read_command(
     match kind {
         Some(Kind::Insert) => read_insert(alloc, words),
         Some(Kind::Add) => read_add(alloc, words),
-        _ => plainly(read_plain(kind, words)),
+        _ => or_bad_line(read_plain(kind, words)),
     }
 }

@@ -6,7 +6,7 @@ ghost use Rattle.balise_text.specs.Checks.{checked, IsLastByte};
 ghost use Rattle.balise_text.specs.DigitWords.{bits_due, telegrams_in};
 ghost use Rattle.balise_text.specs.Left.{left};
 
-use crate::words::Parts;
+use crate::words::Words;
 use balise_bits::hex_value;
 use balise_rules::Refusal;
 
@@ -58,7 +58,7 @@ fn check_telegram(word: &[u8]) -> Result<(), Refusal>
 }
 
 /// Judges the digits of telegrams, word by word.
-pub(crate) fn check_telegrams(words: Parts) -> Result<(), Refusal>
+pub(crate) fn check_telegrams(words: Words) -> Result<(), Refusal>
     ensures { result ≡ checked (telegrams_in (left words.entry)) }
 {
     let mut words = words;

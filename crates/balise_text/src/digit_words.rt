@@ -6,17 +6,17 @@ ghost use Rattle.balise_bits.specs.Faults.{refusal_of};
 ghost use Rattle.balise_text.specs.DigitWords.{bits_due, telegrams_in};
 ghost use Rattle.balise_text.specs.Left.{left};
 
-use crate::words::Parts;
+use crate::words::Words;
 use balise_bits::{Bits, BitsFault};
 use std::alloc::Global;
 
-impl<'a> Parts<'a> {
+impl<'a> Words<'a> {
     ghost use Rattle.std.specs.Prelude.{MatchOption, None, Some};
     ghost use Rattle.balise_text.specs.DigitWords.{have_digits, some_word};
     ghost use Rattle.balise_text.specs.Words.{taken};
 
     /// The word that comes next, which isn't empty.
-    pub(crate) fn some_word(self) -> Option<(&'a [u8], Parts<'a>)>
+    pub(crate) fn some_word(self) -> Option<(&'a [u8], Words<'a>)>
         ensures { MatchOption result (taken some_word (left self.entry) ≡ None) (λ p. taken some_word (left self.entry) ≡ Some (p.0.now, left p.1)) }
     {
         let (word, rest) = self.next()?;
@@ -56,7 +56,7 @@ fn read_telegram(alloc: Global, word: &[u8]) -> Result<Bits, BitsFault>
 }
 
 /// The bits of telegrams in digits, word by word.
-pub(crate) fn read_telegrams(alloc: Global, words: Parts) -> Result<Vec<Bits>, BitsFault>
+pub(crate) fn read_telegrams(alloc: Global, words: Words) -> Result<Vec<Bits>, BitsFault>
     ensures ok { IfOk result (λ bs. telegrams_in (left words.entry) ≡ Ok bs.items) }
     ensures fault { IfErr result (λ e. e ≢ BitsFault.OutOfMemory → telegrams_in (left words.entry) ≡ Err (refusal_of e)) }
 {

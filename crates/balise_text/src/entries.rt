@@ -11,7 +11,7 @@ ghost use Rattle.balise_text.specs.Words.{or_bad};
 
 use crate::digit_words::read_telegrams;
 use crate::kind::Kind;
-use crate::words::Parts;
+use crate::words::Words;
 use balise_bits::{Bits, BitsFault};
 use balise_commands::{Line, LineEdit, Noted};
 use balise_rules::Refusal;
@@ -29,7 +29,7 @@ fn told(fault: BitsFault) -> Refusal
     }
 }
 
-fn read_set(serial: u32, words: Parts) -> Option<Line>
+fn read_set(serial: u32, words: Words) -> Option<Line>
     ensures { option_map line_in result ≡ set_entry serial (left words.entry) }
 {
     let ((g, t, p), words) = words.packet_path()?;
@@ -51,7 +51,7 @@ fn read_set(serial: u32, words: Parts) -> Option<Line>
     })
 }
 
-fn read_set_head(serial: u32, words: Parts) -> Option<Line>
+fn read_set_head(serial: u32, words: Words) -> Option<Line>
     ensures { option_map line_in result ≡ set_head_entry serial (left words.entry) }
 {
     let ((g, t), words) = words.telegram_path()?;
@@ -65,7 +65,7 @@ fn read_set_head(serial: u32, words: Parts) -> Option<Line>
     })
 }
 
-fn read_delete(serial: u32, words: Parts) -> Option<Line>
+fn read_delete(serial: u32, words: Words) -> Option<Line>
     ensures { option_map line_in result ≡ delete_entry serial (left words.entry) }
 {
     let ((g, t, p), words) = words.packet_path()?;
@@ -77,7 +77,7 @@ fn read_delete(serial: u32, words: Parts) -> Option<Line>
     })
 }
 
-fn read_move(serial: u32, words: Parts) -> Option<Line>
+fn read_move(serial: u32, words: Words) -> Option<Line>
     ensures { option_map line_in result ≡ move_entry serial (left words.entry) }
 {
     let ((g, t, p), words) = words.packet_path()?;
@@ -90,7 +90,7 @@ fn read_move(serial: u32, words: Parts) -> Option<Line>
     })
 }
 
-fn read_drop(serial: u32, words: Parts) -> Option<Line>
+fn read_drop(serial: u32, words: Words) -> Option<Line>
     ensures { option_map line_in result ≡ drop_entry serial (left words.entry) }
 {
     let (g, words) = words.tag()?;
@@ -102,7 +102,7 @@ fn read_drop(serial: u32, words: Parts) -> Option<Line>
     })
 }
 
-fn read_renumber(serial: u32, words: Parts) -> Option<Line>
+fn read_renumber(serial: u32, words: Words) -> Option<Line>
     ensures { option_map line_in result ≡ renumber_entry serial (left words.entry) }
 {
     let (g, words) = words.tag()?;
@@ -115,7 +115,7 @@ fn read_renumber(serial: u32, words: Parts) -> Option<Line>
     })
 }
 
-fn read_turn(serial: u32, words: Parts) -> Option<Line>
+fn read_turn(serial: u32, words: Words) -> Option<Line>
     ensures { option_map line_in result ≡ turn_entry serial (left words.entry) }
 {
     let (g, words) = words.tag()?;
@@ -126,7 +126,7 @@ fn read_turn(serial: u32, words: Parts) -> Option<Line>
     })
 }
 
-fn read_insert(alloc: Global, serial: u32, words: Parts) -> Result<Line, Refusal>
+fn read_insert(alloc: Global, serial: u32, words: Words) -> Result<Line, Refusal>
     ensures ok { IfOk result (λ l. or_bad (insert_entry serial (left words.entry)) ≡ Ok (line_in l)) }
     ensures fault { IfErr result (λ e. e ≢ Refusal.OutOfMemory → or_bad (insert_entry serial (left words.entry)) ≡ Err e) }
     ensures memory { IfErr result (λ e. e ≡ Refusal.OutOfMemory → is_some (insert_entry serial (left words.entry)) ≡ true) }
@@ -158,7 +158,7 @@ fn read_insert(alloc: Global, serial: u32, words: Parts) -> Result<Line, Refusal
     }
 }
 
-fn read_add(alloc: Global, serial: u32, words: Parts) -> Result<Line, Refusal>
+fn read_add(alloc: Global, serial: u32, words: Words) -> Result<Line, Refusal>
     ensures ok { IfOk result (λ l. or_bad (add_entry serial (left words.entry)) ≡ Ok (line_in l)) }
     ensures fault { IfErr result (λ e. e ≢ Refusal.OutOfMemory → or_bad (add_entry serial (left words.entry)) ≡ Err e) }
     ensures memory { IfErr result (λ e. e ≡ Refusal.OutOfMemory → is_some (add_entry serial (left words.entry)) ≡ true) }
@@ -180,7 +180,7 @@ fn read_add(alloc: Global, serial: u32, words: Parts) -> Result<Line, Refusal>
 }
 
 // An entry without digits.
-fn plainly(line: Option<Line>) -> Result<Line, Refusal>
+fn or_bad_line(line: Option<Line>) -> Result<Line, Refusal>
     ensures ok { IfOk result (λ l. or_bad (option_map Ok (option_map line_in line)) ≡ Ok (line_in l)) }
     ensures fault { IfErr result (λ e. or_bad (option_map Ok (option_map line_in line)) ≡ Err e) }
     ensures memory { IfErr result (λ e. e ≢ Refusal.OutOfMemory) }
@@ -196,7 +196,7 @@ pub(crate) fn read_entry(
     alloc: Global,
     serial: u32,
     kind: Option<Kind>,
-    words: Parts,
+    words: Words,
 ) -> Result<Line, Refusal>
     ensures ok { IfOk result (λ l. or_bad (entry_words serial kind (left words.entry)) ≡ Ok (line_in l)) }
     ensures fault { IfErr result (λ e. e ≢ Refusal.OutOfMemory → or_bad (entry_words serial kind (left words.entry)) ≡ Err e) }
@@ -204,14 +204,14 @@ pub(crate) fn read_entry(
 {
     match kind {
         None => Err(Refusal::BadLine),
-        Some(Kind::Set) => plainly(read_set(serial, words)),
-        Some(Kind::SetHead) => plainly(read_set_head(serial, words)),
+        Some(Kind::Set) => or_bad_line(read_set(serial, words)),
+        Some(Kind::SetHead) => or_bad_line(read_set_head(serial, words)),
         Some(Kind::Insert) => read_insert(alloc, serial, words),
-        Some(Kind::Delete) => plainly(read_delete(serial, words)),
-        Some(Kind::Move) => plainly(read_move(serial, words)),
+        Some(Kind::Delete) => or_bad_line(read_delete(serial, words)),
+        Some(Kind::Move) => or_bad_line(read_move(serial, words)),
         Some(Kind::Add) => read_add(alloc, serial, words),
-        Some(Kind::Drop) => plainly(read_drop(serial, words)),
-        Some(Kind::Renumber) => plainly(read_renumber(serial, words)),
-        Some(Kind::Turn) => plainly(read_turn(serial, words)),
+        Some(Kind::Drop) => or_bad_line(read_drop(serial, words)),
+        Some(Kind::Renumber) => or_bad_line(read_renumber(serial, words)),
+        Some(Kind::Turn) => or_bad_line(read_turn(serial, words)),
     }
 }

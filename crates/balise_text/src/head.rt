@@ -4,7 +4,7 @@ ghost use Rattle.std.specs.Prelude.{◌≡◌};
 ghost use Rattle.balise_text.specs.Heads.{head_in, journal_of, read_head, version_of};
 ghost use Rattle.balise_text.specs.Words.{words_of};
 
-use crate::words::Parts;
+use crate::words::Words;
 use balise_rules::Refusal;
 
 /// The version of a journal.
@@ -37,13 +37,13 @@ fn read_version(word: &[u8]) -> Option<Version>
     None
 }
 
-impl<'a> Parts<'a> {
+impl<'a> Words<'a> {
     ghost use Rattle.std.specs.Prelude.{MatchOption, None, Some};
     ghost use Rattle.balise_text.specs.Left.{TakesPart, left};
     ghost use Rattle.balise_text.specs.Words.{taken};
 
     // The word `journal` that comes next.
-    fn journal(self) -> Option<(&'a [u8], Parts<'a>)>
+    fn journal(self) -> Option<(&'a [u8], Words<'a>)>
         ensures { MatchOption result (taken journal_of (left self.entry) ≡ None) (λ p. taken journal_of (left self.entry) ≡ Some (p.0.now, left p.1)) }
     {
         let (word, rest) = self.next()?;
@@ -54,7 +54,7 @@ impl<'a> Parts<'a> {
     }
 
     // The version that comes next.
-    fn version(self) -> Option<(Version, Parts<'a>)>
+    fn version(self) -> Option<(Version, Words<'a>)>
         ensures { TakesPart version_of (left self.entry) result }
     {
         let (word, rest) = self.next()?;
@@ -66,7 +66,7 @@ impl<'a> Parts<'a> {
 fn read_words(line: &[u8]) -> Option<Head>
     ensures { result ≡ head_in (words_of line.now) }
 {
-    let (_, words) = Parts::words(line).journal()?;
+    let (_, words) = Words::of_line(line).journal()?;
     let (version, words) = words.version()?;
     let (next, words) = words.number()?;
     words.end_with(Head { version, next })

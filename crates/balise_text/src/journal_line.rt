@@ -10,7 +10,7 @@ use crate::entries::read_entry;
 use crate::head::Version;
 use crate::kind::read_kind;
 use crate::section::Section;
-use crate::words::Parts;
+use crate::words::Words;
 use balise_commands::Line;
 use balise_rules::Refusal;
 use std::alloc::Global;
@@ -26,13 +26,13 @@ pub enum JournalLine {
     Edits,
 }
 
-impl<'a> Parts<'a> {
+impl<'a> Words<'a> {
     ghost use Rattle.std.specs.Prelude.{MatchOption, None, Some};
     ghost use Rattle.balise_text.specs.Left.{left};
     ghost use Rattle.balise_text.specs.Words.{taken};
 
     // The word `undone` that comes next.
-    fn undone(self) -> Option<(&'a [u8], Parts<'a>)>
+    fn undone(self) -> Option<(&'a [u8], Words<'a>)>
         ensures { MatchOption result (taken undone_word (left self.entry) ≡ None) (λ p. taken undone_word (left self.entry) ≡ Some (p.0.now, left p.1)) }
     {
         let (word, rest) = self.next()?;
@@ -46,7 +46,7 @@ impl<'a> Parts<'a> {
 fn undone(line: &[u8]) -> Option<u32>
     ensures { result ≡ undone_in (words_of line.now) }
 {
-    let (_, words) = Parts::words(line).undone()?;
+    let (_, words) = Words::of_line(line).undone()?;
     let (serial, words) = words.number()?;
     words.end_with(serial)
 }
@@ -56,7 +56,7 @@ fn entry(alloc: Global, line: &[u8]) -> Result<Line, Refusal>
     ensures fault { IfErr result (λ e. e ≢ Refusal.OutOfMemory → entry_of line.now ≡ Err e) }
     ensures memory { IfErr result (λ e. e ≡ Refusal.OutOfMemory → entry_reads_digits line.now ≡ true) }
 {
-    let Some((serial, words)) = Parts::words(line).number() else {
+    let Some((serial, words)) = Words::of_line(line).number() else {
         return Err(Refusal::BadLine);
     };
     let Some((name, words)) = words.next() else {

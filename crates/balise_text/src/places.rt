@@ -3,7 +3,7 @@
 ghost use Rattle.std.specs.Prelude.{◌≡◌};
 ghost use Rattle.balise_text.specs.Places.{anchor_of, neighbour_of, packet_path_of, tag_of, tag_or, telegram_path_of};
 
-use crate::words::{Parts, read_number};
+use crate::words::{Words, read_number};
 use balise_rules::Tag;
 
 fn read_tag(word: &[u8]) -> Option<Tag>
@@ -40,7 +40,7 @@ fn read_tag_or(mark: &[u8], word: &[u8]) -> Option<Option<Tag>>
 fn read_telegram_path(word: &[u8]) -> Option<(Tag, u32)>
     ensures { result ≡ telegram_path_of word.now }
 {
-    let (group, rest) = Parts::new(word, b'/').tag()?;
+    let (group, rest) = Words::new(word, b'/').tag()?;
     let (telegram, rest) = rest.number()?;
     rest.end_with((group, telegram))
 }
@@ -49,17 +49,17 @@ fn read_telegram_path(word: &[u8]) -> Option<(Tag, u32)>
 fn read_packet_path(word: &[u8]) -> Option<(Tag, u32, Tag)>
     ensures { result ≡ packet_path_of word.now }
 {
-    let (group, rest) = Parts::new(word, b'/').tag()?;
+    let (group, rest) = Words::new(word, b'/').tag()?;
     let (telegram, rest) = rest.number()?;
     let (packet, rest) = rest.tag()?;
     rest.end_with((group, telegram, packet))
 }
 
-impl<'a> Parts<'a> {
+impl<'a> Words<'a> {
     ghost use Rattle.balise_text.specs.Left.{TakesPart, left};
 
     /// The tag that comes next.
-    pub(crate) fn tag(self) -> Option<(Tag, Parts<'a>)>
+    pub(crate) fn tag(self) -> Option<(Tag, Words<'a>)>
         ensures { TakesPart tag_of (left self.entry) result }
     {
         let (word, rest) = self.next()?;
@@ -68,7 +68,7 @@ impl<'a> Parts<'a> {
     }
 
     /// The anchor that comes next: a tag, or the start.
-    pub(crate) fn anchor(self) -> Option<(Option<Tag>, Parts<'a>)>
+    pub(crate) fn anchor(self) -> Option<(Option<Tag>, Words<'a>)>
         ensures { TakesPart anchor_of (left self.entry) result }
     {
         let (word, rest) = self.next()?;
@@ -77,7 +77,7 @@ impl<'a> Parts<'a> {
     }
 
     /// The neighbour that comes next: a tag, or the end.
-    pub(crate) fn neighbour(self) -> Option<(Option<Tag>, Parts<'a>)>
+    pub(crate) fn neighbour(self) -> Option<(Option<Tag>, Words<'a>)>
         ensures { TakesPart neighbour_of (left self.entry) result }
     {
         let (word, rest) = self.next()?;
@@ -86,7 +86,7 @@ impl<'a> Parts<'a> {
     }
 
     /// The path to a telegram that comes next.
-    pub(crate) fn telegram_path(self) -> Option<((Tag, u32), Parts<'a>)>
+    pub(crate) fn telegram_path(self) -> Option<((Tag, u32), Words<'a>)>
         ensures { TakesPart telegram_path_of (left self.entry) result }
     {
         let (word, rest) = self.next()?;
@@ -95,7 +95,7 @@ impl<'a> Parts<'a> {
     }
 
     /// The path to a packet that comes next.
-    pub(crate) fn packet_path(self) -> Option<((Tag, u32, Tag), Parts<'a>)>
+    pub(crate) fn packet_path(self) -> Option<((Tag, u32, Tag), Words<'a>)>
         ensures { TakesPart packet_path_of (left self.entry) result }
     {
         let (word, rest) = self.next()?;

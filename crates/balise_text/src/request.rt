@@ -11,7 +11,7 @@ ghost use Rattle.balise_text.specs.Words.{no_more, or_bad, read_as};
 
 use crate::commands::read_command;
 use crate::kind::read_kind;
-use crate::words::Parts;
+use crate::words::Words;
 use balise_commands::Command;
 use balise_rules::Refusal;
 use std::alloc::Global;
@@ -30,21 +30,21 @@ pub enum Request {
 }
 
 #[inline(always)]
-fn read_undo(words: Parts) -> Option<Request>
+fn read_undo(words: Words) -> Option<Request>
     ensures { option_map call result ≡ no_more (left words.entry) session.Undo }
 {
     words.end_with(Request::Undo)
 }
 
 #[inline(always)]
-fn read_redo(words: Parts) -> Option<Request>
+fn read_redo(words: Words) -> Option<Request>
     ensures { option_map call result ≡ no_more (left words.entry) session.Redo }
 {
     words.end_with(Request::Redo)
 }
 
 #[inline(always)]
-fn read_strike(words: Parts) -> Option<Request>
+fn read_strike(words: Words) -> Option<Request>
     ensures { option_map call result ≡ strike_words (left words.entry) }
 {
     let (serial, words) = words.number()?;
@@ -53,7 +53,7 @@ fn read_strike(words: Parts) -> Option<Request>
 
 /// What a name and the words after it ask for, where it is the name of a command that is no edit.
 #[inline(always)]
-pub(crate) fn read_other(name: &[u8], words: Parts) -> Option<Option<Request>>
+pub(crate) fn read_other(name: &[u8], words: Words) -> Option<Option<Request>>
     ensures { MatchOption result (named_words name.now (left words.entry) ≡ option_map (read_as session.Ask) (command_words (kind_of name.now) (left words.entry))) (λ request. option_map Ok (option_map call request) ≡ named_words name.now (left words.entry)) }
 {
     if name == b"undo".as_slice() {
@@ -69,7 +69,7 @@ pub(crate) fn read_other(name: &[u8], words: Parts) -> Option<Option<Request>>
 }
 
 // A command without digits.
-fn plainly(request: Option<Request>) -> Result<Request, Refusal>
+fn or_bad_line(request: Option<Request>) -> Result<Request, Refusal>
     ensures ok { IfOk result (λ r. or_bad (option_map Ok (option_map call request)) ≡ Ok (call r)) }
     ensures fault { IfErr result (λ e. or_bad (option_map Ok (option_map call request)) ≡ Err e) }
     ensures memory { IfErr result (λ e. e ≢ Refusal.OutOfMemory) }
@@ -90,11 +90,11 @@ pub fn read_request(alloc: Global, line: &[u8]) -> Result<Request, Refusal>
     ensures fault { IfErr result (λ e. e ≢ Refusal.OutOfMemory → call_of line.now ≡ Err e) }
     ensures memory { IfErr result (λ e. e ≡ Refusal.OutOfMemory → reads_digits line.now ≡ true) }
 {
-    let Some((name, words)) = Parts::words(line).next() else {
+    let Some((name, words)) = Words::of_line(line).next() else {
         return Err(Refusal::BadLine);
     };
     if let Some(request) = read_other(name, words) {
-        return plainly(request);
+        return or_bad_line(request);
     }
     match read_command(alloc, read_kind(name), words) {
         Ok(command) => Ok(Request::Edit(command)),

@@ -13,22 +13,22 @@ fn find_byte(text: &[u8], mark: u8) -> Option<usize>
     text.iter().position(|byte| *byte == mark)
 }
 
-/// What is left of the parts of a text between marks.
+/// What is left of the words of a line, or of the parts of a word, between marks.
 #[derive(Clone, Copy)]
-pub(crate) struct Parts<'a> {
+pub(crate) struct Words<'a> {
     text: &'a [u8],
     mark: u8,
     over: bool,
 }
 
-impl<'a> Parts<'a> {
+impl<'a> Words<'a> {
     ghost use Rattle.balise_text.specs.Left.{left, TakesPart};
 
     /// The parts of a text.
-    pub(crate) fn new(text: &'a [u8], mark: u8) -> Parts<'a>
+    pub(crate) fn new(text: &'a [u8], mark: u8) -> Words<'a>
         ensures { left result ≡ parts_of mark text.now }
     {
-        Parts {
+        Words {
             text,
             mark,
             over: false,
@@ -36,10 +36,10 @@ impl<'a> Parts<'a> {
     }
 
     /// The words of a line.
-    pub(crate) fn words(line: &'a [u8]) -> Parts<'a>
+    pub(crate) fn of_line(line: &'a [u8]) -> Words<'a>
         ensures { left result ≡ words_of line.now }
     {
-        Parts::new(line, b' ')
+        Words::new(line, b' ')
     }
 
     /// Whether no part comes any more.
@@ -58,7 +58,7 @@ impl<'a> Parts<'a> {
     }
 
     /// The next part, and what follows it.
-    pub(crate) fn next(self) -> Option<(&'a [u8], Parts<'a>)>
+    pub(crate) fn next(self) -> Option<(&'a [u8], Words<'a>)>
         ensures { MatchOption result (left self.entry ≡ []) (λ p. left self.entry ≡ p.0.now ∷ left p.1) }
     {
         if self.over {
@@ -67,7 +67,7 @@ impl<'a> Parts<'a> {
         match find_byte(self.text, self.mark) {
             Some(at) => Some((
                 &self.text[..at],
-                Parts {
+                Words {
                     text: &self.text[at + 1..],
                     mark: self.mark,
                     over: false,
@@ -75,7 +75,7 @@ impl<'a> Parts<'a> {
             )),
             None => Some((
                 self.text,
-                Parts {
+                Words {
                     text: self.text,
                     mark: self.mark,
                     over: true,
@@ -85,7 +85,7 @@ impl<'a> Parts<'a> {
     }
 
     /// The number that comes next.
-    pub(crate) fn number(self) -> Option<(u32, Parts<'a>)>
+    pub(crate) fn number(self) -> Option<(u32, Words<'a>)>
         ensures { TakesPart number_of (left self.entry) result }
     {
         let (word, rest) = self.next()?;
@@ -94,7 +94,7 @@ impl<'a> Parts<'a> {
     }
 
     /// The identity that comes next.
-    pub(crate) fn id(self) -> Option<(Id, Parts<'a>)>
+    pub(crate) fn id(self) -> Option<(Id, Words<'a>)>
         ensures { TakesPart id_of (left self.entry) result }
     {
         let (word, rest) = self.next()?;
@@ -103,7 +103,7 @@ impl<'a> Parts<'a> {
     }
 
     /// The variable that comes next.
-    pub(crate) fn var(self) -> Option<(Var, Parts<'a>)>
+    pub(crate) fn var(self) -> Option<(Var, Words<'a>)>
         ensures { TakesPart var_named (left self.entry) result }
     {
         let (word, rest) = self.next()?;
@@ -144,7 +144,7 @@ pub(crate) fn read_number(word: &[u8]) -> Option<u32>
 fn read_id(word: &[u8]) -> Option<Id>
     ensures { result ≡ id_of word.now }
 {
-    let (country, rest) = Parts::new(word, b'.').number()?;
+    let (country, rest) = Words::new(word, b'.').number()?;
     let (number, rest) = rest.number()?;
     rest.end_with(Id { country, number })
 }

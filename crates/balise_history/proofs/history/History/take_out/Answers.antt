@@ -4,7 +4,7 @@ use Rattle.balise_rules.specs.Behind.{anchor_of}
 use Rattle.balise_rules.specs.Notes.{without_content}
 use Rattle.balise_rules.specs.Paths.{Entry}
 use Rattle.balise_history.specs.declared.history.Undone.{Undone}
-use Rattle.balise_history.specs.Lists.{History, Gone, gone_of, entries_hung}
+use Rattle.balise_history.specs.Lists.{History, Gone, gone_of, entries_re_anchored}
 use Rattle.balise_history.proofs.Cuts.{take-set, drop-set, got, rest-before, rest-behind}
 use Rattle.balise_history.proofs.history.History.take_out.Goals as goal
 
@@ -27,14 +27,14 @@ returns-clause-takes c =
     c.remove-entry.ensures.items ∙ ap (λ (xs : List Entry). xs ++ drop (suc n) s1) (take-set st n c.take_back.new.entry) ∙ ap (λ (xs : List Entry). take n st ++ xs) (drop-set st n c.take_back.new.entry) in
     let now : List Entry = c.args.self.now.standing in
     let serials : List ℕ = c.args.behind.items in
-    let hang : List Entry → Entry → List ℕ → List Entry = λ (xs : List Entry) (e : Entry) (ns : List ℕ). take n xs ++ entries_hung (anchor_of e.0.1) ns (drop n xs) in
-    let cut : List Entry → ℕ → List Entry = λ (xs : List Entry) (k : ℕ). take n xs ++ entries_hung (anchor_of e0.0.1) serials (drop k xs) in
+    let hang : List Entry → Entry → List ℕ → List Entry = λ (xs : List Entry) (e : Entry) (ns : List ℕ). take n xs ++ entries_re_anchored (anchor_of e.0.1) ns (drop n xs) in
+    let cut : List Entry → ℕ → List Entry = λ (xs : List Entry) (k : ℕ). take n xs ++ entries_re_anchored (anchor_of e0.0.1) serials (drop k xs) in
     let rest : List Entry = take n st ++ drop (suc n) st in
     let le : n ≤ length st = omega arith in
-    let hi : c.hang_from.new.standing.items ≡ cut now (n + 1) =
-    c.hang_from.ensures.items ∙ ap (λ (xs : List Entry). hang xs e1 c.deref.result.now) ri ∙ ap (λ (e : Entry). hang rest e c.deref.result.now) rv ∙ ap (λ (ns : List ℕ). hang rest e0 ns) c.deref.ensures.value
-    ∙ ap (λ (xs : List Entry). xs ++ entries_hung (anchor_of e0.0.1) serials (drop n rest)) (rest-before st n le)
-    ∙ ap (λ (xs : List Entry). take n st ++ entries_hung (anchor_of e0.0.1) serials xs) (rest-behind st n le)
+    let hi : c.re_anchor_from.new.standing.items ≡ cut now (n + 1) =
+    c.re_anchor_from.ensures.items ∙ ap (λ (xs : List Entry). hang xs e1 c.deref.result.now) ri ∙ ap (λ (e : Entry). hang rest e c.deref.result.now) rv ∙ ap (λ (ns : List ℕ). hang rest e0 ns) c.deref.ensures.value
+    ∙ ap (λ (xs : List Entry). xs ++ entries_re_anchored (anchor_of e0.0.1) serials (drop n rest)) (rest-before st n le)
+    ∙ ap (λ (xs : List Entry). take n st ++ entries_re_anchored (anchor_of e0.0.1) serials xs) (rest-behind st n le)
     ∙ ap (λ (k : ℕ). cut st k) (sym (add-one n)) ∙ ap (λ (xs : List Entry). cut xs (n + 1)) seen in
     let u : Undone = record { entry = e1; behind = c.args.behind } in
     let pi : c.push.new.self.items ≡ sk ++ u ∷ [] = rw c.unwrap.ensures at c.push.ensures.items in

@@ -1,6 +1,7 @@
 //! The tests, by topic.
 
 mod calls;
+mod comparing;
 mod copying;
 mod digits;
 mod group_by_telegram;

@@ -1,16 +1,15 @@
 //! Each call on its happy path, in either form of a place.
 
-use crate::tests::digits::{ABROAD, EMPTY, INFILL, LINKING, REVOCATIONS};
+use crate::tests::digits::{ABROAD, EMPTY, FIRST, INFILL, LINKING, REVOCATIONS, SECOND};
 use crate::tests::plans::{id, plan_of};
-use crate::tests::steps::{Answer, Row, Step, follow_each, follow_over};
+use crate::tests::steps::Answer::{Done, Next, Old};
+use crate::tests::steps::Step::{Field, Head, Put, PutGroup, Shift, Take, TakeGroup};
+use crate::tests::steps::{Answer, Step, follow_one, shown_plan_of};
 use crate::tests::walking::listed;
+use balise_plan::Spot::{After, Before};
 use balise_plan::{Group, GroupTag, Id, LinkPlace, PacketTag, Plan, Spot, Var};
 use std::alloc::Global;
 use std::process::Abort;
-
-const FIRST: GroupTag = GroupTag::Base(0);
-
-const SECOND: GroupTag = GroupTag::Base(1);
 
 const NEW: GroupTag = GroupTag::Fresh(1);
 
@@ -18,129 +17,92 @@ const FIVE: PacketTag = PacketTag::Base(0);
 
 const SEVEN: PacketTag = PacketTag::Base(1);
 
+/// Packets 66 that take back restrictions 6 and 9.
+const TSR_6: &str = "42403e0c";
+
+const TSR_9: &str = "42403e12";
+
+const SET: &str = "a1007f80a03250900f84a1201f07ffffffffffffffffffffffffc0";
+
+const COUNTED: &str = "a1007f00a03250900f84a1201f07ffffffffffffffffffffffffc0";
+
+const EXCHANGED: &str = "a1007f00a03250900f83a1201f09ffffffffffffffffffffffffc0";
+
 const PUT: &str = "a1007f00a03250900f83a1201f0642403e13ffffffffffffffffc0";
 
 const MOVED_ON: &str = "a1007f00a03250900f83a1201f0942403e0dffffffffffffffffc0";
 
-/// A change of each kind in a telegram.
-const IN_A_TELEGRAM: &[Row] = &[
+const TAKEN: &str = "a1007f00a03250900f83a1201f06ffffffffffffffffffffffffc0";
+
+/// A change of each kind in a telegram, its answer, and the telegram then.
+const IN_A_TELEGRAM: &[(Step, Answer, &str)] = &[
+    (Field(FIRST, 0, FIVE, Var::NidTsr, 0, 9), Old(5), SET),
+    (Head(FIRST, 0, Var::MMcount, 254), Old(255), COUNTED),
+    (Shift(FIRST, 0, SEVEN, After(None)), Next(None), EXCHANGED),
+    (Put(FIRST, 0, Before(Some(FIVE)), NEW, TSR_6), Done, PUT),
     (
-        Step::Field(FIRST, 0, FIVE, Var::NidTsr, 0, 9),
-        Ok(Answer::Old(5)),
-        &[
-            "a1007f80a03250900f84a1201f07ffffffffffffffffffffffffc0",
-            LINKING,
-        ],
+        Shift(FIRST, 0, NEW, After(Some(FIVE))),
+        Next(Some(FIVE)),
+        MOVED_ON,
     ),
+    (Shift(FIRST, 0, NEW, Before(Some(FIVE))), Next(None), PUT),
     (
-        Step::Head(FIRST, 0, Var::MMcount, 254),
-        Ok(Answer::Old(255)),
-        &[
-            "a1007f00a03250900f84a1201f07ffffffffffffffffffffffffc0",
-            LINKING,
-        ],
+        Shift(FIRST, 0, NEW, Before(None)),
+        Next(Some(FIVE)),
+        MOVED_ON,
     ),
-    (
-        Step::Shift(FIRST, 0, SEVEN, Spot::After(None)),
-        Ok(Answer::Next(None)),
-        &[
-            "a1007f00a03250900f83a1201f09ffffffffffffffffffffffffc0",
-            LINKING,
-        ],
-    ),
-    (
-        Step::Put(FIRST, 0, Spot::Before(Some(FIVE)), NEW, "42403e0c"),
-        Ok(Answer::Done),
-        &[PUT, LINKING],
-    ),
-    (
-        Step::Shift(FIRST, 0, NEW, Spot::After(Some(FIVE))),
-        Ok(Answer::Next(Some(FIVE))),
-        &[MOVED_ON, LINKING],
-    ),
-    (
-        Step::Shift(FIRST, 0, NEW, Spot::Before(Some(FIVE))),
-        Ok(Answer::Next(None)),
-        &[PUT, LINKING],
-    ),
-    (
-        Step::Shift(FIRST, 0, NEW, Spot::Before(None)),
-        Ok(Answer::Next(Some(FIVE))),
-        &[MOVED_ON, LINKING],
-    ),
-    (
-        Step::Take(FIRST, 0, FIVE),
-        Ok(Answer::Next(Some(NEW))),
-        &[
-            "a1007f00a03250900f83a1201f06ffffffffffffffffffffffffc0",
-            LINKING,
-        ],
-    ),
-    (
-        Step::Put(FIRST, 0, Spot::After(Some(NEW)), FIVE, "42403e12"),
-        Ok(Answer::Done),
-        &[PUT, LINKING],
-    ),
+    (Take(FIRST, 0, FIVE), Next(Some(NEW)), TAKEN),
+    (Put(FIRST, 0, After(Some(NEW)), FIVE, TSR_9), Done, PUT),
 ];
+
+fn change_each(rt: &impl Abort, alloc: Global, plan: &mut Plan) {
+    for (step, answer, text) in IN_A_TELEGRAM.iter() {
+        follow_one(rt, alloc, plan, *step, *answer, &[*text, LINKING]);
+    }
+}
 
 #[test]
 fn changes_a_telegram(rt: HostRuntime) {
-    follow_over(&rt, rt.alloc(), &[REVOCATIONS, LINKING], IN_A_TELEGRAM);
+    let alloc = rt.alloc();
+    let mut plan = shown_plan_of(&rt, alloc, &[REVOCATIONS, LINKING]);
+    change_each(&rt, alloc, &mut plan);
 }
 
-/// Groups put in at each place, and taken out.
-const ANYWHERE: &[Row] = &[
-    (
-        Step::PutGroup(Spot::After(None), NEW, ABROAD),
-        Ok(Answer::Done),
-        &[ABROAD, EMPTY, LINKING],
-    ),
-    (
-        Step::TakeGroup(NEW),
-        Ok(Answer::Next(Some(FIRST))),
-        &[EMPTY, LINKING],
-    ),
-    (
-        Step::PutGroup(Spot::Before(Some(FIRST)), NEW, INFILL),
-        Ok(Answer::Done),
-        &[INFILL, EMPTY, LINKING],
-    ),
-    (
-        Step::TakeGroup(NEW),
-        Ok(Answer::Next(Some(FIRST))),
-        &[EMPTY, LINKING],
-    ),
-    (
-        Step::PutGroup(Spot::After(Some(FIRST)), NEW, INFILL),
-        Ok(Answer::Done),
-        &[EMPTY, INFILL, LINKING],
-    ),
-    (
-        Step::TakeGroup(NEW),
-        Ok(Answer::Next(Some(SECOND))),
-        &[EMPTY, LINKING],
-    ),
-    (
-        Step::PutGroup(Spot::Before(None), NEW, ABROAD),
-        Ok(Answer::Done),
-        &[EMPTY, LINKING, ABROAD],
-    ),
-    (
-        Step::TakeGroup(NEW),
-        Ok(Answer::Next(None)),
-        &[EMPTY, LINKING],
-    ),
-    (
-        Step::PutGroup(Spot::After(Some(SECOND)), NEW, INFILL),
-        Ok(Answer::Done),
-        &[EMPTY, LINKING, INFILL],
-    ),
-    (
-        Step::TakeGroup(NEW),
-        Ok(Answer::Next(None)),
-        &[EMPTY, LINKING],
-    ),
+/// Where a group is put in, what it stands before then, and the groups then.
+type Putting = (Spot<GroupTag>, Option<GroupTag>, [&'static str; 3]);
+
+const AT_AN_END: &[Putting] = &[
+    (After(None), Some(FIRST), [ABROAD, EMPTY, LINKING]),
+    (Before(None), None, [EMPTY, LINKING, ABROAD]),
 ];
+
+const BESIDE_ANOTHER: &[Putting] = &[
+    (Before(Some(FIRST)), Some(FIRST), [INFILL, EMPTY, LINKING]),
+    (After(Some(FIRST)), Some(SECOND), [EMPTY, INFILL, LINKING]),
+    (After(Some(SECOND)), None, [EMPTY, LINKING, INFILL]),
+];
+
+/// Puts a group in at each of these places, and takes it out.
+fn put_at_each(
+    rt: &impl Abort,
+    alloc: Global,
+    plan: &mut Plan,
+    text: &'static str,
+    rows: &[Putting],
+) {
+    for (spot, next, texts) in rows.iter() {
+        let put = PutGroup(*spot, NEW, text);
+        follow_one(rt, alloc, plan, put, Done, texts.as_slice());
+        follow_one(
+            rt,
+            alloc,
+            plan,
+            TakeGroup(NEW),
+            Next(*next),
+            &[EMPTY, LINKING],
+        );
+    }
+}
 
 /// Whether the group at a place has this tag and this identity.
 pub(crate) fn is_at(plan: &Plan, i: usize, tag: GroupTag, id: Id) -> bool {
@@ -227,15 +189,12 @@ fn check_told(rt: &impl Abort, alloc: Global, plan: &Plan) {
 /// Tells that, and takes groups in at each place.
 fn tell_and_put(rt: &impl Abort, alloc: Global, plan: &mut Plan) {
     check_told(rt, alloc, plan);
-    follow_each(rt, alloc, plan, ANYWHERE);
-}
-
-fn read_and_tell(rt: &impl Abort, alloc: Global) {
-    let mut plan = plan_of(rt, alloc, &[EMPTY, LINKING]);
-    tell_and_put(rt, alloc, &mut plan);
+    put_at_each(rt, alloc, plan, ABROAD, AT_AN_END);
+    put_at_each(rt, alloc, plan, INFILL, BESIDE_ANOTHER);
 }
 
 #[test]
 fn tells_what_it_holds_and_takes_groups_in_anywhere(rt: HostRuntime) {
-    read_and_tell(&rt, rt.alloc());
+    let alloc = rt.alloc();
+    tell_and_put(&rt, alloc, &mut plan_of(&rt, alloc, &[EMPTY, LINKING]));
 }

@@ -1,10 +1,12 @@
 //! A plan once more.
 
+use crate::tests::comparing::same_groups;
 use crate::tests::digits::{ABROAD, INFILL, LINKING, REVOCATIONS, THREE};
 use crate::tests::plans::{check_shown, id, plan_of};
-use crate::tests::steps::{Answer, Step, follow};
+use crate::tests::steps::Answer::{Done, Next, Old};
+use crate::tests::steps::{Step, follow};
 use crate::tests::walking::{agrees, listed};
-use balise_plan::{Group, GroupTag, Id, PacketTag, Plan, Spot, Telegram};
+use balise_plan::{GroupTag, Id, PacketTag, Plan, Spot};
 use std::alloc::Global;
 use std::process::Abort;
 
@@ -25,44 +27,6 @@ const KNOWN: &[(u32, u32)] = &[
     (6, 100),
     (6, 150),
 ];
-
-/// Whether the packets of two telegrams have the same tags in the same order.
-fn same_packets(telegram: &Telegram, other: &Telegram) -> bool {
-    let mut same = telegram.count() == other.count();
-    for i in 0..telegram.count() {
-        match (telegram.at(i), other.at(i)) {
-            (Some((p, _)), Some((q, _))) => same &= p == q,
-            _ => same = false,
-        }
-    }
-    same
-}
-
-/// The same of two groups, their telegrams and the packets of these.
-fn same_telegrams(group: &Group, other: &Group) -> bool {
-    let mut same = group.count() == other.count();
-    for i in 0..group.count() {
-        match (group.at(i), other.at(i)) {
-            (Some((t, telegram)), Some((u, twin))) => {
-                same &= (t == u) & same_packets(telegram, twin)
-            }
-            _ => same = false,
-        }
-    }
-    same
-}
-
-/// The same of two plans, and of all in them.
-fn same_tags(plan: &Plan, other: &Plan) -> bool {
-    let mut same = plan.count() == other.count();
-    for i in 0..plan.count() {
-        match (plan.at(i), other.at(i)) {
-            (Some((g, group)), Some((h, twin))) => same &= (g == h) & same_telegrams(group, twin),
-            _ => same = false,
-        }
-    }
-    same
-}
 
 /// Whether both plans answer the same group and the same places for an identity.
 fn same_names(rt: &impl Abort, alloc: Global, plan: &Plan, other: &Plan, id: Id) -> bool {
@@ -87,7 +51,7 @@ fn same_indexes(rt: &impl Abort, alloc: Global, plan: &Plan, other: &Plan) -> bo
 /// That two plans are the same, and that the names of the second agree with its groups.
 fn check_same(rt: &impl Abort, alloc: Global, plan: &Plan, other: &Plan) {
     assert!(rt; plan.changes() == other.changes());
-    assert!(rt; same_tags(plan, other));
+    assert!(rt; same_groups(plan, other));
     check_shown(rt, other, &plan.shown().expect(rt, "memory"));
     assert!(rt; same_indexes(rt, alloc, plan, other));
     assert!(rt; agrees(rt, alloc, other, KNOWN));
@@ -100,12 +64,12 @@ fn copy_of(rt: &impl Abort, plan: &Plan) -> Plan {
 /// Puts a packet and a group in, takes a group out, and turns one of three telegrams.
 fn change(rt: &impl Abort, alloc: Global, plan: &mut Plan) {
     let packet = Step::Put(NAMED, 0, Spot::After(None), PacketTag::Fresh(1), "42403e0c");
-    follow(rt, alloc, plan, packet, Ok(Answer::Done));
+    follow(rt, alloc, plan, packet, Done);
     let group = Step::PutGroup(Spot::After(None), PUT_IN, INFILL);
-    follow(rt, alloc, plan, group, Ok(Answer::Done));
+    follow(rt, alloc, plan, group, Done);
     let taken = Step::TakeGroup(DROPPED);
-    follow(rt, alloc, plan, taken, Ok(Answer::Next(None)));
-    follow(rt, alloc, plan, Step::Turn(NAMED), Ok(Answer::Done));
+    follow(rt, alloc, plan, taken, Next(None));
+    follow(rt, alloc, plan, Step::Turn(NAMED), Done);
 }
 
 /// Renames 5.100 in the first plan, and looks whether the second is as before.
@@ -113,7 +77,7 @@ fn rename(rt: &impl Abort, alloc: Global, plan: &mut Plan, other: &Plan) {
     let shown = other.shown().expect(rt, "memory");
     let changes = other.changes();
     let renamed = Step::Rename(NAMED, 200);
-    follow(rt, alloc, plan, renamed, Ok(Answer::Old(100)));
+    follow(rt, alloc, plan, renamed, Old(100));
     check_shown(rt, other, &shown);
     assert!(rt; other.changes() == changes);
     assert!(rt; agrees(rt, alloc, other, KNOWN));

@@ -1,4 +1,11 @@
-//! Digits of groups.
+//! Digits of groups, and their tags.
+
+use balise_plan::GroupTag;
+
+/// The tags of the first and the second group that are read.
+pub(crate) const FIRST: GroupTag = GroupTag::Base(0);
+
+pub(crate) const SECOND: GroupTag = GroupTag::Base(1);
 
 /// 5.100, without packets.
 pub(crate) const EMPTY: &str = "a1007f80a0327fffffffffffffffffffffffffffffffffffffffc0";

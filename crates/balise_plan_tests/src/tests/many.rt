@@ -1,15 +1,14 @@
 //! Plans of many groups.
 
 use crate::tests::calls::is_at;
-use crate::tests::digits::LINKING;
+use crate::tests::digits::{FIRST, LINKING};
 use crate::tests::plans::{bits_of, check, check_shown, id, push_alone, put_number};
-use crate::tests::steps::{Answer, Step, follow, put_back, put_there};
+use crate::tests::steps::Answer::{Done, Old};
+use crate::tests::steps::{Step, follow, put_back, put_there};
 use crate::tests::walking::names;
 use balise_plan::{Bits, Group, GroupTag, Plan, Spot};
 use std::alloc::Global;
 use std::process::Abort;
-
-const FIRST: GroupTag = GroupTag::Base(0);
 
 fn linking(rt: &impl Abort, alloc: Global, number: u32, named: u32) -> Bits {
     let mut bits = bits_of(rt, alloc, LINKING);
@@ -112,9 +111,9 @@ fn all_name(rt: &impl Abort, alloc: Global, plan: &Plan, number: u32, old: u32) 
 /// Renumbers the group that 1,000 links name, and turns it.
 fn renumber(rt: &impl Abort, alloc: Global, plan: &mut Plan, number: u32, old: u32) {
     let step = Step::Rename(FIRST, number);
-    follow(rt, alloc, plan, step, Ok(Answer::Old(old)));
+    follow(rt, alloc, plan, step, Old(old));
     assert!(rt; all_name(rt, alloc, plan, number, old));
-    follow(rt, alloc, plan, Step::Turn(FIRST), Ok(Answer::Done));
+    follow(rt, alloc, plan, Step::Turn(FIRST), Done);
 }
 
 fn renumber_twice(rt: &impl Abort, alloc: Global, plan: &mut Plan) {

@@ -2,18 +2,13 @@
 //!
 //! In a plain run each is done. `rt try --test --fail-alloc N` makes the Nth allocation fail.
 
-use crate::tests::digits::{EMPTY, INFILL, LINKING, REVOCATIONS};
+use crate::tests::comparing::{same_group, same_groups};
+use crate::tests::digits::{EMPTY, FIRST, INFILL, LINKING, REVOCATIONS, SECOND};
 use crate::tests::plans::id;
 use crate::tests::steps::{Answer, Step, make, put_new, put_packet};
-use balise_plan::{
-    Bits, Group, GroupTag, Id, Links, Packet, PacketTag, Plan, Refusal, Spot, Telegram, Var,
-};
+use balise_plan::{Bits, Group, GroupTag, Id, Links, Packet, PacketTag, Plan, Refusal, Spot, Var};
 use std::alloc::Global;
 use std::process::Abort;
-
-const FIRST: GroupTag = GroupTag::Base(0);
-
-const SECOND: GroupTag = GroupTag::Base(1);
 
 const ONE: PacketTag = PacketTag::Base(0);
 
@@ -56,19 +51,65 @@ fn bits_of(alloc: Global, digits: &str) -> Option<Bits> {
 
 /// The bits of a group of one telegram.
 fn alone(alloc: Global, digits: &str) -> Option<Vec<Bits>> {
-    let bits = bits_of(alloc, digits)?;
+    match bits_of(alloc, digits) {
+        Some(bits) => only(alloc, bits),
+        None => None,
+    }
+}
+
+fn only(alloc: Global, bits: Bits) -> Option<Vec<Bits>> {
     let mut telegrams = Vec::new(alloc);
-    telegrams.push(bits).ok()?;
-    Some(telegrams)
+    if telegrams.push(bits).is_ok() {
+        Some(telegrams)
+    } else {
+        None
+    }
+}
+
+/// Puts a group of one telegram after the others, and says whether there was memory for it.
+fn push_alone(alloc: Global, groups: &mut Vec<Vec<Bits>>, digits: &str) -> bool {
+    match alone(alloc, digits) {
+        Some(group) => groups.push(group).is_ok(),
+        None => false,
+    }
+}
+
+fn push_groups(alloc: Global, groups: &mut Vec<Vec<Bits>>) -> bool {
+    let mut pushed = true;
+    for text in GROUPS.iter() {
+        pushed &= push_alone(alloc, groups, *text);
+    }
+    pushed
+}
+
+/// The bits of both groups.
+fn groups_of(alloc: Global) -> Option<Vec<Vec<Bits>>> {
+    let mut groups = Vec::new(alloc);
+    if push_groups(alloc, &mut groups) {
+        Some(groups)
+    } else {
+        None
+    }
 }
 
 /// The plan of both groups.
 fn plan_of(alloc: Global) -> Option<Plan> {
-    let mut groups = Vec::new(alloc);
-    for text in GROUPS.iter() {
-        groups.push(alone(alloc, *text)?).ok()?;
+    Plan::read(alloc, groups_of(alloc)?).ok()
+}
+
+/// That plan twice: one to change, and one to compare it with.
+fn two_plans(alloc: Global) -> Option<(Plan, Plan)> {
+    match plan_of(alloc) {
+        Some(plan) => with_other(plan, plan_of(alloc)),
+        None => None,
     }
-    Plan::read(alloc, groups).ok()
+}
+
+fn with_other(plan: Plan, other: Option<Plan>) -> Option<(Plan, Plan)> {
+    match other {
+        Some(other) => Some((plan, other)),
+        None => None,
+    }
 }
 
 /// The group 5.103, which names 5.100.
@@ -83,43 +124,6 @@ fn packet_of(alloc: Global) -> Option<Packet> {
     Some(packet)
 }
 
-fn is_telegram(group: &Group, i: usize, tag: u32, telegram: &Telegram) -> bool {
-    match group.at(i) {
-        Some((t, twin)) => (t == tag) & (*telegram.bits() == *twin.bits()),
-        None => false,
-    }
-}
-
-/// Whether two groups have the same bits under the same tags.
-fn same_group(group: &Group, other: &Group) -> bool {
-    let mut same = group.count() == other.count();
-    for i in 0..group.count() {
-        match group.at(i) {
-            Some((t, telegram)) => same &= is_telegram(other, i, t, telegram),
-            None => same = false,
-        }
-    }
-    same
-}
-
-fn is_group(plan: &Plan, i: usize, tag: GroupTag, group: &Group) -> bool {
-    match plan.at(i) {
-        Some((g, twin)) => (g == tag) & same_group(group, twin),
-        None => false,
-    }
-}
-
-fn same_groups(plan: &Plan, other: &Plan) -> bool {
-    let mut same = plan.count() == other.count();
-    for i in 0..plan.count() {
-        match plan.at(i) {
-            Some((g, group)) => same &= is_group(other, i, g, group),
-            None => same = false,
-        }
-    }
-    same
-}
-
 fn same_links(links: &Links, other: &Links) -> bool {
     let mut same = links.len() == other.len();
     for place in links.iter() {
@@ -130,24 +134,29 @@ fn same_links(links: &Links, other: &Links) -> bool {
 
 /// Whether both plans have the same links to an identity.
 fn same_names(plan: &Plan, other: &Plan, id: Id) -> bool {
-    let Some(links) = plan.links_to(id) else {
-        return other.links_to(id).is_none();
-    };
-    match other.links_to(id) {
-        Some(twins) => same_links(links, twins),
-        None => false,
+    match (plan.links_to(id), other.links_to(id)) {
+        (None, None) => true,
+        (Some(links), Some(twins)) => same_links(links, twins),
+        _ => false,
     }
+}
+
+fn same_indexes(plan: &Plan, other: &Plan) -> bool {
+    let mut same = true;
+    for (country, number) in KNOWN.iter() {
+        same &= names_alike(plan, other, id(*country, *number));
+    }
+    same
+}
+
+/// Whether both plans have the same group of an identity, and the same links to it.
+fn names_alike(plan: &Plan, other: &Plan, id: Id) -> bool {
+    (plan.tag_of(id) == other.tag_of(id)) & same_names(plan, other, id)
 }
 
 /// Whether two plans are the same. Takes no memory.
 fn is_same(plan: &Plan, other: &Plan) -> bool {
-    let mut same = (plan.changes() == other.changes()) & same_groups(plan, other);
-    for (country, number) in KNOWN.iter() {
-        let known = id(*country, *number);
-        same &= plan.tag_of(known) == other.tag_of(known);
-        same &= same_names(plan, other, known);
-    }
-    same
+    (plan.changes() == other.changes()) & same_groups(plan, other) & same_indexes(plan, other)
 }
 
 /// That a change was refused as out of memory, and that the plan is as the other.
@@ -156,97 +165,132 @@ fn check_refused(rt: &impl Abort, plan: &Plan, other: &Plan, fault: Refusal) {
     assert!(rt; is_same(plan, other));
 }
 
-fn check_change(rt: &impl Abort, alloc: Global, step: Step, answer: Answer) {
-    let Some(mut plan) = plan_of(alloc) else {
-        return;
-    };
-    let Some(other) = plan_of(alloc) else {
-        return;
-    };
-    match make(rt, alloc, &mut plan, step) {
-        Ok(given) => assert!(rt; given == answer),
-        Err(fault) => check_refused(rt, &plan, &other, fault),
+/// That a change was made, or refused.
+fn check_answer(rt: &impl Abort, plan: &Plan, other: &Plan, given: Answer, answer: Answer) {
+    match given {
+        Answer::Refused(fault) => check_refused(rt, plan, other, fault),
+        _ => assert!(rt; given == answer),
     }
 }
 
-fn check_changes(rt: &impl Abort, alloc: Global) {
-    for (step, answer) in CHANGES.iter() {
-        check_change(rt, alloc, *step, *answer);
+fn change(
+    rt: &impl Abort,
+    alloc: Global,
+    plan: &mut Plan,
+    other: &Plan,
+    step: Step,
+    answer: Answer,
+) {
+    let given = make(rt, alloc, plan, step);
+    check_answer(rt, plan, other, given, answer);
+}
+
+fn check_change(rt: &impl Abort, alloc: Global, step: Step, answer: Answer) {
+    if let Some((mut plan, other)) = two_plans(alloc) {
+        change(rt, alloc, &mut plan, &other, step, answer);
     }
 }
 
 #[test]
 fn makes_a_change_or_leaves_the_plan(rt: HostRuntime) {
-    check_changes(&rt, rt.alloc());
+    for (step, answer) in CHANGES.iter() {
+        check_change(&rt, rt.alloc(), *step, *answer);
+    }
+}
+
+/// Puts a packet over the first of these bits.
+fn put_over(rt: &impl Abort, packet: &Packet, bits: &mut Bits) {
+    assert!(rt; packet.width() <= bits.len());
+    packet.put_over(bits, 0);
+}
+
+/// The bits of a telegram with a packet over the first of them.
+fn over_telegram(rt: &impl Abort, alloc: Global, packet: &Packet) -> Option<Bits> {
+    let mut bits = bits_of(alloc, EMPTY)?;
+    put_over(rt, packet, &mut bits);
+    Some(bits)
+}
+
+/// That these are the same bits, where there was memory for them.
+fn check_bits(rt: &impl Abort, bits: &Option<Bits>, wanted: &Option<Bits>) {
+    if let (Some(bits), Some(wanted)) = (bits, wanted) {
+        assert!(rt; *bits == *wanted);
+    }
 }
 
 /// That a packet has the bits of another one.
 fn check_packet(rt: &impl Abort, alloc: Global, packet: &Packet, twin: &Packet) {
-    let Some(mut bits) = bits_of(alloc, EMPTY) else {
-        return;
-    };
-    let Some(mut wanted) = bits_of(alloc, EMPTY) else {
-        return;
-    };
     assert!(rt; packet.width() == twin.width());
-    assert!(rt; twin.width() <= bits.len());
-    assert!(rt; twin.width() <= wanted.len());
-    packet.put_over(&mut bits, 0);
-    twin.put_over(&mut wanted, 0);
-    assert!(rt; bits == wanted);
+    let bits = over_telegram(rt, alloc, packet);
+    check_bits(rt, &bits, &over_telegram(rt, alloc, twin));
 }
 
-fn check_put(rt: &impl Abort, alloc: Global, plan: &mut Plan, other: &Plan, packet: Packet) {
-    let Some(twin) = packet_of(alloc) else {
-        return;
-    };
-    let place = (FIRST, 0, Spot::After(None), NEW);
-    match put_packet(rt, plan, place, packet) {
-        Ok(()) => assert!(rt; plan.changes() == 1),
+/// That a change that puts something in was made.
+fn check_made(rt: &impl Abort, plan: &Plan) {
+    assert!(rt; plan.changes() == 1);
+}
+
+fn check_put(
+    rt: &impl Abort,
+    alloc: Global,
+    plan: &mut Plan,
+    other: &Plan,
+    twin: &Packet,
+    packet: Packet,
+) {
+    match put_packet(rt, plan, (FIRST, 0, Spot::After(None), NEW), packet) {
+        Ok(()) => check_made(rt, plan),
         Err((fault, back)) => {
             check_refused(rt, plan, other, fault);
-            check_packet(rt, alloc, &back, &twin);
+            check_packet(rt, alloc, &back, twin);
         }
+    }
+}
+
+fn put_one(rt: &impl Abort, alloc: Global, plan: &mut Plan, other: &Plan, twin: &Packet) {
+    if let Some(packet) = packet_of(alloc) {
+        check_put(rt, alloc, plan, other, twin, packet);
+    }
+}
+
+fn put_in(rt: &impl Abort, alloc: Global, plan: &mut Plan, other: &Plan) {
+    if let Some(twin) = packet_of(alloc) {
+        put_one(rt, alloc, plan, other, &twin);
     }
 }
 
 #[test]
 fn puts_a_packet_in_or_hands_it_back(rt: HostRuntime) {
-    let Some(mut plan) = plan_of(rt.alloc()) else {
-        return;
-    };
-    let Some(other) = plan_of(rt.alloc()) else {
-        return;
-    };
-    let Some(packet) = packet_of(rt.alloc()) else {
-        return;
-    };
-    check_put(&rt, rt.alloc(), &mut plan, &other, packet);
+    if let Some((mut plan, other)) = two_plans(rt.alloc()) {
+        put_in(&rt, rt.alloc(), &mut plan, &other);
+    }
 }
 
-fn check_put_group(rt: &impl Abort, alloc: Global, plan: &mut Plan, other: &Plan, group: Group) {
-    let Some(twin) = group_of(alloc) else {
-        return;
-    };
+fn check_put_group(rt: &impl Abort, plan: &mut Plan, other: &Plan, twin: &Group, group: Group) {
     match put_new(rt, plan, Spot::After(Some(FIRST)), NEW, group) {
-        Ok(()) => assert!(rt; plan.changes() == 1),
+        Ok(()) => check_made(rt, plan),
         Err((fault, back)) => {
             check_refused(rt, plan, other, fault);
-            assert!(rt; same_group(&back, &twin));
+            assert!(rt; same_group(&back, twin));
         }
+    }
+}
+
+fn put_one_group(rt: &impl Abort, alloc: Global, plan: &mut Plan, other: &Plan, twin: &Group) {
+    if let Some(group) = group_of(alloc) {
+        check_put_group(rt, plan, other, twin, group);
+    }
+}
+
+fn put_group_in(rt: &impl Abort, alloc: Global, plan: &mut Plan, other: &Plan) {
+    if let Some(twin) = group_of(alloc) {
+        put_one_group(rt, alloc, plan, other, &twin);
     }
 }
 
 #[test]
 fn puts_a_group_in_or_hands_it_back(rt: HostRuntime) {
-    let Some(mut plan) = plan_of(rt.alloc()) else {
-        return;
-    };
-    let Some(other) = plan_of(rt.alloc()) else {
-        return;
-    };
-    let Some(group) = group_of(rt.alloc()) else {
-        return;
-    };
-    check_put_group(&rt, rt.alloc(), &mut plan, &other, group);
+    if let Some((mut plan, other)) = two_plans(rt.alloc()) {
+        put_group_in(&rt, rt.alloc(), &mut plan, &other);
+    }
 }

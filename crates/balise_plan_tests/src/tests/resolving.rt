@@ -20,26 +20,24 @@ const OLD_PACKET: PacketTag = PacketTag::Base(0);
 
 const NEW_PACKET: PacketTag = PacketTag::Fresh(1);
 
+/// An identity: its country and its number.
+macro_rules! id {
+    ($country:expr, $number:expr) => {
+        Id {
+            country: $country,
+            number: $number,
+        }
+    };
+}
+
 /// An identity that no group has.
-const NOBODY: Id = Id {
-    country: 6,
-    number: 100,
-};
+const NOBODY: Id = id!(6, 100);
 
-const LINKING_ID: Id = Id {
-    country: 5,
-    number: 101,
-};
+const LINKING_ID: Id = id!(5, 101);
 
-const TURNED_ID: Id = Id {
-    country: 5,
-    number: 100,
-};
+const TURNED_ID: Id = id!(5, 100);
 
-const PUT_IN_ID: Id = Id {
-    country: 5,
-    number: 103,
-};
+const PUT_IN_ID: Id = id!(5, 103);
 
 /// An address, and what stands there.
 type Row = (Address, Result<Place, Refusal>);
@@ -181,10 +179,10 @@ fn check_rows(rt: &impl Abort, plan: &Plan, rows: &[Row]) {
 /// Puts a group and a packet in before the others, and turns the group of three telegrams.
 fn change(rt: &impl Abort, alloc: Global, plan: &mut Plan) {
     let group = Step::PutGroup(Spot::After(None), PUT_IN, INFILL);
-    follow(rt, alloc, plan, group, Ok(Answer::Done));
+    follow(rt, alloc, plan, group, Answer::Done);
     let packet = Step::Put(LINKING_ONE, 0, Spot::After(None), NEW_PACKET, "42403e0c");
-    follow(rt, alloc, plan, packet, Ok(Answer::Done));
-    follow(rt, alloc, plan, Step::Turn(TURNED), Ok(Answer::Done));
+    follow(rt, alloc, plan, packet, Answer::Done);
+    follow(rt, alloc, plan, Step::Turn(TURNED), Answer::Done);
 }
 
 fn check_each(rt: &impl Abort, plan: &Plan) {

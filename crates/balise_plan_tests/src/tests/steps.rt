@@ -8,6 +8,7 @@ ghost use Rattle.balise_rules.specs.Tags.{same_tag};
 ghost use Rattle.balise_rules.specs.Telegram.{Telegram, version_of};
 
 use crate::tests::plans::{check_texts, plan_of, telegrams};
+use crate::tests::steps::Answer::{Done, Next, Old, Refused};
 use crate::tests::walking::agrees;
 use balise_plan::{Bits, Group, GroupTag, Packet, PacketTag, Plan, Refusal, Spot, Telegram, Var};
 use std::alloc::Global;
@@ -33,10 +34,14 @@ pub(crate) enum Answer {
     Done,
     Old(u32),
     Next(Option<PacketTag>),
+    Refused(Refusal),
 }
 
 /// A change, its answer, and the groups that the plan shows then.
-pub(crate) type Row = (Step, Result<Answer, Refusal>, &'static [&'static str]);
+pub(crate) type Row = (Step, Answer, &'static [&'static str]);
+
+/// A refusal, and changes that are refused so.
+pub(crate) type RefusedRow = (Refusal, &'static [Step]);
 
 /// Identities that the tests speak of: country and number.
 const KNOWN: &[(u32, u32)] = &[
@@ -52,47 +57,79 @@ const KNOWN: &[(u32, u32)] = &[
     (5, 16383),
 ];
 
-/// Makes changes of a plan of these groups, which it shows at first, one after the other, and looks at each.
-pub(crate) fn follow_over(rt: &impl Abort, alloc: Global, texts: &[&str], rows: &[Row]) {
-    let mut plan = plan_of(rt, alloc, texts);
-    follow_from(rt, alloc, &mut plan, texts, rows);
+/// The plan of these groups, which it shows.
+pub(crate) fn shown_plan_of(rt: &impl Abort, alloc: Global, texts: &[&str]) -> Plan {
+    let plan = plan_of(rt, alloc, texts);
+    check_texts(rt, alloc, &plan, texts);
+    plan
 }
 
-fn follow_from(rt: &impl Abort, alloc: Global, plan: &mut Plan, texts: &[&str], rows: &[Row]) {
-    check_texts(rt, alloc, plan, texts);
-    follow_each(rt, alloc, plan, rows);
+/// Makes changes of a plan of these groups, one after the other, and looks at each.
+pub(crate) fn follow_over(rt: &impl Abort, alloc: Global, texts: &[&str], rows: &[Row]) {
+    let mut plan = shown_plan_of(rt, alloc, texts);
+    follow_each(rt, alloc, &mut plan, rows);
 }
 
 pub(crate) fn follow_each(rt: &impl Abort, alloc: Global, plan: &mut Plan, rows: &[Row]) {
     for (step, answer, texts) in rows.iter() {
-        follow(rt, alloc, plan, *step, *answer);
-        check_texts(rt, alloc, plan, *texts);
-        assert!(rt; agrees(rt, alloc, plan, KNOWN));
+        follow_one(rt, alloc, plan, *step, *answer, *texts);
+    }
+}
+
+/// Makes a change, after which the plan shows these groups, and its names agree.
+pub(crate) fn follow_one(
+    rt: &impl Abort,
+    alloc: Global,
+    plan: &mut Plan,
+    step: Step,
+    answer: Answer,
+    texts: &[&str],
+) {
+    follow(rt, alloc, plan, step, answer);
+    check_texts(rt, alloc, plan, texts);
+    assert!(rt; agrees(rt, alloc, plan, KNOWN));
+}
+
+/// Makes changes of a plan of these groups that are refused, and looks at each. The plan stays.
+pub(crate) fn refuse_over(rt: &impl Abort, alloc: Global, texts: &[&str], rows: &[RefusedRow]) {
+    let mut plan = shown_plan_of(rt, alloc, texts);
+    for (refusal, steps) in rows.iter() {
+        refuse(rt, alloc, &mut plan, texts, *refusal, *steps);
+    }
+}
+
+fn refuse(
+    rt: &impl Abort,
+    alloc: Global,
+    plan: &mut Plan,
+    texts: &[&str],
+    refusal: Refusal,
+    steps: &[Step],
+) {
+    for step in steps.iter() {
+        follow_one(rt, alloc, plan, *step, Refused(refusal), texts);
     }
 }
 
 /// Makes a change, and looks at its answer and at the count of changes.
-pub(crate) fn follow(
-    rt: &impl Abort,
-    alloc: Global,
-    plan: &mut Plan,
-    step: Step,
-    answer: Result<Answer, Refusal>,
-) {
+pub(crate) fn follow(rt: &impl Abort, alloc: Global, plan: &mut Plan, step: Step, answer: Answer) {
     let before = plan.changes();
     assert!(rt; before < 1000);
     assert!(rt; make(rt, alloc, plan, step) == answer);
-    let changes = if answer.is_ok() { before + 1 } else { before };
+    let changes = if is_refused(answer) {
+        before
+    } else {
+        before + 1
+    };
     assert!(rt; plan.changes() == changes);
 }
 
+fn is_refused(answer: Answer) -> bool {
+    matches!(answer, Refused(_))
+}
+
 /// Makes a change.
-pub(crate) fn make(
-    rt: &impl Abort,
-    alloc: Global,
-    plan: &mut Plan,
-    step: Step,
-) -> Result<Answer, Refusal> {
+pub(crate) fn make(rt: &impl Abort, alloc: Global, plan: &mut Plan, step: Step) -> Answer {
     assert!(rt; plan.changes() < 1000);
     match step {
         Step::Field(g, t, p, var, k, value) => old(plan.set_field(g, t, p, var, k, value)),
@@ -107,66 +144,57 @@ pub(crate) fn make(
     }
 }
 
-fn old(answer: Result<u32, Refusal>) -> Result<Answer, Refusal> {
+fn old(answer: Result<u32, Refusal>) -> Answer {
     match answer {
-        Ok(old) => Ok(Answer::Old(old)),
-        Err(fault) => Err(fault),
+        Ok(old) => Old(old),
+        Err(fault) => Refused(fault),
     }
 }
 
-fn next(answer: Result<Option<PacketTag>, Refusal>) -> Result<Answer, Refusal> {
+fn next(answer: Result<Option<PacketTag>, Refusal>) -> Answer {
     match answer {
-        Ok(next) => Ok(Answer::Next(next)),
-        Err(fault) => Err(fault),
+        Ok(next) => Next(next),
+        Err(fault) => Refused(fault),
     }
 }
 
-fn taken(answer: Result<(Packet, Option<PacketTag>), Refusal>) -> Result<Answer, Refusal> {
+fn taken(answer: Result<(Packet, Option<PacketTag>), Refusal>) -> Answer {
     match answer {
-        Ok((_, next)) => Ok(Answer::Next(next)),
-        Err(fault) => Err(fault),
+        Ok((_, next)) => Next(next),
+        Err(fault) => Refused(fault),
     }
 }
 
-fn group_taken(answer: Result<(Group, Option<GroupTag>), Refusal>) -> Result<Answer, Refusal> {
+fn group_taken(answer: Result<(Group, Option<GroupTag>), Refusal>) -> Answer {
     match answer {
-        Ok((_, next)) => Ok(Answer::Next(next)),
-        Err(fault) => Err(fault),
+        Ok((_, next)) => Next(next),
+        Err(fault) => Refused(fault),
     }
 }
 
-fn done(answer: Result<(), Refusal>) -> Result<Answer, Refusal> {
+fn done(answer: Result<(), Refusal>) -> Answer {
     match answer {
-        Ok(()) => Ok(Answer::Done),
-        Err(fault) => Err(fault),
+        Ok(()) => Done,
+        Err(fault) => Refused(fault),
     }
 }
+
+/// Where a packet is put in: its group, its telegram and its place there, and its tag.
+pub(crate) type Place = (GroupTag, u32, Spot<PacketTag>, PacketTag);
 
 /// Puts a packet in under a tag that is new. One that is refused comes back as it was.
-fn put(
-    rt: &impl Abort,
-    alloc: Global,
-    plan: &mut Plan,
-    place: (GroupTag, u32, Spot<PacketTag>, PacketTag),
-    text: &str,
-) -> Result<Answer, Refusal> {
+fn put(rt: &impl Abort, alloc: Global, plan: &mut Plan, place: Place, text: &str) -> Answer {
     let bits = Bits::digits(alloc, text).expect(rt, "digits");
     put_bits(rt, alloc, plan, place, &bits)
 }
 
-fn put_bits(
-    rt: &impl Abort,
-    alloc: Global,
-    plan: &mut Plan,
-    place: (GroupTag, u32, Spot<PacketTag>, PacketTag),
-    bits: &Bits,
-) -> Result<Answer, Refusal> {
+fn put_bits(rt: &impl Abort, alloc: Global, plan: &mut Plan, place: Place, bits: &Bits) -> Answer {
     let (packet, end) = Packet::read(bits, 0, 33).expect(rt, "a packet");
     match put_packet(rt, plan, place, packet) {
-        Ok(()) => Ok(Answer::Done),
+        Ok(()) => Done,
         Err((fault, packet)) => {
             check_back(rt, alloc, &packet, bits, end);
-            Err(fault)
+            Refused(fault)
         }
     }
 }
@@ -174,7 +202,7 @@ fn put_bits(
 pub(crate) fn put_packet(
     rt: &impl Abort,
     plan: &mut Plan,
-    place: (GroupTag, u32, Spot<PacketTag>, PacketTag),
+    place: Place,
     packet: Packet,
 ) -> Result<(), (Refusal, Packet)> {
     let (g, t, spot, p) = place;
@@ -206,13 +234,13 @@ fn put_group(
     spot: Spot<GroupTag>,
     g: GroupTag,
     text: &str,
-) -> Result<Answer, Refusal> {
+) -> Answer {
     let group = Group::read(alloc, telegrams(rt, alloc, text)).expect(rt, "a group");
     match put_new(rt, plan, spot, g, group) {
-        Ok(()) => Ok(Answer::Done),
+        Ok(()) => Done,
         Err((fault, back)) => {
             check_group(rt, &back, &telegrams(rt, alloc, text));
-            Err(fault)
+            Refused(fault)
         }
     }
 }

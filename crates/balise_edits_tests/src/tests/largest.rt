@@ -25,10 +25,6 @@ const NAMES: &str =
 const NAMES_TURNED: &str =
     "0000a032e20013006488004c019220013006488004c019220013006488004c019220013006488004c019220013006488004c019220013006488004c019220013006488004c019220013006488004c019220013006488004c019220013006488004c0193ffffc";
 
-/// A packet 5 with nineteen links to the group itself, 5.101, at D_LINK 100 to 118.
-const LINKS: &str =
-    "0000a032c1518180190032c3240194032c30033006586006700cb0c00d001961801a4032c30035006586006b00cb0c00d801961801b4032c30037006586006f00cb0c00e001961801c4032c30039006586007300cb0c00e801961801d4032c3003b0065867fc";
-
 /// The telegrams of the eight that end with these digits.
 fn eight(rt: &impl Abort, alloc: Global, digits: &str) -> Vec<Bits> {
     let mut text = String::new(alloc);
@@ -125,6 +121,10 @@ fn check_review(rt: &impl Abort, alloc: Global, plan: &Plan) {
     assert!(rt; lines.len() == 448);
     assert!(rt; lines == expected);
 }
+
+/// A packet 5 with nineteen links to the group itself, 5.101, at D_LINK 100 to 118.
+const LINKS: &str =
+    "0000a032c1518180190032c3240194032c30033006586006700cb0c00d001961801a4032c30035006586006b00cb0c00d801961801b4032c30037006586006f00cb0c00e001961801c4032c30039006586007300cb0c00e801961801d4032c3003b0065867fc";
 
 #[test]
 fn has_the_longest_review(rt: HostRuntime) {

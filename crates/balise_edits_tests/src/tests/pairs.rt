@@ -1,6 +1,7 @@
 //! Two edits one after the other: whether the later one is apart from the earlier, or stands after it.
 
 use crate::tests::doing::{made, read};
+use crate::tests::edits::Step::{Add, Delete, Drop, Insert, Move, Renumber, Set, Turn};
 use crate::tests::edits::{
     ABROAD, ELSEWHERE, EMPTY, FIRST, FOUR, LINK, LINKING, REVOCATION, SECOND, Step, THIRD, TSR_5,
     TSR_6, TWO, edit_of,
@@ -17,20 +18,25 @@ pub(crate) fn check(rt: &impl Abort, entry: &Entry, later: &Entry, is_apart: boo
 }
 
 // That, where a plan of these groups gets both edits.
-fn pair(rt: &impl Abort, alloc: Global, row: &Row) {
-    let (groups, first, later, is_apart, behind) = *row;
+fn pair(rt: &impl Abort, alloc: Global, groups: &[&str], first: Step, later: &Later) {
+    let (step, is_apart, behind) = *later;
     let mut plan = read(rt, alloc, groups);
     let entry = made(rt, &mut plan, 1, edit_of(rt, alloc, first));
-    let next = made(rt, &mut plan, 2, edit_of(rt, alloc, later));
+    let next = made(rt, &mut plan, 2, edit_of(rt, alloc, step));
     check(rt, &entry, &next, is_apart, behind);
 }
 
-/// Groups, two edits of their plan, whether the later one is apart from the earlier, and whether it stands after it.
-type Row = (&'static [&'static str], Step, Step, bool, bool);
+/// A later edit, whether it is apart from the earlier, and whether it stands after it.
+type Later = (Step, bool, bool);
+
+/// Groups, an edit of their plan, and edits that may follow it, each alone.
+type Row = (&'static [&'static str], Step, &'static [Later]);
 
 fn check_rows(rt: &impl Abort, alloc: Global, rows: &[Row]) {
-    for row in rows.iter() {
-        pair(rt, alloc, row);
+    for (groups, first, each) in rows.iter() {
+        for later in each.iter() {
+            pair(rt, alloc, *groups, *first, later);
+        }
     }
 }
 
@@ -41,50 +47,28 @@ const LINKED: &[&str] = &[EMPTY, LINKING];
 
 /// The third of four packets goes to the front; it stood before the fourth. Now the second stands before the fourth,
 /// and is taken out; or the first is, which stands before the second.
-const MOVES: &[Row] = &[
-    (
-        &[FOUR],
-        Step::Move(THIRD, None),
-        Step::Delete(SECOND),
-        false,
-        false,
-    ),
-    (
-        &[FOUR],
-        Step::Move(THIRD, None),
-        Step::Delete(FIRST),
-        true,
-        false,
-    ),
-    (
-        &[FOUR],
-        Step::Move(THIRD, None),
-        Step::Insert(FIRST, Some(SECOND), "2c402e"),
-        true,
-        false,
-    ),
-];
+const MOVES: &[Row] = &[(
+    &[FOUR],
+    Move(THIRD, None),
+    &[
+        (Delete(SECOND), false, false),
+        (Delete(FIRST), true, false),
+        (Insert(FIRST, Some(SECOND), "2c402e"), true, false),
+    ],
+)];
 
 #[test]
 fn moves_in_one_telegram(rt: HostRuntime) {
     check_rows(&rt, rt.alloc(), MOVES);
 }
 
+const DELETED: Later = (Delete(FIRST), false, false);
+
+const INSERTED: Later = (Insert(FIRST, None, TSR_5), false, false);
+
 const ROOM: &[Row] = &[
-    (
-        &[REVOCATION],
-        Step::Delete(FIRST),
-        Step::Insert(FIRST, None, TSR_5),
-        false,
-        false,
-    ),
-    (
-        &[REVOCATION],
-        Step::Insert(FIRST, None, TSR_5),
-        Step::Delete(FIRST),
-        false,
-        false,
-    ),
+    (&[REVOCATION], Delete(FIRST), &[INSERTED]),
+    (&[REVOCATION], Insert(FIRST, None, TSR_5), &[DELETED]),
 ];
 
 #[test]
@@ -92,27 +76,21 @@ fn room_of_a_deletion(rt: HostRuntime) {
     check_rows(&rt, rt.alloc(), ROOM);
 }
 
+/// A link gets another distance.
+const FURTHER: Step = Set(SECOND, FIRST, Var::DLink, 0, 600);
+
+/// A link names another group.
+const NAMED: Step = Set(SECOND, FIRST, Var::NidBg, 0, 102);
+
 const FIELDS_AND_NUMBERS: &[Row] = &[
+    (LINKED, FURTHER, &[(Renumber(SECOND, 300), true, false)]),
     (
         LINKED,
-        Step::Set(SECOND, FIRST, Var::DLink, 0, 600),
-        Step::Renumber(SECOND, 300),
-        true,
-        false,
-    ),
-    (
-        LINKED,
-        Step::Set(SECOND, FIRST, Var::NidBg, 0, 102),
-        Step::Renumber(SECOND, 300),
-        true,
-        false,
-    ),
-    (
-        LINKED,
-        Step::Set(SECOND, FIRST, Var::NidBg, 0, 102),
-        Step::Renumber(FIRST, 300),
-        false,
-        false,
+        NAMED,
+        &[
+            (Renumber(SECOND, 300), true, false),
+            (Renumber(FIRST, 300), false, false),
+        ],
     ),
 ];
 
@@ -124,31 +102,13 @@ fn fields_and_numbers(rt: HostRuntime) {
 const FIELDS_AND_TURNS: &[Row] = &[
     (
         LINKED,
-        Step::Set(SECOND, FIRST, Var::QLinkorientation, 0, 0),
-        Step::Set(SECOND, FIRST, Var::NidBg, 0, 102),
-        false,
-        false,
+        Set(SECOND, FIRST, Var::QLinkorientation, 0, 0),
+        &[(NAMED, false, false), (Turn(FIRST), false, false)],
     ),
     (
         LINKED,
-        Step::Set(SECOND, FIRST, Var::QLinkorientation, 0, 0),
-        Step::Turn(FIRST),
-        false,
-        false,
-    ),
-    (
-        LINKED,
-        Step::Set(SECOND, FIRST, Var::QDir, 0, 0),
-        Step::Turn(SECOND),
-        false,
-        false,
-    ),
-    (
-        LINKED,
-        Step::Set(SECOND, FIRST, Var::QDir, 0, 0),
-        Step::Turn(FIRST),
-        true,
-        false,
+        Set(SECOND, FIRST, Var::QDir, 0, 0),
+        &[(Turn(SECOND), false, false), (Turn(FIRST), true, false)],
     ),
 ];
 
@@ -157,28 +117,22 @@ fn fields_and_turns(rt: HostRuntime) {
     check_rows(&rt, rt.alloc(), FIELDS_AND_TURNS);
 }
 
+/// The packet names 5.100. Where a plan has 5.100 and 5.200 and the first is renumbered, its number is free then.
 const INSERTIONS_AND_NAMES: &[Row] = &[
     (
         LINKED,
-        Step::Turn(FIRST),
-        Step::Insert(FIRST, None, LINK),
-        false,
-        false,
+        Turn(FIRST),
+        &[(Insert(FIRST, None, LINK), false, false)],
     ),
     (
         LINKED,
-        Step::Renumber(SECOND, 300),
-        Step::Insert(FIRST, None, LINK),
-        true,
-        false,
+        Renumber(SECOND, 300),
+        &[(Insert(FIRST, None, LINK), true, false)],
     ),
-    // The number that the packet names is free now.
     (
         &[EMPTY, ELSEWHERE],
-        Step::Renumber(FIRST, 300),
-        Step::Insert(SECOND, None, LINK),
-        false,
-        false,
+        Renumber(FIRST, 300),
+        &[(Insert(SECOND, None, LINK), false, false)],
     ),
 ];
 
@@ -187,28 +141,18 @@ fn insertions_and_names(rt: HostRuntime) {
     check_rows(&rt, rt.alloc(), INSERTIONS_AND_NAMES);
 }
 
+const ALL: &[&str] = &[EMPTY, LINKING, ABROAD];
+
 const REMOVALS_AND_NAMES: &[Row] = &[
     (
-        &[EMPTY, LINKING, ABROAD],
-        Step::Drop(SECOND),
-        Step::Renumber(FIRST, 300),
-        false,
-        false,
+        ALL,
+        Drop(SECOND),
+        &[
+            (Renumber(FIRST, 300), false, false),
+            (Renumber(THIRD, 300), true, false),
+        ],
     ),
-    (
-        &[EMPTY, LINKING, ABROAD],
-        Step::Drop(SECOND),
-        Step::Renumber(THIRD, 300),
-        true,
-        false,
-    ),
-    (
-        &[EMPTY, LINKING, ABROAD],
-        Step::Set(SECOND, FIRST, Var::DLink, 0, 600),
-        Step::Drop(SECOND),
-        false,
-        false,
-    ),
+    (ALL, FURTHER, &[(Drop(SECOND), false, false)]),
 ];
 
 #[test]
@@ -216,21 +160,17 @@ fn removals_and_names(rt: HostRuntime) {
     check_rows(&rt, rt.alloc(), REMOVALS_AND_NAMES);
 }
 
+/// What is moved after what was put in; but not where it stood before that.
 const MOVES_BEHIND: &[Row] = &[
     (
         &[TWO],
-        Step::Insert(FIRST, None, TSR_5),
-        Step::Move(SECOND, NEW),
-        false,
-        true,
+        Insert(FIRST, None, TSR_5),
+        &[(Move(SECOND, NEW), false, true)],
     ),
-    // The packet that is moved stood before what was put in.
     (
         &[TWO],
-        Step::Insert(FIRST, Some(FIRST), TSR_6),
-        Step::Move(FIRST, NEW),
-        false,
-        false,
+        Insert(FIRST, Some(FIRST), TSR_6),
+        &[(Move(FIRST, NEW), false, false)],
     ),
 ];
 
@@ -239,22 +179,14 @@ fn moves_behind(rt: HostRuntime) {
     check_rows(&rt, rt.alloc(), MOVES_BEHIND);
 }
 
-const GROUPS_BEHIND: &[Row] = &[
-    (
-        &[EMPTY, ELSEWHERE],
-        Step::Add(Some(FIRST), LINKING),
-        Step::Add(NEW, ABROAD),
-        false,
-        true,
-    ),
-    (
-        &[EMPTY, ELSEWHERE],
-        Step::Add(Some(FIRST), LINKING),
-        Step::Add(Some(SECOND), ABROAD),
-        true,
-        false,
-    ),
-];
+const GROUPS_BEHIND: &[Row] = &[(
+    &[EMPTY, ELSEWHERE],
+    Add(Some(FIRST), LINKING),
+    &[
+        (Add(NEW, ABROAD), false, true),
+        (Add(Some(SECOND), ABROAD), true, false),
+    ],
+)];
 
 #[test]
 fn groups_behind(rt: HostRuntime) {

@@ -1,8 +1,15 @@
 //! Edits of known plans: each is done, taken back and done again.
 
 use crate::tests::doing::{Row, follow_over};
-use crate::tests::edits::{ABROAD, EMPTY, FIRST, LINKING, REVOCATION, SECOND, Step, THIRD};
-use balise_edits::{Refusal, Tag, Var};
+use crate::tests::edits::Step::{
+    Add, Delete, Drop, Insert, InsertOld, Move, Renumber, Set, SetHead, Turn,
+};
+use crate::tests::edits::{ABROAD, EMPTY, FIRST, LINKING, REVOCATION, SECOND, THIRD};
+use balise_edits::Refusal::{
+    GroupTwice, NoRoom, NoSuchGroup, NoSuchVariable, NumberReserved, NumberTaken, SamePlace,
+    Steering, ValueTooWide,
+};
+use balise_edits::{Tag, Var};
 
 /// What the first edit puts in.
 const NEW: Tag = Tag::Fresh(1);
@@ -15,12 +22,12 @@ const SET_ABROAD: &str = "a1007f80a03341503b204b20300c88c08190012d8cffffffffffc0
 
 const NUMBERS: &[Row] = &[
     (
-        Step::Renumber(FIRST, 200),
+        Renumber(FIRST, 200),
         Ok(()),
         &[RENUMBERED, FOLLOWING, ABROAD],
     ),
     (
-        Step::Set(THIRD, FIRST, Var::NidBg, 1, 150),
+        Set(THIRD, FIRST, Var::NidBg, 1, 150),
         Ok(()),
         &[RENUMBERED, FOLLOWING, SET_ABROAD],
     ),
@@ -39,7 +46,7 @@ const OTHER_RENUMBERED: &str = "a1007f80c0647fffffffffffffffffffffffffffffffffff
 const ABROAD_FOLLOWING: &str = "a1007f80a03341503b204b20301908c0819001918cffffffffffc0";
 
 const INHERITED: &[Row] = &[(
-    Step::Renumber(FIRST, 200),
+    Renumber(FIRST, 200),
     Ok(()),
     &[OTHER_RENUMBERED, ABROAD_FOLLOWING, EMPTY],
 )];
@@ -51,26 +58,10 @@ fn countries_inherited(rt: HostRuntime) {
 
 /// A number that is only named is taken too.
 const REFUSED: &[Row] = &[
-    (
-        Step::Renumber(FIRST, 100),
-        Err(Refusal::NumberTaken),
-        &[LINKING],
-    ),
-    (
-        Step::Renumber(FIRST, 16383),
-        Err(Refusal::NumberReserved),
-        &[LINKING],
-    ),
-    (
-        Step::Renumber(FIRST, 16384),
-        Err(Refusal::ValueTooWide),
-        &[LINKING],
-    ),
-    (
-        Step::Renumber(SECOND, 7),
-        Err(Refusal::NoSuchGroup),
-        &[LINKING],
-    ),
+    (Renumber(FIRST, 100), Err(NumberTaken), &[LINKING]),
+    (Renumber(FIRST, 16383), Err(NumberReserved), &[LINKING]),
+    (Renumber(FIRST, 16384), Err(ValueTooWide), &[LINKING]),
+    (Renumber(SECOND, 7), Err(NoSuchGroup), &[LINKING]),
 ];
 
 #[test]
@@ -78,15 +69,19 @@ fn numbers_refused(rt: HostRuntime) {
     follow_over(&rt, rt.alloc(), &[LINKING], REFUSED);
 }
 
+/// 5.100 of three telegrams: packet 65 and M_DUP 1, an unknown packet and M_DUP 2, no packet.
 const THREE: &str =
     "a104ff80a032505023a0a0320096047fffffffffffffffffffffc0 a1157f80a0324b0010697fffffffffffffffffffffffffffffffc0 a1247f80a0327fffffffffffffffffffffffffffffffffffffffc0";
 
-const TURNED: &str =
-    "a1047f80a0327fffffffffffffffffffffffffffffffffffffffc0 a114ff80a0324b1010697fffffffffffffffffffffffffffffffc0 a1257f80a032504023a0a0320096047fffffffffffffffffffffc0";
-
-const LINK_TURNED: &str = "a1007f80a032c15022a07d00322301ffffffffffffffffffffffc0";
-
-const TURN: &[Row] = &[(Step::Turn(FIRST), Ok(()), &[TURNED, LINK_TURNED])];
+/// 5.100 of three telegrams is turned, and with it the link of 5.101 to it.
+const TURN: &[Row] = &[(
+    Turn(FIRST),
+    Ok(()),
+    &[
+        "a1047f80a0327fffffffffffffffffffffffffffffffffffffffc0 a114ff80a0324b1010697fffffffffffffffffffffffffffffffc0 a1257f80a032504023a0a0320096047fffffffffffffffffffffc0",
+        "a1007f80a032c15022a07d00322301ffffffffffffffffffffffc0",
+    ],
+)];
 
 #[test]
 fn a_group_turned(rt: HostRuntime) {
@@ -98,8 +93,8 @@ const COLOURED: &str = "a1007f80a0327fc05a5a5a5a5a5a5a5a5a5a5a5a5a5a5a5a5a5a40";
 const FILLED: &str = "a1007f80a03250900f82ffda5a5a5a5a5a5a5a5a5a5a5a5a5a5a40";
 
 const PADDED: &[Row] = &[
-    (Step::Insert(FIRST, None, "42403e0a"), Ok(()), &[FILLED]),
-    (Step::Delete(NEW), Ok(()), &[COLOURED]),
+    (Insert(FIRST, None, "42403e0a"), Ok(()), &[FILLED]),
+    (Delete(NEW), Ok(()), &[COLOURED]),
 ];
 
 #[test]
@@ -107,20 +102,15 @@ fn padding_stays(rt: HostRuntime) {
     follow_over(&rt, rt.alloc(), &[COLOURED], PADDED);
 }
 
+/// A packet 44 that a telegram of 210 bits has room for, and no other with it.
+const LARGEST: &str = "2c813000000000000000000000000000000000";
+
 const FULL: &str = "a1007f80a0324b204c000000000000000000000000000000003fc0";
 
 const WIDE: &[Row] = &[
-    (
-        Step::Insert(FIRST, None, "2c813000000000000000000000000000000000"),
-        Ok(()),
-        &[FULL],
-    ),
-    (
-        Step::Insert(FIRST, Some(NEW), "42403e0a"),
-        Err(Refusal::NoRoom),
-        &[FULL],
-    ),
-    (Step::Move(NEW, None), Err(Refusal::SamePlace), &[FULL]),
+    (Insert(FIRST, None, LARGEST), Ok(()), &[FULL]),
+    (Insert(FIRST, Some(NEW), "42403e0a"), Err(NoRoom), &[FULL]),
+    (Move(NEW, None), Err(SamePlace), &[FULL]),
 ];
 
 #[test]
@@ -130,20 +120,15 @@ fn a_telegram_filled(rt: HostRuntime) {
 
 const PROFILE: &str = "1b40fa80002810659224107d062180f0";
 
+/// A group with that packet, and with a speed in it that is set.
+const SLOWER: &str = "a1007f80a03246d03ea0000a04196489041f4188603dffffffffc0";
+
 const FASTER: &str = "a1007f80a03246d03ea0000a04196489041f4188603fffffffffc0";
 
 const SPEEDS: &[Row] = &[
-    (
-        Step::Insert(FIRST, None, PROFILE),
-        Ok(()),
-        &["a1007f80a03246d03ea0000a04196489041f4188603dffffffffc0"],
-    ),
-    (Step::Set(FIRST, NEW, Var::VDiff, 2, 31), Ok(()), &[FASTER]),
-    (
-        Step::Set(FIRST, NEW, Var::QDiff, 0, 1),
-        Err(Refusal::Steering),
-        &[FASTER],
-    ),
+    (Insert(FIRST, None, PROFILE), Ok(()), &[SLOWER]),
+    (Set(FIRST, NEW, Var::VDiff, 2, 31), Ok(()), &[FASTER]),
+    (Set(FIRST, NEW, Var::QDiff, 0, 1), Err(Steering), &[FASTER]),
 ];
 
 #[test]
@@ -157,14 +142,14 @@ const OLD_PUT: &str = "90007f80a03246d03ea0000a04196489041f4188603dffffffffc0";
 
 /// In version 1.0 a packet 27 isn't known.
 const UNKNOWN: &[Row] = &[
-    (Step::InsertOld(FIRST, PROFILE), Ok(()), &[OLD_PUT]),
+    (InsertOld(FIRST, PROFILE), Ok(()), &[OLD_PUT]),
     (
-        Step::Set(FIRST, NEW, Var::VDiff, 0, 1),
-        Err(Refusal::NoSuchVariable),
+        Set(FIRST, NEW, Var::VDiff, 0, 1),
+        Err(NoSuchVariable),
         &[OLD_PUT],
     ),
     (
-        Step::Set(FIRST, NEW, Var::QDir, 0, 2),
+        Set(FIRST, NEW, Var::QDir, 0, 2),
         Ok(()),
         &["90007f80a03246e03ea0000a04196489041f4188603dffffffffc0"],
     ),
@@ -179,17 +164,13 @@ const COUNTED: &str = "a1007f00a03250900f82ffffffffffffffffffffffffffffffffc0";
 
 const GROUPS: &[Row] = &[
     (
-        Step::SetHead(FIRST, Var::MMcount, 254),
+        SetHead(FIRST, Var::MMcount, 254),
         Ok(()),
         &[COUNTED, LINKING],
     ),
-    (Step::Drop(FIRST), Ok(()), &[LINKING]),
-    (Step::Add(Some(SECOND), EMPTY), Ok(()), &[LINKING, EMPTY]),
-    (
-        Step::Add(None, LINKING),
-        Err(Refusal::GroupTwice),
-        &[LINKING, EMPTY],
-    ),
+    (Drop(FIRST), Ok(()), &[LINKING]),
+    (Add(Some(SECOND), EMPTY), Ok(()), &[LINKING, EMPTY]),
+    (Add(None, LINKING), Err(GroupTwice), &[LINKING, EMPTY]),
 ];
 
 #[test]

@@ -55,19 +55,31 @@ fn call(rt: &impl Abort, alloc: Global, session: &mut Session, step: Step, seria
     }
 }
 
-/// Does the edits, and then the calls, of which at most one meets the growth that is refused.
-fn edit_and_call(rt: &impl Abort, alloc: Global, session: &mut Session) {
+/// A session of the three groups, with the edits.
+fn edited(rt: &impl Abort, alloc: Global) -> Session {
+    let mut session = session_of(rt, alloc, OVER);
     for (step, serial) in EDITS.iter() {
-        ask(rt, alloc, session, *step, Ok(*serial));
+        ask(rt, alloc, &mut session, *step, Ok(*serial));
     }
+    session
+}
+
+/// Does the calls, of which at most one meets the growth that is refused.
+fn make_calls(rt: &impl Abort, alloc: Global, session: &mut Session) {
     for (step, serial) in CALLS.iter() {
         call(rt, alloc, session, *step, *serial);
     }
 }
 
+/// The growths that this test meets are those before the first undo of the next one.
+#[test]
+fn edits_alone(rt: HostRuntime) {
+    let session = edited(&rt, rt.alloc());
+    assert!(rt; session.standing().len() == EDITS.len());
+}
+
 #[test]
 fn each_growth_refused(rt: HostRuntime) {
-    let alloc = rt.alloc();
-    let mut session = session_of(&rt, alloc, OVER);
-    edit_and_call(&rt, alloc, &mut session);
+    let mut session = edited(&rt, rt.alloc());
+    make_calls(&rt, rt.alloc(), &mut session);
 }

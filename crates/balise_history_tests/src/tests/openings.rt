@@ -307,16 +307,16 @@ fn check_struck(rt: &impl Abort, alloc: Global, session: &mut Session) {
     assert!(rt; shows(rt, alloc, session, &[both]));
 }
 
-#[test]
-fn what_stood_behind_is_read_back(rt: HostRuntime) {
-    let alloc = rt.alloc();
-    check_read_back(&rt, alloc, &mut session_of(&rt, alloc, &[EMPTY]));
-}
-
 // That the session that a journal of one with a struck insertion is read as does it again.
 fn check_read_back(rt: &impl Abort, alloc: Global, session: &mut Session) {
     insert_and_strike(rt, alloc, session);
     check_struck(rt, alloc, &mut read_back(rt, alloc, &[EMPTY], session));
+}
+
+#[test]
+fn what_stood_behind_is_read_back(rt: HostRuntime) {
+    let alloc = rt.alloc();
+    check_read_back(&rt, alloc, &mut session_of(&rt, alloc, &[EMPTY]));
 }
 
 /// That a session's journal tells so many entries, and that they are lent, where all of them stand.

@@ -1,11 +1,18 @@
 //! Commands one after another, with their answers and the plan that they leave.
 
 use crate::tests::links::check_links;
+use crate::tests::sessions::Step::{
+    Add, Delete, Drop, Insert, Move, Redo, Renumber, Set, SetHead, Strike, Turn, Undo,
+};
 use crate::tests::sessions::{
     ABROAD, EMPTY, LINKING, REVOCATION, Stage, Step, TSR_5, TSR_6, TSR_7, TSR_9, ask, follow_over,
     session_of, shows,
 };
-use balise_history::{Refusal, Session, Var};
+use balise_history::Refusal::{
+    BadLength, DependsOn, LayoutMismatch, NoSuchEdit, NoSuchGroup, NoSuchPacket, NoSuchVariable,
+    NothingToRedo, NothingToUndo, PacketCut, PacketZero, SpareBits, Steering, ValueTooWide,
+};
+use balise_history::{Session, Var};
 use std::alloc::Global;
 use std::process::Abort;
 
@@ -14,33 +21,27 @@ const FOUR: &str = "a1007f80a03250900f80a1201f0242403e0684807c13ffffffffc0";
 
 const NOT_THERE: &[Stage] = &[(
     &[
-        (Step::Undo, Err(Refusal::NothingToUndo)),
-        (Step::Redo, Err(Refusal::NothingToRedo)),
-        (Step::Strike(9), Err(Refusal::NoSuchEdit)),
-        (Step::Turn(999), Err(Refusal::NoSuchGroup)),
-        (Step::Delete(100, 0), Err(Refusal::NoSuchPacket)),
-        (Step::Move(100, 0, 0), Err(Refusal::NoSuchPacket)),
-        (
-            Step::Set(100, Var::NidTsr, 0, 9),
-            Err(Refusal::NoSuchPacket),
-        ),
-        (Step::Add(2, LINKING), Err(Refusal::NoSuchGroup)),
+        (Undo, Err(NothingToUndo)),
+        (Redo, Err(NothingToRedo)),
+        (Strike(9), Err(NoSuchEdit)),
+        (Turn(999), Err(NoSuchGroup)),
+        (Delete(100, 0), Err(NoSuchPacket)),
+        (Move(100, 0, 0), Err(NoSuchPacket)),
+        (Set(100, Var::NidTsr, 0, 9), Err(NoSuchPacket)),
+        (Add(2, LINKING), Err(NoSuchGroup)),
     ],
     &[EMPTY],
 )];
 
 const DIGITS: &[Stage] = &[(
     &[
-        (Step::Insert(100, 0, "00"), Err(Refusal::PacketZero)),
-        (Step::Insert(100, 0, "ff"), Err(Refusal::LayoutMismatch)),
-        (Step::Insert(100, 0, "42403e"), Err(Refusal::PacketCut)),
-        (Step::Insert(100, 0, "42403e0a00"), Err(Refusal::BadLength)),
-        (Step::Insert(100, 0, "42403e0b"), Err(Refusal::SpareBits)),
-        (
-            Step::Insert(100, 0, "4240400a"),
-            Err(Refusal::LayoutMismatch),
-        ),
-        (Step::Insert(100, 2, TSR_5), Err(Refusal::NoSuchPacket)),
+        (Insert(100, 0, "00"), Err(PacketZero)),
+        (Insert(100, 0, "ff"), Err(LayoutMismatch)),
+        (Insert(100, 0, "42403e"), Err(PacketCut)),
+        (Insert(100, 0, "42403e0a00"), Err(BadLength)),
+        (Insert(100, 0, "42403e0b"), Err(SpareBits)),
+        (Insert(100, 0, "4240400a"), Err(LayoutMismatch)),
+        (Insert(100, 2, TSR_5), Err(NoSuchPacket)),
     ],
     &[EMPTY],
 )];
@@ -53,10 +54,10 @@ fn refuses_what_is_not_there_and_digits_in_order(rt: HostRuntime) {
 
 const SET: &[Stage] = &[(
     &[
-        (Step::Set(100, Var::NidTsr, 0, 9), Ok(1)),
-        (Step::Undo, Ok(1)),
-        (Step::Redo, Ok(1)),
-        (Step::Strike(1), Ok(1)),
+        (Set(100, Var::NidTsr, 0, 9), Ok(1)),
+        (Undo, Ok(1)),
+        (Redo, Ok(1)),
+        (Strike(1), Ok(1)),
     ],
     &[REVOCATION],
 )];
@@ -68,10 +69,10 @@ fn sets_and_undoes(rt: HostRuntime) {
 
 const SET_ANEW: &[Stage] = &[(
     &[
-        (Step::Set(100, Var::NidTsr, 0, 9), Ok(1)),
-        (Step::Undo, Ok(1)),
-        (Step::SetHead(100, Var::QLink, 1), Ok(2)),
-        (Step::Redo, Err(Refusal::NothingToRedo)),
+        (Set(100, Var::NidTsr, 0, 9), Ok(1)),
+        (Undo, Ok(1)),
+        (SetHead(100, Var::QLink, 1), Ok(2)),
+        (Redo, Err(NothingToRedo)),
     ],
     &[REVOCATION],
 )];
@@ -81,31 +82,32 @@ fn a_new_edit_drops_what_was_undone(rt: HostRuntime) {
     follow_over(&rt, rt.alloc(), &[REVOCATION], SET_ANEW);
 }
 
-const THREE: &str =
-    "a104ff80a032505023a0a0320096047fffffffffffffffffffffc0 a1157f80a0324b0010697fffffffffffffffffffffffffffffffc0 a1247f80a0327fffffffffffffffffffffffffffffffffffffffc0";
-
-const TURNED: &str =
-    "a1047f80a0327fffffffffffffffffffffffffffffffffffffffc0 a114ff80a0324b1010697fffffffffffffffffffffffffffffffc0 a1257f80a032504023a0a0320096047fffffffffffffffffffffc0";
-
-const TURNED_WITH_PACKET: &str =
-    "a1047f80a03250900f82ffffffffffffffffffffffffffffffffc0 a114ff80a0324b1010697fffffffffffffffffffffffffffffffc0 a1257f80a032504023a0a0320096047fffffffffffffffffffffc0";
-
 /// 5.101, whose packet 5 names 5.100 in the other direction.
 const FOLLOWING: &str = "a1007f80a032c15022a07d00322301ffffffffffffffffffffffc0";
 
+/// 5.100 of three telegrams: packet 65 and M_DUP 1, an unknown packet and M_DUP 2, no packet.
+const THREE: &str =
+    "a104ff80a032505023a0a0320096047fffffffffffffffffffffc0 a1157f80a0324b0010697fffffffffffffffffffffffffffffffc0 a1247f80a0327fffffffffffffffffffffffffffffffffffffffc0";
+
 const TURN: &[Stage] = &[
-    (&[(Step::Turn(100), Ok(1))], &[TURNED, FOLLOWING]),
+    (
+        &[(Turn(100), Ok(1))],
+        &[
+            "a1047f80a0327fffffffffffffffffffffffffffffffffffffffc0 a114ff80a0324b1010697fffffffffffffffffffffffffffffffc0 a1257f80a032504023a0a0320096047fffffffffffffffffffffc0",
+            FOLLOWING,
+        ],
+    ),
     (
         &[
-            (Step::Insert(100, 0, TSR_5), Ok(2)),
-            (Step::Strike(1), Err(Refusal::DependsOn(2))),
+            (Insert(100, 0, TSR_5), Ok(2)),
+            (Strike(1), Err(DependsOn(2))),
         ],
-        &[TURNED_WITH_PACKET, FOLLOWING],
+        &[
+            "a1047f80a03250900f82ffffffffffffffffffffffffffffffffc0 a114ff80a0324b1010697fffffffffffffffffffffffffffffffc0 a1257f80a032504023a0a0320096047fffffffffffffffffffffc0",
+            FOLLOWING,
+        ],
     ),
-    (
-        &[(Step::Strike(2), Ok(2)), (Step::Strike(1), Ok(1))],
-        &[THREE, LINKING],
-    ),
+    (&[(Strike(2), Ok(2)), (Strike(1), Ok(1))], &[THREE, LINKING]),
 ];
 
 #[test]
@@ -115,9 +117,9 @@ fn turns_a_group_of_three(rt: HostRuntime) {
 
 const DELETED_BEHIND: &[Stage] = &[(
     &[
-        (Step::Move(100, 2, 0), Ok(1)),
-        (Step::Delete(100, 2), Ok(2)),
-        (Step::Strike(1), Err(Refusal::DependsOn(2))),
+        (Move(100, 2, 0), Ok(1)),
+        (Delete(100, 2), Ok(2)),
+        (Strike(1), Err(DependsOn(2))),
     ],
     &["a1007f80a03250900f81a1201f0142403e09ffffffffffffffffc0"],
 )];
@@ -127,24 +129,24 @@ const STRUCK: &str = "a1007f80a03250900f8121201f0342403e09ffffffffffffffffc0";
 const DELETED_BEFORE: &[Stage] = &[
     (
         &[
-            (Step::Move(100, 2, 0), Ok(1)),
-            (Step::Delete(100, 1), Ok(2)),
-            (Step::Strike(1), Ok(1)),
+            (Move(100, 2, 0), Ok(1)),
+            (Delete(100, 1), Ok(2)),
+            (Strike(1), Ok(1)),
         ],
         &[STRUCK],
     ),
     (
-        &[(Step::Redo, Ok(1))],
+        &[(Redo, Ok(1))],
         &["a1007f80a03250900f81a1201f0242403e09ffffffffffffffffc0"],
     ),
-    (&[(Step::Strike(1), Ok(1))], &[STRUCK]),
+    (&[(Strike(1), Ok(1))], &[STRUCK]),
 ];
 
 const INSERTED_BEHIND: &[Stage] = &[(
     &[
-        (Step::Move(100, 2, 0), Ok(1)),
-        (Step::Insert(100, 3, "2c402e"), Ok(2)),
-        (Step::Strike(1), Ok(1)),
+        (Move(100, 2, 0), Ok(1)),
+        (Insert(100, 3, "2c402e"), Ok(2)),
+        (Strike(1), Ok(1)),
     ],
     &["a1007f80a03250900f80a1201f022c402e84807c0d0900f827ffc0"],
 )];
@@ -158,9 +160,9 @@ fn strikes_among_four_packets(rt: HostRuntime) {
 
 const FILLED_AGAIN: &[Stage] = &[(
     &[
-        (Step::Delete(100, 0), Ok(1)),
-        (Step::Insert(100, 0, TSR_5), Ok(2)),
-        (Step::Strike(1), Err(Refusal::DependsOn(2))),
+        (Delete(100, 0), Ok(1)),
+        (Insert(100, 0, TSR_5), Ok(2)),
+        (Strike(1), Err(DependsOn(2))),
     ],
     &[REVOCATION],
 )];
@@ -174,14 +176,14 @@ fn room_that_was_filled_again(rt: HostRuntime) {
 const LATER_PACKET: &[Stage] = &[
     (
         &[
-            (Step::Insert(100, 0, TSR_5), Ok(1)),
-            (Step::Insert(100, 1, TSR_6), Ok(2)),
-            (Step::Strike(1), Ok(1)),
+            (Insert(100, 0, TSR_5), Ok(1)),
+            (Insert(100, 1, TSR_6), Ok(2)),
+            (Strike(1), Ok(1)),
         ],
         &["a1007f80a03250900f837fffffffffffffffffffffffffffffffc0"],
     ),
     (
-        &[(Step::Redo, Ok(1))],
+        &[(Redo, Ok(1))],
         &["a1007f80a03250900f82a1201f06ffffffffffffffffffffffffc0"],
     ),
 ];
@@ -189,13 +191,13 @@ const LATER_PACKET: &[Stage] = &[
 const LATER_GROUP: &[Stage] = &[
     (
         &[
-            (Step::Add(1, LINKING), Ok(1)),
-            (Step::Add(2, ABROAD), Ok(2)),
-            (Step::Strike(1), Ok(1)),
+            (Add(1, LINKING), Ok(1)),
+            (Add(2, ABROAD), Ok(2)),
+            (Strike(1), Ok(1)),
         ],
         &[EMPTY, ABROAD],
     ),
-    (&[(Step::Redo, Ok(1))], &[EMPTY, LINKING, ABROAD]),
+    (&[(Redo, Ok(1))], &[EMPTY, LINKING, ABROAD]),
 ];
 
 #[test]
@@ -206,9 +208,9 @@ fn strikes_under_a_later_packet_and_group(rt: HostRuntime) {
 
 const RENUMBERED_LATER: &[Stage] = &[(
     &[
-        (Step::Add(1, LINKING), Ok(1)),
-        (Step::Renumber(101, 300), Ok(2)),
-        (Step::Strike(1), Err(Refusal::DependsOn(2))),
+        (Add(1, LINKING), Ok(1)),
+        (Renumber(101, 300), Ok(2)),
+        (Strike(1), Err(DependsOn(2))),
     ],
     &[
         EMPTY,
@@ -224,16 +226,16 @@ fn an_added_group_that_a_later_edit_needs(rt: HostRuntime) {
 const MOVED_BEHIND: &[Stage] = &[
     (
         &[
-            (Step::Insert(100, 1, TSR_6), Ok(1)),
-            (Step::Insert(100, 2, TSR_7), Ok(2)),
-            (Step::Insert(100, 0, TSR_9), Ok(3)),
-            (Step::Move(100, 3, 1), Ok(4)),
-            (Step::Strike(3), Ok(3)),
+            (Insert(100, 1, TSR_6), Ok(1)),
+            (Insert(100, 2, TSR_7), Ok(2)),
+            (Insert(100, 0, TSR_9), Ok(3)),
+            (Move(100, 3, 1), Ok(4)),
+            (Strike(3), Ok(3)),
         ],
         &["a1007f80a03250900f83a1201f0542403e0dffffffffffffffffc0"],
     ),
     (
-        &[(Step::Redo, Ok(3))],
+        &[(Redo, Ok(3))],
         &["a1007f80a03250900f84a1201f0742403e0a84807c1bffffffffc0"],
     ),
 ];
@@ -245,18 +247,12 @@ fn strikes_under_a_move_behind(rt: HostRuntime) {
 
 const LINKS: &[Stage] = &[(
     &[
-        (Step::Set(102, Var::NidBg, 1, 150), Ok(1)),
-        (
-            Step::Set(102, Var::NidBg, 2, 5),
-            Err(Refusal::NoSuchVariable),
-        ),
-        (Step::Set(102, Var::NidC, 0, 7), Err(Refusal::Steering)),
-        (
-            Step::Set(102, Var::NidBg, 0, 16384),
-            Err(Refusal::ValueTooWide),
-        ),
-        (Step::Undo, Ok(1)),
-        (Step::Redo, Ok(1)),
+        (Set(102, Var::NidBg, 1, 150), Ok(1)),
+        (Set(102, Var::NidBg, 2, 5), Err(NoSuchVariable)),
+        (Set(102, Var::NidC, 0, 7), Err(Steering)),
+        (Set(102, Var::NidBg, 0, 16384), Err(ValueTooWide)),
+        (Undo, Ok(1)),
+        (Redo, Ok(1)),
     ],
     &["a1007f80a03341503b204b20300c88c08190012d8cffffffffffc0"],
 )];
@@ -273,12 +269,12 @@ const NAMING: &str = "a1007f80a032c15022a07d00646301ffffffffffffffffffffffc0";
 
 const RENUMBER: &[Stage] = &[
     (
-        &[(Step::Renumber(100, 200), Ok(1))],
+        &[(Renumber(100, 200), Ok(1))],
         &[RENUMBERED, NAMING, ABROAD],
     ),
-    (&[(Step::Undo, Ok(1))], &[EMPTY, LINKING, ABROAD]),
-    (&[(Step::Redo, Ok(1))], &[RENUMBERED, NAMING, ABROAD]),
-    (&[(Step::Strike(1), Ok(1))], &[EMPTY, LINKING, ABROAD]),
+    (&[(Undo, Ok(1))], &[EMPTY, LINKING, ABROAD]),
+    (&[(Redo, Ok(1))], &[RENUMBERED, NAMING, ABROAD]),
+    (&[(Strike(1), Ok(1))], &[EMPTY, LINKING, ABROAD]),
 ];
 
 #[test]
@@ -288,9 +284,9 @@ fn renumbers_a_group_that_is_named(rt: HostRuntime) {
 
 /// Sets a distance of a group that links, renumbers the group, and puts a packet in before.
 const EDIT_LINKING: &[(Step, u32)] = &[
-    (Step::Set(101, Var::DLink, 0, 600), 1),
-    (Step::Renumber(101, 300), 2),
-    (Step::Insert(300, 0, TSR_5), 3),
+    (Set(101, Var::DLink, 0, 600), 1),
+    (Renumber(101, 300), 2),
+    (Insert(300, 0, TSR_5), 3),
 ];
 
 fn edit_linking(rt: &impl Abort, alloc: Global, session: &mut Session) {
@@ -325,16 +321,16 @@ fn strike_link(rt: &impl Abort, alloc: Global, session: &mut Session) {
 
 const DROPPED_AND_ADDED: &[Stage] = &[(
     &[
-        (Step::Drop(100), Ok(1)),
-        (Step::Drop(101), Ok(2)),
-        (Step::Add(0, REVOCATION), Ok(3)),
-        (Step::Undo, Ok(3)),
-        (Step::Undo, Ok(2)),
-        (Step::Undo, Ok(1)),
-        (Step::Undo, Err(Refusal::NothingToUndo)),
-        (Step::Redo, Ok(1)),
-        (Step::Redo, Ok(2)),
-        (Step::Redo, Ok(3)),
+        (Drop(100), Ok(1)),
+        (Drop(101), Ok(2)),
+        (Add(0, REVOCATION), Ok(3)),
+        (Undo, Ok(3)),
+        (Undo, Ok(2)),
+        (Undo, Ok(1)),
+        (Undo, Err(NothingToUndo)),
+        (Redo, Ok(1)),
+        (Redo, Ok(2)),
+        (Redo, Ok(3)),
     ],
     &[REVOCATION],
 )];

@@ -22,16 +22,21 @@ fn is_doubled(map: &OrderedMap<u32>, count: u32) -> bool {
     same
 }
 
+/// Puts values in one by one, up to so many, and returns how many there was memory for.
+fn put_up_to(map: &mut OrderedMap<u32>, count: u32) -> u32 {
+    for n in 0..count {
+        if !put(map, n as usize, Tag::Base(n), n.wrapping_mul(2)) {
+            return n;
+        }
+    }
+    count
+}
+
 /// Fills two blocks one by one. A value is put in, or all stays.
 fn fill_map(rt: &impl Abort, alloc: Global) {
     let mut map = OrderedMap::new(alloc);
-    for n in 0..1025 {
-        if !put(&mut map, n as usize, Tag::Base(n), 2 * n) {
-            assert!(rt; is_doubled(&map, n));
-            return;
-        }
-    }
-    assert!(rt; is_doubled(&map, 1025));
+    let held = put_up_to(&mut map, 1025);
+    assert!(rt; is_doubled(&map, held));
 }
 
 #[test]
@@ -91,16 +96,21 @@ fn is_first(links: &Links, count: u32) -> bool {
     same & (n == count)
 }
 
+/// Puts places in one by one, and returns how many there was memory for.
+fn insert_up_to(alloc: Global, links: &mut Links, count: u32) -> u32 {
+    for n in 0..count {
+        if links.insert(alloc, nth(n)).is_err() {
+            return n;
+        }
+    }
+    count
+}
+
 /// Grows a set from one place over a list to a tree. A place is put in, or all stays.
 fn fill_links(rt: &impl Abort, alloc: Global) {
     let mut links = Links::new();
-    for n in 0..100 {
-        if links.insert(alloc, nth(n)).is_err() {
-            assert!(rt; is_first(&links, n));
-            return;
-        }
-    }
-    assert!(rt; is_first(&links, 100));
+    let held = insert_up_to(alloc, &mut links, 100);
+    assert!(rt; is_first(&links, held));
 }
 
 #[test]

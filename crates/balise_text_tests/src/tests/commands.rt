@@ -14,30 +14,40 @@ const GROUP: Id = Id {
 /// What reading a line answers.
 type Answer = Result<Request, Refusal>;
 
+/// The command of an edit that was read.
+fn edit(answer: &Answer) -> Option<&Command> {
+    match answer {
+        Ok(Request::Edit(command)) => Some(command),
+        _ => None,
+    }
+}
+
 fn is_set(answer: &Answer) -> bool {
     matches!(
-        answer,
-        Ok(Request::Edit(Command::SetVar {
+        edit(answer),
+        Some(Command::SetVar {
             id,
             pig: 0,
             pkt: 1,
             var: Var::NidTsr,
             k: 2,
             value: 9,
-        })) if *id == GROUP
+        }) if *id == GROUP
     )
 }
 
 fn is_head(answer: &Answer) -> bool {
-    matches!(
-        answer,
-        Ok(Request::Edit(Command::SetHead {
-            id,
-            pig: 7,
-            var: Var::MMcount,
-            value: 4_294_967_295,
-        })) if *id == GROUP
-    )
+    match edit(answer) {
+        Some(
+            Command::SetHead {
+                id,
+                pig,
+                var,
+                value,
+            },
+        ) => { (*id == GROUP) & (*pig == 7) & (*var == Var::MMcount) & (*value == 4_294_967_295) }
+        _ => false,
+    }
 }
 
 #[test]
@@ -49,24 +59,18 @@ fn edits_of_fields_are_read(rt: HostRuntime) {
 
 fn is_insert(answer: &Answer) -> bool {
     matches!(
-        answer,
-        Ok(Request::Edit(Command::InsertPacket { id, pig: 0, at: 1, digits }))
+        edit(answer),
+        Some(Command::InsertPacket { id, pig: 0, at: 1, digits })
             if *id == GROUP && digits.len() == 32
     )
 }
 
 fn is_delete(answer: &Answer) -> bool {
-    matches!(
-        answer,
-        Ok(Request::Edit(Command::DeletePacket { id, pig: 0, pkt: 3 })) if *id == GROUP
-    )
+    matches!(edit(answer), Some(Command::DeletePacket { id, pig: 0, pkt: 3 }) if *id == GROUP)
 }
 
 fn is_move(answer: &Answer) -> bool {
-    matches!(
-        answer,
-        Ok(Request::Edit(Command::MovePacket { id, pig: 0, pkt: 3, at: 1 })) if *id == GROUP
-    )
+    matches!(edit(answer), Some(Command::MovePacket { id, pig: 0, pkt: 3, at: 1 }) if *id == GROUP)
 }
 
 #[test]
@@ -80,25 +84,19 @@ fn edits_of_packets_are_read(rt: HostRuntime) {
 const ADD: &[u8] = b"add 2 a1007f80a0327fffffffffffffffffffffffffffffffffffffffc0";
 
 fn is_add(answer: &Answer) -> bool {
-    matches!(
-        answer,
-        Ok(Request::Edit(Command::AddGroup { at: 2, telegrams })) if telegrams.len() == 1
-    )
+    matches!(edit(answer), Some(Command::AddGroup { at: 2, telegrams }) if telegrams.len() == 1)
 }
 
 fn is_drop(answer: &Answer) -> bool {
-    matches!(answer, Ok(Request::Edit(Command::DropGroup { id })) if *id == GROUP)
+    matches!(edit(answer), Some(Command::DropGroup { id }) if *id == GROUP)
 }
 
 fn is_renumber(answer: &Answer) -> bool {
-    matches!(
-        answer,
-        Ok(Request::Edit(Command::Renumber { id, number: 16383 })) if *id == GROUP
-    )
+    matches!(edit(answer), Some(Command::Renumber { id, number: 16383 }) if *id == GROUP)
 }
 
 fn is_turn(answer: &Answer) -> bool {
-    matches!(answer, Ok(Request::Edit(Command::TurnGroup { id })) if *id == GROUP)
+    matches!(edit(answer), Some(Command::TurnGroup { id }) if *id == GROUP)
 }
 
 #[test]
@@ -270,8 +268,8 @@ fn are_all(telegrams: &[Bits], telegram: &Bits) -> bool {
 
 /// Whether so many telegrams are added at place 2, each with these bits.
 fn is_add_of(answer: &Answer, telegram: &Bits, count: usize) -> bool {
-    match answer {
-        Ok(Request::Edit(Command::AddGroup { at: 2, telegrams })) => {
+    match edit(answer) {
+        Some(Command::AddGroup { at: 2, telegrams }) => {
             telegrams.len() == count && are_all(telegrams, telegram)
         }
         _ => false,

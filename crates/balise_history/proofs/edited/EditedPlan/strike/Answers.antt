@@ -12,9 +12,10 @@ use Rattle.balise_history.proofs.Cuts.{got, all-behind}
 use Rattle.balise_history.proofs.Entries.{none-there, behind-ascends, rising-drop}
 use Rattle.balise_history.proofs.Few.{few-held}
 use Rattle.balise_history.proofs.Taking.{rising-standing, there}
-use Rattle.balise_history.proofs.Answering.{view, is-last, took-out, strike-accepts, strike-missing, strike-dependent, strike-wants, strike-may-run-out, out-of-memory}
+use Rattle.balise_history.proofs.Answering.{view, HeldIn, is-last, took-out, strike-accepts, strike-missing, strike-dependent, strike-wants, strike-may-run-out, out-of-memory}
 use Rattle.balise_rules.proofs.Cases.{unsome}
 use Rattle.balise_history.proofs.edited.EditedPlan.strike.Goals as goal
+use Rattle.balise_history.proofs.edited.EditedPlan.strike.Goals.{After-place_of-place, After-serial, Else-serial, In_ok-behind, In_ok-take_out}
 
 pub place_of-place-requires : goal.place_of-place-requires
 place_of-place-requires c = rw c.standing-standing.ensures (rising-standing c.self.inside.plan.groups c.self.inside.history.standing c.self.inside.history.stack c.self.inside.next c.self.invariant)
@@ -25,162 +26,142 @@ past [] n e l g = cc
 past (x ∷ xs) zero e l g = omega arith
 past (x ∷ xs) (suc n) e l g = past xs n e (omega arith) g
 
+-- the place of the serial is that among the entries that stand
+placed : (c : After-place_of-place) → c.place_of-place.result ≡ place_of c.args.serial c.self.inside.history.standing
+placed c = c.place_of-place.ensures.place ∙ ap (place_of c.args.serial) c.standing-standing.ensures
+
+stands_there : (c : After-serial) → slice_get c.self.inside.history.standing c.place_of-place.result ≡ Some c.index-standing-place.result
+stands_there c =
+    ap (λ (es : List Entry). slice_get es c.place_of-place.result) (sym c.standing-standing.ensures)
+    ∙ got c.standing-standing.result.now c.place_of-place.result c.index-standing-place.result c.if-place-standing.false ∙ ap Some (sym c.index-standing-place.is)
+
+has_serial : (c : Else-serial) → c.index-standing-place.result.0.0 ≡ c.args.serial
+has_serial c = sym c.serial.ensures ∙ c.if-serial.false
+
+-- the entries that stand after it
+abbrev later_ones : Else-serial → List Entry
+later_ones c = drop (suc c.place_of-place.result) c.self.inside.history.standing
+
+later_are : (c : Else-serial) → take (length c.standing-standing.result.now - (c.place_of-place.result + 1)) (drop (c.place_of-place.result + 1) c.standing-standing.result.now) ≡ later_ones c
+later_are c =
+    let xs : List Entry = c.standing-standing.result.now in
+    let n : ℕ = c.place_of-place.result in
+    all-behind xs (n + 1) ∙ ap (λ (m : ℕ). drop m xs) (add-one n) ∙ ap (drop (suc n)) c.standing-standing.ensures
+
+independent : (c : In_ok-behind) → first_dependent c.index-standing-place.result (later_ones (goal.at.In_ok-behind c).Else-serial) ≡ None
+independent c = ap (first_dependent c.index-standing-place.result) (sym (later_are (goal.at.In_ok-behind c).Else-serial)) ∙ c.in_ok-behind.ensures.independent
+
+behind_are : (c : In_ok-behind) → c.in_ok-behind.behind.items ≡ serials_behind c.index-standing-place.result (later_ones (goal.at.In_ok-behind c).Else-serial)
+behind_are c = c.in_ok-behind.ensures.ok ∙ ap (serials_behind c.index-standing-place.result) (later_are (goal.at.In_ok-behind c).Else-serial)
+
+is_held : (c : In_ok-take_out) → HeldIn c.take_out.new.plan c.take_out.new.self c.self.inside.next
+is_held c =
+    let at = goal.at.In_ok-take_out c in
+    (took-out c.in_ok-take_out.field-0 c.self.inside.plan c.self.inside.history c.self.inside.next c.place_of-place.result c.index-standing-place.result c.in_ok-behind.behind.items c.take_out.new.plan c.take_out.new.self c.self.invariant
+    (stands_there at.After-serial) (independent at.In_ok-behind) (behind_are at.In_ok-behind) c.in_ok-take_out.ensures.takes).held
+
 pub returns-then-place-standing-clause-answers : goal.returns-then-place-standing-clause-answers
 returns-then-place-standing-clause-answers c =
     let h = c.self.inside.history in
     let s = c.args.serial in
     let up = rising-standing c.self.inside.plan.groups h.standing h.stack c.self.inside.next c.self.invariant in
-    let p : c.place_of-place.result ≡ place_of s h.standing = c.place_of-place.ensures.place ∙ ap (place_of s) c.standing-standing.ensures in
+    let p = placed (goal.at.returns-then-place-standing-clause-answers c).After-place_of-place in
     let l : length h.standing ≤ place_of s h.standing = omega (arith, p, ap (λ (es : List Entry). length es) c.standing-standing.ensures) in
     let n = none-there s h.standing up (λ e g q. past h.standing (place_of s h.standing) e l g) in
     subst (λ (e : Edited). Refuses (Strike s) e NoSuchEdit e) c.self.view_is (strike-missing c.self.inside.plan h c.self.inside.next s c.self.invariant n)
 
 pub returns-then-serial-clause-answers : goal.returns-then-serial-clause-answers
 returns-then-serial-clause-answers c =
+    let at = goal.at.returns-then-serial-clause-answers c in
     let h = c.self.inside.history in
     let s = c.args.serial in
-    let xs : List Entry = c.standing-standing.result.now in
-    let e0 : Entry = c.index-standing-place.result in
+    let g : slice_get h.standing (place_of s h.standing) ≡ Some c.index-standing-place.result = ap (slice_get h.standing) (sym (placed at.After-place_of-place)) ∙ stands_there at.After-serial in
     let up = rising-standing c.self.inside.plan.groups h.standing h.stack c.self.inside.next c.self.invariant in
-    let p : c.place_of-place.result ≡ place_of s h.standing = c.place_of-place.ensures.place ∙ ap (place_of s) c.standing-standing.ensures in
-    let g : slice_get h.standing (place_of s h.standing) ≡ Some e0 =
-    ap (slice_get h.standing) (sym p) ∙ ap (λ (es : List Entry). slice_get es c.place_of-place.result) (sym c.standing-standing.ensures) ∙ got xs c.place_of-place.result e0 c.if-place-standing.false ∙ ap Some (sym c.index-standing-place.is) in
     let n = none-there s h.standing up (λ e k q. c.if-serial.true (c.serial.ensures ∙ ap (λ (x : Entry). x.0.0) (unsome (sym g ∙ k)) ∙ q)) in
     subst (λ (e : Edited). Refuses (Strike s) e NoSuchEdit e) c.self.view_is (strike-missing c.self.inside.plan h c.self.inside.next s c.self.invariant n)
 
--- the later entries
-behind-of : (xs st : List Entry) (n : ℕ) → xs ≡ st → take (length xs - (n + 1)) (drop (n + 1) xs) ≡ drop (suc n) st
-behind-of xs st n e = all-behind xs (n + 1) ∙ ap (λ (m : ℕ). drop m xs) (add-one n) ∙ ap (drop (suc n)) e
-
 pub returns-in_err-behind-clause-answers : goal.returns-in_err-behind-clause-answers
 returns-in_err-behind-clause-answers c =
+    let at = goal.at.returns-in_err-behind-clause-answers c in
+    let p = c.self.inside.plan in
     let h = c.self.inside.history in
     let s = c.args.serial in
-    let xs : List Entry = c.standing-standing.result.now in
-    let n : ℕ = c.place_of-place.result in
     let e : Entry = c.index-standing-place.result in
-    let g : slice_get h.standing n ≡ Some e = ap (λ (es : List Entry). slice_get es n) (sym c.standing-standing.ensures) ∙ got xs n e c.if-place-standing.false ∙ ap Some (sym c.index-standing-place.is) in
-    let q : e.0.0 ≡ s = sym c.serial.ensures ∙ c.if-serial.false in
     let r = c.in_err-behind.field-0.0 in
-    let w : Refuses (Strike s) (view c.self.inside.plan h c.self.inside.next) r (view c.self.inside.plan h c.self.inside.next) =
-    ⊎_elim (λ m. strike-wants c.self.inside.plan h c.self.inside.next n s e c.self.inside.plan h r c.self.invariant g q (λ w. absurd (c.in_err-behind.ensures.always w m.0)) (m.0, refl, refl))
-    (λ d. strike-dependent c.self.inside.plan h c.self.inside.next n s e r d.0 c.self.invariant g q (ap (first_dependent e) (sym (behind-of xs h.standing n c.standing-standing.ensures)) ∙ d.1) d.2)
+    let g = stands_there at.After-serial in
+    let q = has_serial at.Else-serial in
+    let w : Refuses (Strike s) (view p h c.self.inside.next) r (view p h c.self.inside.next) =
+    ⊎_elim (λ m. strike-wants p h c.self.inside.next c.place_of-place.result s e p h r c.self.invariant g q (λ w. absurd (c.in_err-behind.ensures.always w m.0)) (m.0, refl, refl))
+    (λ d. strike-dependent p h c.self.inside.next c.place_of-place.result s e r d.0 c.self.invariant g q (ap (first_dependent e) (sym (later_are at.Else-serial)) ∙ d.1) d.2)
     c.in_err-behind.ensures.fault in
-    let p = err_from_is_err_and c.from_residual.result c.from_residual.ensures.1 in
-    rw (p.1, p.2) (subst (λ (x : Edited). Refuses (Strike s) x r x) c.self.view_is w)
+    let z = err_from_is_err_and c.from_residual.result c.from_residual.ensures.1 in
+    rw (z.1, z.2) (subst (λ (x : Edited). Refuses (Strike s) x r x) c.self.view_is w)
 
 pub take_out-requires-clause-last : goal.take_out-requires-clause-last
 take_out-requires-clause-last c = λ f k.
-    let h = c.self.inside.history in
-    let xs : List Entry = c.standing-standing.result.now in
-    let n : ℕ = c.place_of-place.result in
-    let e : Entry = c.index-standing-place.result in
-    let g : slice_get h.standing n ≡ Some e = ap (λ (es : List Entry). slice_get es n) (sym c.standing-standing.ensures) ∙ got xs n e c.if-place-standing.false ∙ ap Some (sym c.index-standing-place.is) in
-    let d : first_dependent e (drop (suc n) h.standing) ≡ None = ap (first_dependent e) (sym (behind-of xs h.standing n c.standing-standing.ensures)) ∙ c.in_ok-behind.ensures.independent in
-    is-last c.self.inside.plan h c.self.inside.next n e f c.self.invariant g d k
+    let at = goal.at.take_out-requires-clause-last c in
+    is-last c.self.inside.plan c.self.inside.history c.self.inside.next c.place_of-place.result c.index-standing-place.result f c.self.invariant (stands_there at.After-serial) (independent at.In_ok-behind) k
 
 pub take_out-requires-clause-rising : goal.take_out-requires-clause-rising
 take_out-requires-clause-rising c =
     let h = c.self.inside.history in
-    let xs : List Entry = c.standing-standing.result.now in
     let n : ℕ = c.place_of-place.result in
-    let e : Entry = c.index-standing-place.result in
     let up = rising-standing c.self.inside.plan.groups h.standing h.stack c.self.inside.next c.self.invariant in
-    let b : c.in_ok-behind.behind.items ≡ serials_behind e (drop (suc n) h.standing) = c.in_ok-behind.ensures.ok ∙ ap (serials_behind e) (behind-of xs h.standing n c.standing-standing.ensures) in
-    subst Ascends (sym b) (behind-ascends e (drop (suc n) h.standing) (rising-drop (suc n) h.standing up))
+    subst Ascends (sym (behind_are (goal.at.take_out-requires-clause-rising c).In_ok-behind)) (behind-ascends c.index-standing-place.result (drop (suc n) h.standing) (rising-drop (suc n) h.standing up))
 
 pub invariant_of-self-2 : goal.invariant_of-self-2
-invariant_of-self-2 c =
-    let h = c.self.inside.history in
-    let xs : List Entry = c.standing-standing.result.now in
-    let n : ℕ = c.place_of-place.result in
-    let e : Entry = c.index-standing-place.result in
-    let g : slice_get h.standing n ≡ Some e = ap (λ (es : List Entry). slice_get es n) (sym c.standing-standing.ensures) ∙ got xs n e c.if-place-standing.false ∙ ap Some (sym c.index-standing-place.is) in
-    let d : first_dependent e (drop (suc n) h.standing) ≡ None = ap (first_dependent e) (sym (behind-of xs h.standing n c.standing-standing.ensures)) ∙ c.in_ok-behind.ensures.independent in
-    let b : c.in_ok-behind.behind.items ≡ serials_behind e (drop (suc n) h.standing) = c.in_ok-behind.ensures.ok ∙ ap (serials_behind e) (behind-of xs h.standing n c.standing-standing.ensures) in
-    (took-out c.in_ok-take_out.field-0 c.self.inside.plan h c.self.inside.next n e c.in_ok-behind.behind.items c.take_out.new.plan c.take_out.new.self c.self.invariant g d b c.in_ok-take_out.ensures.takes).held
+invariant_of-self-2 c = is_held (goal.at.invariant_of-self-2 c).In_ok-take_out
 
 pub returns-clause-answers : goal.returns-clause-answers
 returns-clause-answers c =
-    let h = c.self.inside.history in
+    let at = goal.at.returns-clause-answers c in
     let s = c.args.serial in
-    let xs : List Entry = c.standing-standing.result.now in
-    let n : ℕ = c.place_of-place.result in
-    let e : Entry = c.index-standing-place.result in
-    let g : slice_get h.standing n ≡ Some e = ap (λ (es : List Entry). slice_get es n) (sym c.standing-standing.ensures) ∙ got xs n e c.if-place-standing.false ∙ ap Some (sym c.index-standing-place.is) in
-    let d : first_dependent e (drop (suc n) h.standing) ≡ None = ap (first_dependent e) (sym (behind-of xs h.standing n c.standing-standing.ensures)) ∙ c.in_ok-behind.ensures.independent in
-    let b : c.in_ok-behind.behind.items ≡ serials_behind e (drop (suc n) h.standing) = c.in_ok-behind.ensures.ok ∙ ap (serials_behind e) (behind-of xs h.standing n c.standing-standing.ensures) in
-    let q : e.0.0 ≡ s = sym c.serial.ensures ∙ c.if-serial.false in
-    let a = strike-accepts c.in_ok-take_out.field-0 c.self.inside.plan h c.self.inside.next n s e c.in_ok-behind.behind.items c.take_out.new.plan c.take_out.new.self c.self.invariant g q d b c.in_ok-take_out.ensures.takes in
+    let a = strike-accepts c.in_ok-take_out.field-0 c.self.inside.plan c.self.inside.history c.self.inside.next c.place_of-place.result s c.index-standing-place.result c.in_ok-behind.behind.items c.take_out.new.plan c.take_out.new.self c.self.invariant
+    (stands_there at.After-serial) (has_serial at.Else-serial) (independent at.In_ok-behind) (behind_are at.In_ok-behind) c.in_ok-take_out.ensures.takes in
     subst (λ (x : Edited). Accepts (Strike s) x (Struck s) (view c.take_out.new.plan c.take_out.new.self c.self.inside.next)) c.self.view_is a
 
 pub returns-clause-compared : goal.returns-clause-compared
 returns-clause-compared c =
+    let at = goal.at.returns-clause-compared c in
     let p = c.self.inside.plan in
     let h = c.self.inside.history in
-    let xs : List Entry = c.standing-standing.result.now in
-    let n : ℕ = c.place_of-place.result in
-    let e : Entry = c.index-standing-place.result in
-    let g : slice_get h.standing n ≡ Some e = ap (λ (es : List Entry). slice_get es n) (sym c.standing-standing.ensures) ∙ got xs n e c.if-place-standing.false ∙ ap Some (sym c.index-standing-place.is) in
-    let w = there (back_along h.standing p.groups) p.groups h.standing h.stack c.self.inside.next n e c.self.invariant g in
-    let q : e.0.0 ≡ c.args.serial = sym c.serial.ensures ∙ c.if-serial.false in
-    ap (λ (es : List Entry). length es) (behind-of xs h.standing n c.standing-standing.ensures ∙ sym w.later_are)
-    ∙ ap (λ (s : ℕ). length (later s (entries (back_along h.standing p.groups) (items_of h.standing)))) q
+    let w = there (back_along h.standing p.groups) p.groups h.standing h.stack c.self.inside.next c.place_of-place.result c.index-standing-place.result c.self.invariant (stands_there at.After-serial) in
+    ap (λ (es : List Entry). length es) (later_are at.Else-serial ∙ sym w.later_are)
+    ∙ ap (λ (s : ℕ). length (later s (entries (back_along h.standing p.groups) (items_of h.standing)))) (has_serial at.Else-serial)
     ∙ ap (λ (x : Edited). length (later c.args.serial (entries x.base x.standing))) c.self.view_is
 
 pub returns-clause-few : goal.returns-clause-few
 returns-clause-few c =
-    let h = c.self.inside.history in
-    let xs : List Entry = c.standing-standing.result.now in
-    let n : ℕ = c.place_of-place.result in
-    let e : Entry = c.index-standing-place.result in
-    let g : slice_get h.standing n ≡ Some e = ap (λ (es : List Entry). slice_get es n) (sym c.standing-standing.ensures) ∙ got xs n e c.if-place-standing.false ∙ ap Some (sym c.index-standing-place.is) in
-    let d : first_dependent e (drop (suc n) h.standing) ≡ None = ap (first_dependent e) (sym (behind-of xs h.standing n c.standing-standing.ensures)) ∙ c.in_ok-behind.ensures.independent in
-    let b : c.in_ok-behind.behind.items ≡ serials_behind e (drop (suc n) h.standing) = c.in_ok-behind.ensures.ok ∙ ap (serials_behind e) (behind-of xs h.standing n c.standing-standing.ensures) in
-    few-held c.take_out.new.plan.groups c.take_out.new.self.standing c.take_out.new.self.stack c.self.inside.next
-    (took-out c.in_ok-take_out.field-0 c.self.inside.plan h c.self.inside.next n e c.in_ok-behind.behind.items c.take_out.new.plan c.take_out.new.self c.self.invariant g d b c.in_ok-take_out.ensures.takes).held
+    few-held c.take_out.new.plan.groups c.take_out.new.self.standing c.take_out.new.self.stack c.self.inside.next (is_held (goal.at.returns-clause-few c).In_ok-take_out)
 
 pub returns-in_err-take_out-clause-answers : goal.returns-in_err-take_out-clause-answers
 returns-in_err-take_out-clause-answers c =
-    let p = c.self.inside.plan in
-    let h = c.self.inside.history in
+    let at = goal.at.returns-in_err-take_out-clause-answers c in
     let s = c.args.serial in
-    let xs : List Entry = c.standing-standing.result.now in
-    let n : ℕ = c.place_of-place.result in
     let e : Entry = c.index-standing-place.result in
-    let g : slice_get h.standing n ≡ Some e = ap (λ (es : List Entry). slice_get es n) (sym c.standing-standing.ensures) ∙ got xs n e c.if-place-standing.false ∙ ap Some (sym c.index-standing-place.is) in
-    let q : e.0.0 ≡ s = sym c.serial.ensures ∙ c.if-serial.false in
     let r = c.in_err-take_out.field-0.0 in
-    let v = view c.take_out.new.plan c.take_out.new.self c.self.inside.next in
-    let w = strike-wants p h c.self.inside.next n s e c.take_out.new.plan c.take_out.new.self r c.self.invariant g q (c.in_err-take_out.ensures.always e g) c.in_err-take_out.ensures.takes in
+    let g = stands_there at.After-serial in
+    let w = strike-wants c.self.inside.plan c.self.inside.history c.self.inside.next c.place_of-place.result s e c.take_out.new.plan c.take_out.new.self r c.self.invariant g (has_serial at.Else-serial) (c.in_err-take_out.ensures.always e g) c.in_err-take_out.ensures.takes in
     let z = err_from_is_err_and c.from_residual-in_err-take_out.result c.from_residual-in_err-take_out.ensures.1 in
-    rw (z.1, z.2) (subst (λ (x : Edited). Refuses (Strike s) x r v) c.self.view_is w)
+    rw (z.1, z.2) (subst (λ (x : Edited). Refuses (Strike s) x r (view c.take_out.new.plan c.take_out.new.self c.self.inside.next)) c.self.view_is w)
+
+-- what may run out of memory after an entry, said of what is seen
+may_run_out : (c : Else-serial) → MayRunOut c.index-standing-place.result (later_ones c) → StrikeMayRunOut c.args.serial c.args.self.now.base c.args.self.now.standing
+may_run_out c m =
+    let w = strike-may-run-out c.self.inside.plan c.self.inside.history c.self.inside.next c.place_of-place.result c.args.serial c.index-standing-place.result c.self.invariant (stands_there (goal.at.Else-serial c).After-serial) (has_serial c) m in
+    subst (λ (x : Edited). StrikeMayRunOut c.args.serial x.base x.standing) c.self.view_is w
 
 pub returns-in_err-behind-clause-memory : goal.returns-in_err-behind-clause-memory
 returns-in_err-behind-clause-memory c = λ k.
-    let h = c.self.inside.history in
-    let s = c.args.serial in
-    let xs : List Entry = c.standing-standing.result.now in
-    let n : ℕ = c.place_of-place.result in
-    let e : Entry = c.index-standing-place.result in
-    let g : slice_get h.standing n ≡ Some e = ap (λ (es : List Entry). slice_get es n) (sym c.standing-standing.ensures) ∙ got xs n e c.if-place-standing.false ∙ ap Some (sym c.index-standing-place.is) in
-    let q : e.0.0 ≡ s = sym c.serial.ensures ∙ c.if-serial.false in
+    let b = (goal.at.returns-in_err-behind-clause-memory c).Else-serial in
     let p = err_from_is_err_and c.from_residual.result c.from_residual.ensures.1 in
     let o : c.in_err-behind.field-0.0 ≡ OutOfMemory = sym p.2 ∙ out-of-memory p.0 (sym p.1 ∙ k) in
-    let m : MayRunOut e (drop (suc n) h.standing) = ⊎_elim
-    (λ w. inl (subst (RunsOutAmong e) (behind-of xs h.standing n c.standing-standing.ensures) w.1))
+    may_run_out b (⊎_elim
+    (λ w. inl (subst (RunsOutAmong c.index-standing-place.result) (later_are b) w.1))
     (λ d. let z : DependsOn d.0 ≡ OutOfMemory = sym d.2 ∙ o in absurd cc)
-    c.in_err-behind.ensures.fault in
-    subst (λ (x : Edited). StrikeMayRunOut s x.base x.standing) c.self.view_is (strike-may-run-out c.self.inside.plan h c.self.inside.next n s e c.self.invariant g q m)
+    c.in_err-behind.ensures.fault)
 
 pub returns-in_err-take_out-clause-memory : goal.returns-in_err-take_out-clause-memory
 returns-in_err-take_out-clause-memory c = λ k.
-    let h = c.self.inside.history in
-    let s = c.args.serial in
-    let xs : List Entry = c.standing-standing.result.now in
-    let n : ℕ = c.place_of-place.result in
-    let e : Entry = c.index-standing-place.result in
-    let g : slice_get h.standing n ≡ Some e = ap (λ (es : List Entry). slice_get es n) (sym c.standing-standing.ensures) ∙ got xs n e c.if-place-standing.false ∙ ap Some (sym c.index-standing-place.is) in
-    let q : e.0.0 ≡ s = sym c.serial.ensures ∙ c.if-serial.false in
-    let d : first_dependent e (drop (suc n) h.standing) ≡ None = ap (first_dependent e) (sym (behind-of xs h.standing n c.standing-standing.ensures)) ∙ c.in_ok-behind.ensures.independent in
-    subst (λ (x : Edited). StrikeMayRunOut s x.base x.standing) c.self.view_is (strike-may-run-out c.self.inside.plan h c.self.inside.next n s e c.self.invariant g q (inr d))
+    let at = goal.at.returns-in_err-take_out-clause-memory c in
+    may_run_out at.Else-serial (inr (independent at.In_ok-behind))

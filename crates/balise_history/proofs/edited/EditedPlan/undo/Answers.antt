@@ -1,4 +1,4 @@
-use Rattle.std.proofs.Common.{subst, ◌≡◌, ◌<◌, ◌-◌, ◌∙◌, ℕ, suc, List, Some, None, length, drop, slice_get, sym, ap, arith}
+use Rattle.std.proofs.Common.{subst, ◌≡◌, ◌<◌, ◌-◌, ◌∙◌, ℕ, suc, List, [], Some, None, length, drop, slice_get, sym, ap, arith}
 use Rattle.balise_rules.specs.Paths.{Entry}
 use Rattle.balise_rules.specs.Behind.{serials_behind}
 use Rattle.balise_rules.specs.Session.{first_dependent}
@@ -8,56 +8,50 @@ use Rattle.balise_history.specs.Held.{Edited, Refuses}
 use Rattle.balise_history.proofs.Cuts.{got}
 use Rattle.balise_history.proofs.Answering.{is-last, none-behind, took-out, undo-accepts, undo-wants, view}
 use Rattle.balise_history.proofs.edited.EditedPlan.undo.Goals as goal
+use Rattle.balise_history.proofs.edited.EditedPlan.undo.Goals.{After-serial-serial}
+
+abbrev last_place : After-serial-serial → ℕ
+last_place c = length c.standing-standing.result.now - 1
+
+last_there : (c : After-serial-serial) → slice_get c.self.inside.history.standing (last_place c) ≡ Some c.index-standing-count.result
+last_there c =
+    let xs : List Entry = c.standing-standing.result.now in
+    let l : last_place c < length xs = omega arith in
+    ap (λ (es : List Entry). slice_get es (last_place c)) (sym c.standing-standing.ensures) ∙ got xs (last_place c) c.index-standing-count.result l ∙ ap Some (sym c.index-standing-count.is)
+
+comes_last : (c : After-serial-serial) → suc (last_place c) ≡ length c.self.inside.history.standing
+comes_last c = omega (arith, ap (λ (es : List Entry). length es) c.standing-standing.ensures)
+
+none_after : (c : After-serial-serial) → drop (suc (last_place c)) c.self.inside.history.standing ≡ []
+none_after c = none-behind c.self.inside.history.standing (last_place c) (comes_last c)
+
+independent : (c : After-serial-serial) → first_dependent c.index-standing-count.result (drop (suc (last_place c)) c.self.inside.history.standing) ≡ None
+independent c = ap (first_dependent c.index-standing-count.result) (none_after c)
 
 pub take_out-requires-clause-last : goal.take_out-requires-clause-last
 take_out-requires-clause-last c = λ f k.
-    let h = c.self.inside.history in
-    let xs : List Entry = c.standing-standing.result.now in
-    let n : ℕ = length xs - 1 in
-    let e : Entry = c.index-standing-count.result in
-    let l : n < length xs = omega arith in
-    let g : slice_get h.standing n ≡ Some e = ap (λ (es : List Entry). slice_get es n) (sym c.standing-standing.ensures) ∙ got xs n e l ∙ ap Some (sym c.index-standing-count.is) in
-    let s : suc n ≡ length h.standing = omega (arith, ap (λ (es : List Entry). length es) c.standing-standing.ensures) in
-    let d : first_dependent e (drop (suc n) h.standing) ≡ None = ap (first_dependent e) (none-behind h.standing n s) in
-    is-last c.self.inside.plan h c.self.inside.next n e f c.self.invariant g d k
+    let b = (goal.at.take_out-requires-clause-last c).After-serial-serial in
+    is-last c.self.inside.plan c.self.inside.history c.self.inside.next (last_place b) c.index-standing-count.result f c.self.invariant (last_there b) (independent b) k
 
 pub invariant_of-self-2 : goal.invariant_of-self-2
 invariant_of-self-2 c =
-    let h = c.self.inside.history in
-    let xs : List Entry = c.standing-standing.result.now in
-    let n : ℕ = length xs - 1 in
+    let b = (goal.at.invariant_of-self-2 c).After-serial-serial in
     let e : Entry = c.index-standing-count.result in
-    let l : n < length xs = omega arith in
-    let g : slice_get h.standing n ≡ Some e = ap (λ (es : List Entry). slice_get es n) (sym c.standing-standing.ensures) ∙ got xs n e l ∙ ap Some (sym c.index-standing-count.is) in
-    let s : suc n ≡ length h.standing = omega (arith, ap (λ (es : List Entry). length es) c.standing-standing.ensures) in
-    let nb = none-behind h.standing n s in
-    let d : first_dependent e (drop (suc n) h.standing) ≡ None = ap (first_dependent e) nb in
-    (took-out c.in_ok-take_out.field-0 c.self.inside.plan h c.self.inside.next n e c.new-behind.result.items c.take_out.new.plan c.take_out.new.self c.self.invariant g d (c.new-behind.ensures.items ∙ ap (serials_behind e) (sym nb)) c.in_ok-take_out.ensures.takes).held
+    let none : c.new-behind.result.items ≡ serials_behind e (drop (suc (last_place b)) c.self.inside.history.standing) = c.new-behind.ensures.items ∙ ap (serials_behind e) (sym (none_after b)) in
+    (took-out c.in_ok-take_out.field-0 c.self.inside.plan c.self.inside.history c.self.inside.next (last_place b) e c.new-behind.result.items c.take_out.new.plan c.take_out.new.self c.self.invariant (last_there b) (independent b) none c.in_ok-take_out.ensures.takes).held
 
 pub returns : goal.returns
 returns c =
-    let h = c.self.inside.history in
-    let xs : List Entry = c.standing-standing.result.now in
-    let n : ℕ = length xs - 1 in
-    let e : Entry = c.index-standing-count.result in
-    let l : n < length xs = omega arith in
-    let g : slice_get h.standing n ≡ Some e = ap (λ (es : List Entry). slice_get es n) (sym c.standing-standing.ensures) ∙ got xs n e l ∙ ap Some (sym c.index-standing-count.is) in
-    let s : suc n ≡ length h.standing = omega (arith, ap (λ (es : List Entry). length es) c.standing-standing.ensures) in
-    let a = undo-accepts c.in_ok-take_out.field-0 c.self.inside.plan h c.self.inside.next n e c.new-behind.result.items c.take_out.new.plan c.take_out.new.self c.self.invariant g s c.new-behind.ensures.items c.in_ok-take_out.ensures.takes in
+    let b = (goal.at.returns c).After-serial-serial in
+    let a = undo-accepts c.in_ok-take_out.field-0 c.self.inside.plan c.self.inside.history c.self.inside.next (last_place b) c.index-standing-count.result c.new-behind.result.items c.take_out.new.plan c.take_out.new.self c.self.invariant (last_there b) (comes_last b) c.new-behind.ensures.items c.in_ok-take_out.ensures.takes in
     rw (← c.self.view_is, c.serial-serial.ensures) a
 
 pub returns-in_err-take_out : goal.returns-in_err-take_out
 returns-in_err-take_out c =
-    let p = c.self.inside.plan in
-    let h = c.self.inside.history in
-    let xs : List Entry = c.standing-standing.result.now in
-    let n : ℕ = length xs - 1 in
+    let b = (goal.at.returns-in_err-take_out c).After-serial-serial in
     let e : Entry = c.index-standing-count.result in
-    let l : n < length xs = omega arith in
-    let g : slice_get h.standing n ≡ Some e = ap (λ (es : List Entry). slice_get es n) (sym c.standing-standing.ensures) ∙ got xs n e l ∙ ap Some (sym c.index-standing-count.is) in
-    let s : suc n ≡ length h.standing = omega (arith, ap (λ (es : List Entry). length es) c.standing-standing.ensures) in
     let r = c.in_err-take_out.field-0.0 in
     let q = view c.take_out.new.plan c.take_out.new.self c.self.inside.next in
-    let w = undo-wants p h c.self.inside.next n e c.take_out.new.plan c.take_out.new.self r g s (c.in_err-take_out.ensures.always e g) c.in_err-take_out.ensures.takes in
+    let w = undo-wants c.self.inside.plan c.self.inside.history c.self.inside.next (last_place b) e c.take_out.new.plan c.take_out.new.self r (last_there b) (comes_last b) (c.in_err-take_out.ensures.always e (last_there b)) c.in_err-take_out.ensures.takes in
     let z = err_from_is_err_and c.from_residual.result c.from_residual.ensures.1 in
     rw (z.1, z.2) (subst (λ (x : Edited). Refuses Undo x r q) c.self.view_is w)

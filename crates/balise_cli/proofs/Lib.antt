@@ -5,6 +5,7 @@ pub mod Answered
 pub mod ItemTexts
 pub mod TextsBehind
 pub mod Causes
+pub mod LinesTaken
 pub mod OneLine
 pub mod LinesDone
 pub mod LineByLine

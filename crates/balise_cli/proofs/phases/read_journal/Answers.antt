@@ -1,73 +1,53 @@
 use Rattle.std.proofs.Common.{◌∙◌, ℕ, [], ap, refl, subst, sym}
 use Rattle.std.proofs.KnownBytes.{Appends-nil}
 use Rattle.balise_rules.specs.declared.refusal.Refusal.TheVariants.{BadLine}
-use Rattle.balise_lines.specs.Lines.{Line}
-use Rattle.balise_lines.specs.Reading.{Took, TookLine, TookNone, line_of, number_of}
+use Rattle.balise_lines.specs.Reading.{line_of, number_of}
 use Rattle.balise_cli.specs.Output.{Bad, after_read}
 use Rattle.balise_cli.specs.Phases.{journal_end, journal_phase, journal_step}
 use Rattle.balise_cli.specs.Progress.{RanToFault}
 use Rattle.balise_cli.specs.declared.journal_reader.JournalStep.TheVariants as step
 use Rattle.balise_cli.proofs.Endings.{end_refused, line_out, line_read, read_here}
+use Rattle.balise_cli.proofs.LinesTaken.{took_line, took_none}
 use Rattle.balise_cli.proofs.phases.read_journal.Goals as goal
 
 pub returns-in-Err-clause-reads : goal.returns-in-Err-clause-reads
 returns-in-Err-clause-reads g c = λ flags had old now writes go.
-    let inv = c.lines.invariant in
-    subst (λ (k : ℕ). RanToFault flags had (g.R.Read.remaining c.next.new.reader.inner) old now k c.next.new.reader.failed writes writes c.in-Err.fault) inv.0
-    (c.in-Err.ensures.fault (journal_phase c.lines.journal) flags had old now writes (inv.2 flags had old now go))
+    subst (λ (k : ℕ). RanToFault flags had (g.R.Read.remaining c.next.new.reader.inner) old now k c.next.new.reader.failed writes writes c.in-Err.fault) c.lines.invariant.0
+    (c.in-Err.ensures.fault (journal_phase c.lines.journal) flags had old now writes (c.lines.invariant.2 flags had old now go))
 
 pub returns-in-Ok-End-clause-reads : goal.returns-in-Ok-End-clause-reads
-returns-in-Ok-End-clause-reads g c =
-    let inv = c.lines.invariant in
-    let was = g.R.Read.remaining c.lines.reader.inner in
-    let has = g.R.Read.remaining c.next.new.reader.inner in
-    let p = journal_phase c.lines.journal in
-    let none : TookNone c.lines.lines was c.next.new.lines has = subst (λ x. Took x c.lines.lines was c.next.new.lines has) c.in-Ok-End.field-0-is c.in-Ok-End.ensures.took in (
-      c.in-Ok-End.ensures.unfailed ∙ inv.0,
-      λ flags had old now go.
-          end_refused flags had old now p c.lines.lines c.next.new.lines was has (inv.2 flags had old now go) none c.in-Ok-End.ensures.over c.number-number.result BadLine
-          (ap (λ (k : ℕ). after_read (Bad k BadLine)) (sym c.number-number.ensures)),
-    )
+returns-in-Ok-End-clause-reads g c = (
+  c.in-Ok-End.ensures.unfailed ∙ c.lines.invariant.0,
+  λ flags had old now go.
+      end_refused flags had old now (journal_phase c.lines.journal) _ _ _ _ (c.lines.invariant.2 flags had old now go)
+      (took_none _ c.lines.lines c.next.new.lines (g.R.Read.remaining c.lines.reader.inner) (g.R.Read.remaining c.next.new.reader.inner) c.in-Ok-End.field-0-is c.in-Ok-End.ensures.took) c.in-Ok-End.ensures.over c.number-number.result BadLine
+      (ap (λ (k : ℕ). after_read (Bad k BadLine)) (sym c.number-number.ensures)),
+)
 
 pub returns-in-Err-read-clause-reads : goal.returns-in-Err-read-clause-reads
 returns-in-Err-read-clause-reads g c =
-    let inv = c.lines.invariant in
-    let was = g.R.Read.remaining c.lines.reader.inner in
-    let has = g.R.Read.remaining c.next.new.reader.inner in
-    let p = journal_phase c.lines.journal in
-    let line : Line = record { bytes = line_of c.next.new.lines; is_ended = c.in-Ok-Line.field-0-0 } in
-    let took : TookLine c.lines.lines was line c.next.new.lines has = subst (λ x. Took x c.lines.lines was c.next.new.lines has) c.in-Ok-Line.field-0-is c.in-Ok-Line.ensures.took in
+    let took = took_line _ _ c.lines.lines c.next.new.lines (g.R.Read.remaining c.lines.reader.inner) (g.R.Read.remaining c.next.new.reader.inner) c.in-Ok-Line.field-0-is c.in-Ok-Line.ensures.took in
     λ flags had old now writes go.
-    line_out flags had old now p c.lines.lines c.next.new.lines was has (inv.2 flags had old now go) line took c.in-Ok-Line.ensures.over tt c.in-Err-read.fault c.in-Err-read.ensures.fault ([], (refl, Appends-nil now))
-    c.args.reader.now.failed c.next.new.reader.failed writes (c.in-Ok-Line.ensures.unfailed ∙ inv.0)
+    line_out flags had old now (journal_phase c.lines.journal) _ _ _ _ (c.lines.invariant.2 flags had old now go) _ took c.in-Ok-Line.ensures.over tt c.in-Err-read.fault c.in-Err-read.ensures.fault ([], (refl, Appends-nil now))
+    c.args.reader.now.failed c.next.new.reader.failed writes (c.in-Ok-Line.ensures.unfailed ∙ c.lines.invariant.0)
 
 pub returns-in-Ok-Over-clause-reads : goal.returns-in-Ok-Over-clause-reads
 returns-in-Ok-Over-clause-reads g c =
-    let inv = c.lines.invariant in
-    let was = g.R.Read.remaining c.lines.reader.inner in
-    let has = g.R.Read.remaining c.next.new.reader.inner in
     let p = journal_phase c.lines.journal in
-    let line : Line = record { bytes = line_of c.next.new.lines; is_ended = c.in-Ok-Line.field-0-0 } in
-    let took : TookLine c.lines.lines was line c.next.new.lines has = subst (λ x. Took x c.lines.lines was c.next.new.lines has) c.in-Ok-Line.field-0-is c.in-Ok-Line.ensures.took in
-    let read = read_here p c.number-number.result (number_of c.lines.lines) c.line.result.now (line_of c.next.new.lines) (journal_end c.in-Ok-Over.end) c.number-number.ensures c.line.ensures
-    (c.in-Ok-Over.ensures.ok ∙ ap journal_step c.in-Ok-Over.field-0-is) in (
-      c.in-Ok-Line.ensures.unfailed ∙ inv.0,
-      λ flags had old now go.
-          line_read flags had old now p c.lines.lines c.next.new.lines was has (inv.2 flags had old now go) line took c.in-Ok-Line.ensures.over tt (journal_end c.in-Ok-Over.end) read,
+    let took = took_line _ _ c.lines.lines c.next.new.lines (g.R.Read.remaining c.lines.reader.inner) (g.R.Read.remaining c.next.new.reader.inner) c.in-Ok-Line.field-0-is c.in-Ok-Line.ensures.took in
+    let read = read_here p c.number-number.result (number_of c.lines.lines) c.line.result.now (line_of c.next.new.lines) (journal_end c.in-Ok-Over.end) c.number-number.ensures c.line.ensures (c.in-Ok-Over.ensures.ok ∙ ap journal_step c.in-Ok-Over.field-0-is) in (
+      c.in-Ok-Line.ensures.unfailed ∙ c.lines.invariant.0,
+      λ flags had old now go. line_read flags had old now p _ _ _ _ (c.lines.invariant.2 flags had old now go) _ took c.in-Ok-Line.ensures.over tt (journal_end c.in-Ok-Over.end) read,
     )
 
 pub lines-preserved : goal.lines-preserved
 lines-preserved g c =
-    let inv = c.lines.invariant in
-    let was = g.R.Read.remaining c.lines.reader.inner in
-    let has = g.R.Read.remaining c.next.new.reader.inner in
     let p = journal_phase c.lines.journal in
-    let line : Line = record { bytes = line_of c.next.new.lines; is_ended = c.in-Ok-Line.field-0-0 } in
-    let took : TookLine c.lines.lines was line c.next.new.lines has = subst (λ x. Took x c.lines.lines was c.next.new.lines has) c.in-Ok-Line.field-0-is c.in-Ok-Line.ensures.took in
-    let read = read_here p c.number-number.result (number_of c.lines.lines) c.line.result.now (line_of c.next.new.lines) (journal_step (step.On c.in-Ok-On.more)) c.number-number.ensures c.line.ensures
-    (c.in-Ok-On.ensures.ok ∙ ap journal_step c.in-Ok-On.field-0-is) in (
-      c.in-Ok-Line.ensures.unfailed ∙ inv.0,
+    let q = journal_step (step.On c.in-Ok-On.more) in
+    let took = took_line _ _ c.lines.lines c.next.new.lines (g.R.Read.remaining c.lines.reader.inner) (g.R.Read.remaining c.next.new.reader.inner) c.in-Ok-Line.field-0-is c.in-Ok-Line.ensures.took in (
+      c.in-Ok-Line.ensures.unfailed ∙ c.lines.invariant.0,
       c.in-Ok-Line.ensures.over,
       λ flags had old now go.
-          line_read flags had old now p c.lines.lines c.next.new.lines was has (inv.2 flags had old now go) line took c.in-Ok-Line.ensures.over tt (journal_step (step.On c.in-Ok-On.more)) read,
+          line_read flags had old now p _ _ _ _ (c.lines.invariant.2 flags had old now go) _ took c.in-Ok-Line.ensures.over tt q
+          (read_here p c.number-number.result (number_of c.lines.lines) c.line.result.now (line_of c.next.new.lines) q c.number-number.ensures c.line.ensures (c.in-Ok-On.ensures.ok ∙ ap journal_step c.in-Ok-On.field-0-is)),
     )

@@ -1,82 +1,61 @@
 use Rattle.std.proofs.Common.{◌≡◌, ◌∙◌, ℕ, None, Some, ap, subst}
-use Rattle.balise_lines.specs.Lines.{Line}
-use Rattle.balise_lines.specs.Reading.{Took, TookLine, TookNone, line_of, number_of}
+use Rattle.balise_lines.specs.Reading.{line_of, number_of}
 use Rattle.balise_cli.specs.Output.{Bad, after_read, at_end}
 use Rattle.balise_cli.specs.Phases.{plan_phase, plan_read}
 use Rattle.balise_cli.specs.Progress.{RanToFault}
 use Rattle.balise_cli.proofs.Endings.{end_out, end_refused, line_out, line_read, read_here}
+use Rattle.balise_cli.proofs.LinesTaken.{took_line, took_none}
 use Rattle.balise_cli.proofs.OneLine.{none_of_end, none_of_line, plan_reading}
 use Rattle.balise_cli.proofs.phases.read_plan.Goals as goal
 
 pub returns-in-Err-clause-reads : goal.returns-in-Err-clause-reads
 returns-in-Err-clause-reads g c = λ flags had old now writes go.
-    let inv = c.lines.invariant in
-    subst (λ (k : ℕ). RanToFault flags had (g.R.Read.remaining c.next.new.reader.inner) old now k c.next.new.reader.failed writes writes c.in-Err.fault) inv.0
-    (c.in-Err.ensures.fault (plan_phase c.lines.plan) flags had old now writes (inv.2 flags had old now go))
+    subst (λ (k : ℕ). RanToFault flags had (g.R.Read.remaining c.next.new.reader.inner) old now k c.next.new.reader.failed writes writes c.in-Err.fault) c.lines.invariant.0
+    (c.in-Err.ensures.fault (plan_phase c.lines.plan) flags had old now writes (c.lines.invariant.2 flags had old now go))
 
 pub returns-in-Ok-clause-reads : goal.returns-in-Ok-clause-reads
 returns-in-Ok-clause-reads g c =
-    let inv = c.lines.invariant in
-    let was = g.R.Read.remaining c.lines.reader.inner in
-    let has = g.R.Read.remaining c.next.new.reader.inner in
     let p = plan_phase c.lines.plan in
-    let none : TookNone c.lines.lines was c.next.new.lines has = subst (λ x. Took x c.lines.lines was c.next.new.lines has) c.in-Ok-End.field-0-is c.in-Ok-End.ensures.took in (
-      c.in-Ok-End.ensures.unfailed ∙ inv.0,
+    let none = took_none _ c.lines.lines c.next.new.lines (g.R.Read.remaining c.lines.reader.inner) (g.R.Read.remaining c.next.new.reader.inner) c.in-Ok-End.field-0-is c.in-Ok-End.ensures.took in (
+      c.in-Ok-End.ensures.unfailed ∙ c.lines.invariant.0,
       λ flags had old now go.
-          end_refused flags had old now p c.lines.lines c.next.new.lines was has (inv.2 flags had old now go) none c.in-Ok-End.ensures.over c.in-Ok.number c.in-Ok.refusal
+          end_refused flags had old now p _ _ _ _ (c.lines.invariant.2 flags had old now go) none c.in-Ok-End.ensures.over c.in-Ok.number c.in-Ok.refusal
           (subst (λ (k : ℕ). at_end flags p k ≡ after_read (Bad c.in-Ok.number c.in-Ok.refusal)) c.number-number.ensures (c.in-Ok.ensures.ok flags)),
     )
 
 pub returns-in-Err-end-clause-reads : goal.returns-in-Err-end-clause-reads
 returns-in-Err-end-clause-reads g c =
-    let inv = c.lines.invariant in
-    let was = g.R.Read.remaining c.lines.reader.inner in
-    let has = g.R.Read.remaining c.next.new.reader.inner in
     let p = plan_phase c.lines.plan in
-    let none : TookNone c.lines.lines was c.next.new.lines has = subst (λ x. Took x c.lines.lines was c.next.new.lines has) c.in-Ok-End.field-0-is c.in-Ok-End.ensures.took in
+    let none = took_none _ c.lines.lines c.next.new.lines (g.R.Read.remaining c.lines.reader.inner) (g.R.Read.remaining c.next.new.reader.inner) c.in-Ok-End.field-0-is c.in-Ok-End.ensures.took in
     λ flags had old now writes go.
-    end_out flags had old now p c.lines.lines c.next.new.lines was has (inv.2 flags had old now go) none c.in-Ok-End.ensures.over c.in-Err-end.fault c.in-Err-end.ensures.fault.0 (none_of_end flags p now c.in-Err-end.ensures.fault.1)
-    c.args.reader.now.failed c.next.new.reader.failed writes (c.in-Ok-End.ensures.unfailed ∙ inv.0)
+    end_out flags had old now p _ _ _ _ (c.lines.invariant.2 flags had old now go) none c.in-Ok-End.ensures.over c.in-Err-end.fault c.in-Err-end.ensures.fault.0 (none_of_end flags p now c.in-Err-end.ensures.fault.1)
+    c.args.reader.now.failed c.next.new.reader.failed writes (c.in-Ok-End.ensures.unfailed ∙ c.lines.invariant.0)
 
 pub returns-in-Err-read-clause-reads : goal.returns-in-Err-read-clause-reads
 returns-in-Err-read-clause-reads g c =
-    let inv = c.lines.invariant in
-    let was = g.R.Read.remaining c.lines.reader.inner in
-    let has = g.R.Read.remaining c.next.new.reader.inner in
     let p = plan_phase c.lines.plan in
-    let line : Line = record { bytes = line_of c.next.new.lines; is_ended = c.in-Ok-Line.field-0-0 } in
-    let took : TookLine c.lines.lines was line c.next.new.lines has = subst (λ x. Took x c.lines.lines was c.next.new.lines has) c.in-Ok-Line.field-0-is c.in-Ok-Line.ensures.took in
+    let took = took_line _ _ c.lines.lines c.next.new.lines (g.R.Read.remaining c.lines.reader.inner) (g.R.Read.remaining c.next.new.reader.inner) c.in-Ok-Line.field-0-is c.in-Ok-Line.ensures.took in
     λ flags had old now writes go.
-    line_out flags had old now p c.lines.lines c.next.new.lines was has (inv.2 flags had old now go) line took c.in-Ok-Line.ensures.over (plan_reading c.lines.plan.place c.lines.plan.plan) c.in-Err-read.fault c.in-Err-read.ensures.fault.0 (none_of_line flags p (number_of c.lines.lines) line.bytes now c.in-Err-read.ensures.fault.1)
-    c.args.reader.now.failed c.next.new.reader.failed writes (c.in-Ok-Line.ensures.unfailed ∙ inv.0)
+    line_out flags had old now p _ _ _ _ (c.lines.invariant.2 flags had old now go) _ took c.in-Ok-Line.ensures.over (plan_reading c.lines.plan.place c.lines.plan.plan) c.in-Err-read.fault c.in-Err-read.ensures.fault.0 (none_of_line flags p (number_of c.lines.lines) (line_of c.next.new.lines) now c.in-Err-read.ensures.fault.1)
+    c.args.reader.now.failed c.next.new.reader.failed writes (c.in-Ok-Line.ensures.unfailed ∙ c.lines.invariant.0)
 
 pub returns-in-Ok-Some-clause-reads : goal.returns-in-Ok-Some-clause-reads
 returns-in-Ok-Some-clause-reads g c =
-    let inv = c.lines.invariant in
-    let was = g.R.Read.remaining c.lines.reader.inner in
-    let has = g.R.Read.remaining c.next.new.reader.inner in
     let p = plan_phase c.lines.plan in
-    let line : Line = record { bytes = line_of c.next.new.lines; is_ended = c.in-Ok-Line.field-0-0 } in
-    let took : TookLine c.lines.lines was line c.next.new.lines has = subst (λ x. Took x c.lines.lines was c.next.new.lines has) c.in-Ok-Line.field-0-is c.in-Ok-Line.ensures.took in
-    let read = read_here p c.number-number.result (number_of c.lines.lines) c.line.result.now (line_of c.next.new.lines) (plan_read c.read.new.self (Some c.in-Ok-Some.end)) c.number-number.ensures c.line.ensures
-    (c.in-Ok-Some.ensures.ok ∙ ap (plan_read c.read.new.self) c.in-Ok-Some.field-0-is) in (
-      c.in-Ok-Line.ensures.unfailed ∙ inv.0,
-      λ flags had old now go.
-          line_read flags had old now p c.lines.lines c.next.new.lines was has (inv.2 flags had old now go) line took c.in-Ok-Line.ensures.over (plan_reading c.lines.plan.place c.lines.plan.plan) (plan_read c.read.new.self (Some c.in-Ok-Some.end)) read,
+    let q = plan_read c.read.new.self (Some c.in-Ok-Some.end) in
+    let took = took_line _ _ c.lines.lines c.next.new.lines (g.R.Read.remaining c.lines.reader.inner) (g.R.Read.remaining c.next.new.reader.inner) c.in-Ok-Line.field-0-is c.in-Ok-Line.ensures.took in
+    let read = read_here p c.number-number.result (number_of c.lines.lines) c.line.result.now (line_of c.next.new.lines) q c.number-number.ensures c.line.ensures (c.in-Ok-Some.ensures.ok ∙ ap (plan_read c.read.new.self) c.in-Ok-Some.field-0-is) in (
+      c.in-Ok-Line.ensures.unfailed ∙ c.lines.invariant.0,
+      λ flags had old now go. line_read flags had old now p _ _ _ _ (c.lines.invariant.2 flags had old now go) _ took c.in-Ok-Line.ensures.over (plan_reading c.lines.plan.place c.lines.plan.plan) q read,
     )
 
 pub lines-preserved : goal.lines-preserved
 lines-preserved g c =
-    let inv = c.lines.invariant in
-    let was = g.R.Read.remaining c.lines.reader.inner in
-    let has = g.R.Read.remaining c.next.new.reader.inner in
     let p = plan_phase c.lines.plan in
-    let line : Line = record { bytes = line_of c.next.new.lines; is_ended = c.in-Ok-Line.field-0-0 } in
-    let took : TookLine c.lines.lines was line c.next.new.lines has = subst (λ x. Took x c.lines.lines was c.next.new.lines has) c.in-Ok-Line.field-0-is c.in-Ok-Line.ensures.took in
-    let read = read_here p c.number-number.result (number_of c.lines.lines) c.line.result.now (line_of c.next.new.lines) (plan_read c.read.new.self None) c.number-number.ensures c.line.ensures
-    (c.in-Ok-None.ensures.ok ∙ ap (plan_read c.read.new.self) c.in-Ok-None.field-0-is) in (
-      c.in-Ok-Line.ensures.unfailed ∙ inv.0,
+    let took = took_line _ _ c.lines.lines c.next.new.lines (g.R.Read.remaining c.lines.reader.inner) (g.R.Read.remaining c.next.new.reader.inner) c.in-Ok-Line.field-0-is c.in-Ok-Line.ensures.took in (
+      c.in-Ok-Line.ensures.unfailed ∙ c.lines.invariant.0,
       c.in-Ok-Line.ensures.over,
       λ flags had old now go.
-          line_read flags had old now p c.lines.lines c.next.new.lines was has (inv.2 flags had old now go) line took c.in-Ok-Line.ensures.over (plan_reading c.lines.plan.place c.lines.plan.plan) (plan_read c.read.new.self None) read,
+          line_read flags had old now p _ _ _ _ (c.lines.invariant.2 flags had old now go) _ took c.in-Ok-Line.ensures.over (plan_reading c.lines.plan.place c.lines.plan.plan) (plan_read c.read.new.self None)
+          (read_here p c.number-number.result (number_of c.lines.lines) c.line.result.now (line_of c.next.new.lines) (plan_read c.read.new.self None) c.number-number.ensures c.line.ensures (c.in-Ok-None.ensures.ok ∙ ap (plan_read c.read.new.self) c.in-Ok-None.field-0-is)),
     )

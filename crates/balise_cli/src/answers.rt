@@ -28,6 +28,7 @@ pub(crate) struct Answer {
 }
 
 // Does an edit that has no review.
+#[inline(always)]
 fn edit(session: &mut Session, command: Command) -> Reply
     ensures { DidDo (rules.Ask (command_of command)) session.old.state (reply_of result) session.new.state }
 {

@@ -181,6 +181,7 @@ fn or_bad_line(command: Option<Command>) -> Result<Command, Refusal>
 }
 
 /// The command of an edit whose words hold no digits.
+#[inline(always)]
 pub(crate) fn read_plain(kind: Option<Kind>, words: Words) -> Option<Command>
     ensures { is_digits_kind kind ≡ false → option_map Ok (option_map command_of result) ≡ command_words kind (left words.entry) }
 {

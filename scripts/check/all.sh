@@ -1,7 +1,7 @@
 #!/usr/bin/env bash
 # Runs all checks of a built program, and prints a line for each: how it ended, its time and what it saw.
 # usage: scripts/check/all.sh PROGRAM [--quick]
-# They use all processors that they may (taskset gives them fewer). On four that are idle all of it takes under an hour,
+# They use all processors that they may (taskset gives them fewer). On four that are idle all of it takes about an hour,
 # and --quick, which tries less of the same, some five minutes. Random inputs that differ are kept in ./differences.
 # Ends with 0; with 1 if a check failed, after what it printed; with 2 if something is missing.
 set -u

@@ -1,3 +1,4 @@
 pub mod Equal
 pub mod Ranked
 pub mod Sorted
+pub mod Wide

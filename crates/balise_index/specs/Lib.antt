@@ -7,6 +7,7 @@ pub mod LentEntry
 pub mod LentValue
 pub mod LinkSet
 pub mod Narrow
+pub mod NarrowPlace
 pub mod Places
 pub mod Rows
 pub mod TagHashes

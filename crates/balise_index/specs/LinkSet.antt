@@ -1,25 +1,28 @@
--- A set of places: none, one, in a list or in a tree.
+-- A set of places: none, one, two, in a list or in a tree.
 use Rattle.std.specs.Prelude.{◌≡◌, ℕ, Bool, false, cond, List, [], ◌∷◌, Option, Some, None}
 use Rattle.std.specs.List.{position_or_len}
 use Rattle.std.specs.Ordering.{is_le}
 use Rattle.balise_index.specs.declared.link_place.LinkPlace.{LinkPlace}
 use Rattle.balise_index.specs.declared.links.Held.{Held}
-use Rattle.balise_index.specs.declared.links.Held.TheVariants.{Empty, One, Few, Many}
+use Rattle.balise_index.specs.declared.links.Held.TheVariants.{Empty, One, Two, Few, Many}
 use Rattle.balise_index.specs.declared.links.iter.Left.{Left}
 use Rattle.balise_index.specs.declared.links.iter.Left.TheVariants as left
+use Rattle.balise_index.specs.NarrowPlace.{wide_place, wide_places}
 use Rattle.balise_index.specs.Places.{Links, among, compare_place, is_place}
 
 abbrev pub places_held : Held → Links
 places_held Empty = record { keys = [] }
-places_held (One w) = record { keys = w ∷ [] }
-places_held (Few list) = record { keys = list.items }
+places_held (One n) = record { keys = wide_place n ∷ [] }
+places_held (Two n m) = record { keys = wide_place n ∷ wide_place m ∷ [] }
+places_held (Few list) = record { keys = wide_places list.items }
 places_held (Many tree) = tree
 
 -- the places that are left
 abbrev pub places_left : Left → List LinkPlace
 places_left left.Nothing = []
-places_left (left.One w) = w ∷ []
-places_left (left.Few list) = list.now
+places_left (left.One n) = wide_place n ∷ []
+places_left (left.Two n m) = wide_place n ∷ wide_place m ∷ []
+places_left (left.Few list) = wide_places list.now
 places_left (left.Many rest) = rest
 
 -- how many places come before w

@@ -230,7 +230,23 @@ first-none w vs = by (nat_lt (rank w vs) (length vs)) refl
 pub takes-one : (w x : LinkPlace) → is_place w x ≡ true → PutsIn (x ∷ []) [] w false
 takes-one w x e = takes-out w (x ∷ []) 0 (ordered-one x) e
 
+-- what isn't in the list is out of it
+keeps : (w : LinkPlace) (vs : List LinkPlace) → among w vs ≡ false → PutsIn vs vs w false
+keeps w vs n v = split_on (is_place w v)
+    (λ d. ap (λ x. among x vs) (sym (place_one w v d)) ∙ n ∙ ap (λ b. cond b false (among v vs)) (sym d))
+    (λ d. ap (λ b. cond b false (among v vs)) (sym d))
+
 pub keeps-one : (w x : LinkPlace) → is_place w x ≡ false → PutsIn (x ∷ []) (x ∷ []) w false
-keeps-one w x e v = split_on (is_place w v)
-    (λ d. ap (λ y. is_place y x || false) (sym (place_one w v d)) ∙ ap (λ b. b || false) e ∙ ap (λ b. cond b false (is_place v x || false)) (sym d))
-    (λ d. ap (λ b. cond b false (is_place v x || false)) (sym d))
+keeps-one w x e = keeps w (x ∷ []) (ap (λ b. b || false) e)
+
+-- ---- two places by themselves
+
+pub ordered-below : (w x : LinkPlace) → compare_place w x ≡ Less → IsStrictlySortedBy compare_place (w ∷ x ∷ [])
+unfolding IsStrictlySortedBy
+ordered-below w x l = ((l, tt), (tt, tt))
+
+pub ordered-above : (w x : LinkPlace) → compare_place w x ≡ Greater → IsStrictlySortedBy compare_place (x ∷ w ∷ [])
+ordered-above w x g = ordered-below x w (after w x (ap is_le g))
+
+pub keeps-two : (w x y : LinkPlace) → is_place w x ≡ false → is_place w y ≡ false → PutsIn (x ∷ y ∷ []) (x ∷ y ∷ []) w false
+keeps-two w x y d e = keeps w (x ∷ y ∷ []) (ap (λ b. b || (is_place w y || false)) d ∙ ap (λ b. b || false) e)

@@ -6,6 +6,7 @@ ghost use Rattle.balise_index.specs.LinkSet.{places_held};
 
 use crate::link_place::LinkPlace;
 use crate::links::Held;
+use crate::links::narrow::NarrowPlace;
 use std::collections::btree_set;
 use std::iter::FusedIterator;
 use std::marker::Model;
@@ -20,8 +21,9 @@ pub struct Places<'a> {
 #[derive(Drop)]
 pub(crate) enum Left<'a> {
     Nothing,
-    One(LinkPlace),
-    Few(&'a [LinkPlace]),
+    One(NarrowPlace),
+    Two(NarrowPlace, NarrowPlace),
+    Few(&'a [NarrowPlace]),
     Many(btree_set::Iter<'a, LinkPlace>),
 }
 
@@ -47,6 +49,9 @@ impl<'a> Places<'a> {
             Held::One(place) => Places {
                 left: Left::One(*place),
             },
+            Held::Two(first, second) => Places {
+                left: Left::Two(*first, *second),
+            },
             Held::Few(list) => Places {
                 left: Left::Few(list.as_slice()),
             },
@@ -68,8 +73,13 @@ impl<'a> Iterator for Places<'a> {
         match &mut self.left {
             Left::Nothing => None,
             Left::One(place) => {
-                let place = *place;
+                let place = place.wide();
                 self.left = Left::Nothing;
+                Some(place)
+            }
+            Left::Two(first, second) => {
+                let place = first.wide();
+                self.left = Left::One(*second);
                 Some(place)
             }
             Left::Few(places) => {
@@ -77,7 +87,7 @@ impl<'a> Iterator for Places<'a> {
                     return None;
                 };
                 *places = rest;
-                Some(*place)
+                Some(place.wide())
             }
             Left::Many(tree) => match tree.next() {
                 Some(place) => Some(*place),

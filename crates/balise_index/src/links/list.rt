@@ -4,29 +4,32 @@ ghost use Rattle.std.specs.Prelude.{◌≡◌, ◌<◌, ◌≤◌, length, posit
 ghost use Rattle.std.specs.List.Sorted.{IsStrictlySortedBy};
 ghost use Rattle.std.specs.Ordering.{is_le};
 ghost use Rattle.balise_index.specs.LinkSet.{rank, stands, PutsIn};
+ghost use Rattle.balise_index.specs.NarrowPlace.{wide_place, wide_places};
 ghost use Rattle.balise_index.specs.Places.{among, compare_place};
 
 use crate::link_place::LinkPlace;
+use crate::links::narrow::NarrowPlace;
 use std::alloc::AllocError;
 
 /// Whether a place is among them.
-pub(crate) fn contains(list: &Vec<LinkPlace>, place: &LinkPlace) -> bool
-    requires { IsStrictlySortedBy compare_place list.now.items }
-    ensures { result ≡ among place.now list.now.items }
+pub(crate) fn contains(list: &Vec<NarrowPlace>, place: &LinkPlace) -> bool
+    requires { IsStrictlySortedBy compare_place (wide_places list.now.items) }
+    ensures { result ≡ among place.now (wide_places list.now.items) }
 {
     is_at(list, place_for(list, *place), *place)
 }
 
 /// Puts a place in. Leaves all as before if an allocation fails.
-pub(crate) fn insert(list: &mut Vec<LinkPlace>, place: LinkPlace) -> Result<(), AllocError>
-    requires { IsStrictlySortedBy compare_place list.old.items }
-    ensures ordered { IsStrictlySortedBy compare_place list.new.items }
-    ensures put { OnOk result (PutsIn list.old.items list.new.items place true) }
-    ensures some { OnOk result (0 < length list.new.items) }
+pub(crate) fn insert(list: &mut Vec<NarrowPlace>, place: NarrowPlace) -> Result<(), AllocError>
+    requires { IsStrictlySortedBy compare_place (wide_places list.old.items) }
+    ensures ordered { IsStrictlySortedBy compare_place (wide_places list.new.items) }
+    ensures put { OnOk result (PutsIn (wide_places list.old.items) (wide_places list.new.items) (wide_place place) true) }
+    ensures some { OnOk result (0 < length (wide_places list.new.items)) }
     ensures unchanged { OnErr result (list.new.items ≡ list.old.items) }
 {
-    let i = place_for(list, place);
-    if is_at(list, i, place) {
+    let wide = place.wide();
+    let i = place_for(list, wide);
+    if is_at(list, i, wide) {
         return Ok(());
     }
     make_room(list)?;
@@ -35,10 +38,10 @@ pub(crate) fn insert(list: &mut Vec<LinkPlace>, place: LinkPlace) -> Result<(), 
 }
 
 /// Takes a place out. Takes no memory.
-pub(crate) fn remove(list: &mut Vec<LinkPlace>, place: &LinkPlace)
-    requires { IsStrictlySortedBy compare_place list.old.items }
-    ensures ordered { IsStrictlySortedBy compare_place list.new.items }
-    ensures put { PutsIn list.old.items list.new.items place.now false }
+pub(crate) fn remove(list: &mut Vec<NarrowPlace>, place: &LinkPlace)
+    requires { IsStrictlySortedBy compare_place (wide_places list.old.items) }
+    ensures ordered { IsStrictlySortedBy compare_place (wide_places list.new.items) }
+    ensures put { PutsIn (wide_places list.old.items) (wide_places list.new.items) place.now false }
 {
     let i = place_for(list, *place);
     if is_at(list, i, *place) {
@@ -47,8 +50,8 @@ pub(crate) fn remove(list: &mut Vec<LinkPlace>, place: &LinkPlace)
 }
 
 // How many of the places come before this one.
-fn place_for(list: &Vec<LinkPlace>, place: LinkPlace) -> usize
-    ensures rank { result ≡ rank place list.now.items }
+fn place_for(list: &Vec<NarrowPlace>, place: LinkPlace) -> usize
+    ensures rank { result ≡ rank place (wide_places list.now.items) }
     ensures within { result ≤ length list.now.items }
 {
     match first_from(list, place) {
@@ -57,23 +60,24 @@ fn place_for(list: &Vec<LinkPlace>, place: LinkPlace) -> usize
     }
 }
 
-fn first_from(list: &Vec<LinkPlace>, place: LinkPlace) -> Option<usize>
-    ensures { result ≡ position (λ v. is_le (compare_place place v)) list.now.items }
+fn first_from(list: &Vec<NarrowPlace>, place: LinkPlace) -> Option<usize>
+    ensures { result ≡ position (λ n. is_le (compare_place place (wide_place n))) list.now.items }
 {
-    list.iter().position(|other| place.cmp(other).is_le())
+    list.iter()
+        .position(|other| place.cmp(&other.wide()).is_le())
 }
 
-fn is_at(list: &Vec<LinkPlace>, i: usize, place: LinkPlace) -> bool
-    ensures { result ≡ stands place (slice_get list.now.items i) }
+fn is_at(list: &Vec<NarrowPlace>, i: usize, place: LinkPlace) -> bool
+    ensures { result ≡ stands place (slice_get (wide_places list.now.items) i) }
 {
     match list.get(i) {
-        Some(other) => place.cmp(other).is_eq(),
+        Some(other) => place.cmp(&other.wide()).is_eq(),
         None => false,
     }
 }
 
-// Makes a full list half as long again: a first place takes no more room than it needs.
-fn make_room(list: &mut Vec<LinkPlace>) -> Result<(), AllocError>
+// Makes a full list half as long again.
+fn make_room(list: &mut Vec<NarrowPlace>) -> Result<(), AllocError>
     ensures { list.new.items ≡ list.old.items }
 {
     let len = list.len();

@@ -1,6 +1,7 @@
 use Rattle.std.proofs.Common.{◌≡◌, ◌∙◌, true, false, cond, [], ◌∷◌, refl, sym, ap}
 use Rattle.std.specs.Ordering.{is_eq}
 use Rattle.balise_index.specs.LinkSet.{places_held}
+use Rattle.balise_index.specs.NarrowPlace.{wide_place}
 use Rattle.balise_index.specs.Places.{is_place}
 use Rattle.balise_index.specs.Places.{among}
 use Rattle.balise_index.proofs.places.Ranked.{keeps-one, ordered-none, takes-one}
@@ -12,9 +13,11 @@ invariant_of-self-then-is_eq-3 c = ordered-none [] refl
 
 pub returns-then-is_eq : goal.returns-then-is_eq
 returns-then-is_eq c v =
-    let old : c.args.self.now.keys ≡ c.in-One.held ∷ [] = ap (λ l. l.keys) (sym c.self.view_is) ∙ ap (λ h. (places_held h).keys) c.in-One.is in
-    let e : is_place c.args.place.now c.in-One.held ≡ true = ap is_eq (sym c.cmp.ensures) ∙ sym c.is_eq.ensures ∙ c.if-is_eq.true in
-    let put = takes-one c.args.place.now c.in-One.held e v ∙ ap (λ l. cond (is_place c.args.place.now v) false (among v l)) (sym old) in
+    let w = c.args.place.now in
+    let x = wide_place c.in-One.held in
+    let old : c.args.self.now.keys ≡ x ∷ [] = ap (λ l. l.keys) (sym c.self.view_is) ∙ ap (λ h. (places_held h).keys) c.in-One.is in
+    let e : is_place w x ≡ true = ap (is_place w) (sym c.wide.ensures) ∙ ap is_eq (sym c.cmp.ensures) ∙ sym c.is_eq.ensures ∙ c.if-is_eq.true in
+    let put = takes-one w x e v ∙ ap (λ l. cond (is_place w v) false (among v l)) (sym old) in
     elim c.match-self-2.branch [
       | in-Few-1 w ↦ ap (λ l. among v l.keys) w.self-is ∙ put
       | in-Many-1 w ↦ ap (λ l. among v l.keys) w.self-is ∙ put
@@ -23,9 +26,11 @@ returns-then-is_eq c v =
 
 pub returns-else-is_eq : goal.returns-else-is_eq
 returns-else-is_eq c v =
-    let old : c.args.self.now.keys ≡ c.in-One.held ∷ [] = ap (λ l. l.keys) (sym c.self.view_is) ∙ ap (λ h. (places_held h).keys) c.in-One.is in
-    let e : is_place c.args.place.now c.in-One.held ≡ false = ap is_eq (sym c.cmp.ensures) ∙ sym c.is_eq.ensures ∙ c.if-is_eq.false in
-    keeps-one c.args.place.now c.in-One.held e v ∙ ap (λ l. cond (is_place c.args.place.now v) false (among v l)) (sym old)
+    let w = c.args.place.now in
+    let x = wide_place c.in-One.held in
+    let old : c.args.self.now.keys ≡ x ∷ [] = ap (λ l. l.keys) (sym c.self.view_is) ∙ ap (λ h. (places_held h).keys) c.in-One.is in
+    let e : is_place w x ≡ false = ap (is_place w) (sym c.wide.ensures) ∙ ap is_eq (sym c.cmp.ensures) ∙ sym c.is_eq.ensures ∙ c.if-is_eq.false in
+    keeps-one w x e v ∙ ap (λ l. cond (is_place w v) false (among v l)) (sym old)
 
 pub returns-in-Many : goal.returns-in-Many
 returns-in-Many c v =

@@ -2,6 +2,7 @@
 
 mod blocks;
 mod identities;
+mod link_orders;
 mod links;
 mod maps;
 mod memory;

@@ -31,7 +31,7 @@ fn comes(links: &Links, list: &[LinkPlace]) -> bool {
 }
 
 /// Whether a set has exactly the places of a list, which is in order, by each call that reads.
-fn has(links: &Links, list: &[LinkPlace]) -> bool {
+pub(crate) fn has(links: &Links, list: &[LinkPlace]) -> bool {
     let mut same = (links.len() == list.len()) & (links.is_empty() == list.is_empty());
     for place in list {
         same &= links.contains(place);

@@ -152,10 +152,11 @@ impl<'a> PacketRef<'a> {
     pub fn elements(&self, country: u32) -> Elements
         ensures { result ≡ links_of country self.now }
     {
-        match self.visit(FindElements::new(country)) {
-            Ok(found) => found.into_elements(),
-            Err(_) => Elements::none(),
-        }
+        let mut walker = Walker::new(FindElements::new(country), self.bits, self.at, self.end);
+        let Ok(()) = self.kind.walk(&mut walker) else {
+            return Elements::none();
+        };
+        walker.into_visitor().into_elements()
     }
 
     /// The value of the occurrence `k`, from 0, of a variable.

@@ -4,7 +4,7 @@ ghost use Rattle.std.specs.Prelude.{◌≡◌, ◌≤◌, length};
 ghost use Rattle.balise_rules.specs.Packet.{value};
 ghost use Rattle.balise_rules.specs.Telegram.{is_balise, read_header};
 ghost use Rattle.balise_rules.specs.Variables.{is_free_in_header};
-ghost use Rattle.balise_rules.specs.declared.variable.Var.TheVariants.{MVersion, NidBg, NidC};
+ghost use Rattle.balise_rules.specs.declared.variable.Var.TheVariants.{MVersion, NidBg, NidC, NPig, NTotal};
 ghost use Rattle.balise_telegram.specs.HeaderFields.{fields_in, head_place};
 
 use balise_bits::Bits;
@@ -78,10 +78,21 @@ impl Header {
         ensures country { result.country ≡ value NidC 0 (read_header bits.now) }
         ensures number { result.number ≡ value NidBg 0 (read_header bits.now) }
     {
+        let both = bits.number(25, 24);
         Id {
-            country: bits.number(25, 10),
-            number: bits.number(35, 14),
+            country: both / 16384,
+            number: both % 16384,
         }
+    }
+
+    /// N_PIG and N_TOTAL of the header in the first 50 of a telegram's bits.
+    pub(crate) fn place_in(bits: &Bits) -> (u32, u32)
+        requires { 50 ≤ length bits.now }
+        ensures pig { result.0 ≡ value NPig 0 (read_header bits.now) }
+        ensures total { result.1 ≡ value NTotal 0 (read_header bits.now) }
+    {
+        let both = bits.number(9, 6);
+        (both / 8, both % 8)
     }
 }
 

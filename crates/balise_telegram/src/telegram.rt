@@ -12,7 +12,8 @@ ghost use Rattle.std.specs.List.{position};
 ghost use Rattle.balise_rules.specs.Digits.{hex_of};
 ghost use Rattle.balise_rules.specs.Tagged.{find, Distinct};
 ghost use Rattle.balise_rules.specs.Tags.{same_tag};
-ghost use Rattle.balise_rules.specs.Packet.{field_of, Packet};
+ghost use Rattle.balise_rules.specs.Packet.{field_of, value, Packet};
+ghost use Rattle.balise_rules.specs.declared.variable.Var.TheVariants.{NPig, NTotal};
 ghost use Rattle.balise_rules.specs.Plan.{identity_in};
 ghost use Rattle.balise_rules.specs.Telegram.{shown, used, version_of, IsLength};
 ghost use Rattle.balise_rules.specs.declared.tag.Tag.{Tag};
@@ -104,6 +105,14 @@ impl Telegram {
         ensures { result ≡ identity_in self.now }
     {
         Header::identity_in(&self.packed)
+    }
+
+    /// Its place in its group, N_PIG, and the number of balises there less one, N_TOTAL, of 3 bits each.
+    pub fn place_in_group(&self) -> (u32, u32)
+        ensures pig { result.0 ≡ value NPig 0 self.now.head }
+        ensures total { result.1 ≡ value NTotal 0 self.now.head }
+    {
+        Header::place_in(&self.packed)
     }
 
     /// The ten numbers of its header.
@@ -220,7 +229,18 @@ impl Telegram {
         requires stands { place.index < length self.now.packets }
         ensures { (x : Tag × Packet) → slice_get self.now.packets place.index ≡ Some x → result ≡ x.1 }
     {
-        PacketRef::new(&self.packed, place.at, self.version())
+        self.lent_in(place, self.version())
+    }
+
+    // The same, where the telegram's M_VERSION is known.
+    #[inline(always)]
+    fn lent_in(&self, place: Place, version: u32) -> PacketRef<'_>
+        requires place { IsPlace self.now place }
+        requires stands { place.index < length self.now.packets }
+        requires version { version ≡ version_of self.now }
+        ensures { (x : Tag × Packet) → slice_get self.now.packets place.index ≡ Some x → result ≡ x.1 }
+    {
+        PacketRef::new(&self.packed, place.at, version)
     }
 
     // The place after the packet at a place.

@@ -14,20 +14,22 @@ use std::marker::Model;
 #[derive(Drop)]
 pub struct Packets<'a> {
     telegram: &'a Telegram,
+    version: u32,
     place: Place,
 }
 
 impl<'a> Model for Packets<'a> {
-    ghost use Rattle.std.specs.Prelude.{List, drop};
+    ghost use Rattle.std.specs.Prelude.{◌≡◌, List, drop};
     ghost use Rattle.balise_rules.specs.declared.tag.Tag.{Tag};
     ghost use Rattle.balise_rules.specs.Packet as rules;
+    ghost use Rattle.balise_rules.specs.Telegram.{version_of};
     ghost use Rattle.balise_telegram.specs.Shown.{IsPlace};
 
     ghost Value = { List (Tag × rules.Packet) };
 
     ghost view = { λ p. drop p.place.index p.telegram.now.packets };
 
-    ghost invariant = { λ p. IsPlace p.telegram.now p.place };
+    ghost invariant = { λ p. (p.version ≡ version_of p.telegram.now) × IsPlace p.telegram.now p.place };
 }
 
 impl<'a> Iterator for Packets<'a> {
@@ -43,8 +45,9 @@ impl<'a> Iterator for Packets<'a> {
         let Some(tag) = telegram.tag_at(place) else {
             return None;
         };
-        self.place = telegram.after(place);
-        Some((tag, telegram.lent(place)))
+        let packet = telegram.lent_in(place, self.version);
+        self.place = telegram.after_lent(place, &packet);
+        Some((tag, packet))
     }
 }
 
@@ -57,6 +60,7 @@ impl Telegram {
     {
         Packets {
             telegram: self,
+            version: self.version(),
             place: first(),
         }
     }

@@ -58,6 +58,7 @@ fn check_header(rt: &impl Abort, telegram: &Telegram, header: Header) {
     assert!(rt; telegram.version() == header.m_version);
     assert!(rt; telegram.identity().country == header.nid_c);
     assert!(rt; telegram.identity().number == header.nid_bg);
+    assert!(rt; telegram.place_in_group() == (header.n_pig, header.n_total));
 }
 
 #[test]

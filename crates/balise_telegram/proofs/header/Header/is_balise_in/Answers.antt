@@ -1,4 +1,4 @@
-use Rattle.std.proofs.Common.{◌∙◌, sym, ap}
+use Rattle.std.proofs.Common.{sym, ap}
 use Rattle.balise_rules.specs.Telegram.{is_balise}
 use Rattle.balise_telegram.proofs.HeaderBits.{header_is}
 use Rattle.balise_telegram.proofs.header.Header.is_balise_in.Goals as goal

@@ -1,8 +1,8 @@
 -- Q_DIR stands after 8 bits of every packet.
-use Rattle.std.proofs.Common.{◌≡◌, ◌∙◌, ◌-◌, ◌+◌, ℕ, refl, ap, sym, subst, arith}
+use Rattle.std.proofs.Common.{◌≡◌, ◌∙◌, ◌-◌, ◌+◌, ℕ, ap, sym, subst, arith}
 use Rattle.balise_rules.specs.declared.variable.Var.TheVariants.{QDir}
 use Rattle.balise_rules.specs.Edits.{exchanged}
-use Rattle.balise_rules.specs.Variables.{width_of, steers}
+use Rattle.balise_rules.specs.Variables.{width_of}
 use Rattle.balise_rules.specs.Packet.{bits_of, value}
 use Rattle.balise_rules.specs.Telegram.{Telegram, version_of}
 use Rattle.balise_layout.specs.Held.{with_field}

@@ -1,7 +1,7 @@
 -- The orientation is one bit.
-use Rattle.std.proofs.Common.{◌≡◌, ◌∙◌, ◌-◌, ℕ, drop, refl, ap, sym, subst, arith}
+use Rattle.std.proofs.Common.{◌≡◌, ◌∙◌, ◌-◌, ℕ, drop, ap, sym, subst, arith}
 use Rattle.balise_rules.specs.declared.variable.Var.TheVariants.{QLinkorientation}
-use Rattle.balise_rules.specs.Variables.{width_of, steers}
+use Rattle.balise_rules.specs.Variables.{width_of}
 use Rattle.balise_rules.specs.Packet.{value}
 use Rattle.balise_rules.specs.Telegram.{Telegram}
 use Rattle.balise_layout.specs.Held.{with_field}

@@ -1,7 +1,6 @@
 -- The number is put where the element has its own.
-use Rattle.std.proofs.Common.{refl, sym}
+use Rattle.std.proofs.Common.{sym}
 use Rattle.balise_rules.specs.declared.variable.Var.TheVariants.{NidBg}
-use Rattle.balise_rules.specs.Variables.{width_of, steers}
 use Rattle.balise_layout.specs.Setting.{renamed}
 use Rattle.balise_layout.proofs.Values.{with_field-missing}
 use Rattle.balise_telegram.proofs.PackedPlaces.{not_located}

@@ -1,5 +1,5 @@
-use Rattle.std.proofs.Common.{◌≡◌, ◌≤◌, length, ap, subst, arith}
-use Rattle.balise_rules.specs.Telegram.{Telegram, used}
+use Rattle.std.proofs.Common.{subst, arith}
+use Rattle.balise_rules.specs.Telegram.{Telegram}
 use Rattle.balise_telegram.specs.Shown.{IsShown}
 use Rattle.balise_telegram.proofs.Walking.{used_within}
 use Rattle.balise_telegram.proofs.telegram.Telegram.room.Goals as goal

@@ -82,6 +82,7 @@ impl<T> OneOrMore<T> {
 
 impl<T: Drop> OneOrMore<T> {
     /// Puts an item in at the end. The first takes no memory. Out of memory, all stays.
+    #[inline(always)]
     pub(crate) fn push(&mut self, item: T) -> Result<(), AllocError>
         ensures ok { OnOk result (self.new ≡ self.old ++ item ∷ []) }
         ensures err { OnErr result (self.new ≡ self.old) }
@@ -90,6 +91,15 @@ impl<T: Drop> OneOrMore<T> {
             self.held = Held::One(item);
             return Ok(());
         }
+        self.push_next(item)
+    }
+
+    // The same where there is an item already.
+    #[inline(never)]
+    fn push_next(&mut self, item: T) -> Result<(), AllocError>
+        ensures ok { OnOk result (self.new ≡ self.old ++ item ∷ []) }
+        ensures err { OnErr result (self.new ≡ self.old) }
+    {
         if let Held::Listed(list) = &mut self.held {
             list.reserve_exact(1)?;
             let _ = list.push(item);

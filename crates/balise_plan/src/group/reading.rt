@@ -7,7 +7,7 @@ ghost use Rattle.balise_rules.specs.Plan.{agree_from, read_group, IsSoundGroup};
 use crate::group::{Group, Telegrams, identity};
 use crate::one_or_more::OneOrMore;
 use balise_bits::Bits;
-use balise_rules::{Id, Refusal, Var};
+use balise_rules::{Id, Refusal};
 use balise_telegram::Telegram;
 use std::alloc::Global;
 
@@ -39,6 +39,7 @@ impl Group {
     }
 
     // The group of telegrams that were read.
+    #[inline(always)]
     pub(crate) fn of_read(telegrams: Telegrams) -> Result<Group, Refusal>
         requires { WereRead telegrams }
         ensures group { result ≡ group_of telegrams }
@@ -68,8 +69,7 @@ fn agree(telegrams: &Telegrams, id: Id) -> bool
     let last = telegrams.len().saturating_sub(1);
     for i in 0..telegrams.len() {
         let telegram = &telegrams[i].1;
-        let place = telegram.head(Var::NPig).unwrap_or(0);
-        let total = telegram.head(Var::NTotal).unwrap_or(0);
+        let (place, total) = telegram.place_in_group();
         let own = telegram.identity();
         if (place as usize != i) | (total as usize != last) | (own != id) {
             return false;

@@ -29,6 +29,22 @@ pub(crate) fn add_packet(
     if !packet.has_elements() {
         return Ok(());
     }
+    add_linking(alloc, names, place, country, packet)
+}
+
+// The same of a packet that has elements. Its elements stand in no frame of a packet that has none.
+#[inline(never)]
+fn add_linking(
+    alloc: Global,
+    names: &mut IdentityMap<Links>,
+    place: PacketPlace,
+    country: u32,
+    packet: &PacketRef,
+) -> Result<(), AllocError>
+    ensures added { OnOk result (AddsAll (links_from place.group place.telegram place.packet 0 (links_of country packet.now)) names.old names.new) }
+    ensures others { OnErr result (KeepsOthers (links_from place.group place.telegram place.packet 0 (links_of country packet.now)) names.old names.new) }
+    ensures full { AreFull names.old → AreFull names.new }
+{
     add_elements(alloc, names, place, &packet.elements(country))
 }
 
@@ -64,8 +80,22 @@ pub(crate) fn forget_packet(
     ensures full { AreFull names.old → AreFull names.new }
 {
     if packet.has_elements() {
-        forget_elements(names, place, &packet.elements(country));
+        forget_linking(names, place, country, packet);
     }
+}
+
+// The same of a packet that has elements.
+#[inline(never)]
+fn forget_linking(
+    names: &mut IdentityMap<Links>,
+    place: PacketPlace,
+    country: u32,
+    packet: &PacketRef,
+)
+    ensures forgotten { ForgetsAll (links_from place.group place.telegram place.packet 0 (links_of country packet.now)) names.old names.new }
+    ensures full { AreFull names.old → AreFull names.new }
+{
+    forget_elements(names, place, &packet.elements(country));
 }
 
 fn forget_elements(names: &mut IdentityMap<Links>, place: PacketPlace, elements: &Elements)

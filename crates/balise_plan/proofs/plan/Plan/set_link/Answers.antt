@@ -1,9 +1,10 @@
-use Rattle.std.proofs.Common.{rules, ◌∙◌, inl, inr, sym, refl}
+use Rattle.std.proofs.Common.{rules, ◌∙◌, inl, inr, subst, sym, refl}
 use Rattle.balise_rules.specs.declared.refusal.Refusal.TheVariants.{OutOfMemory}
 use Rattle.balise_rules.specs.declared.variable.Var.TheVariants.{NidBg}
 use Rattle.balise_rules.specs.Edits.{SetVar}
 use Rattle.balise_plan.specs.Links.{Keeps}
-use Rattle.balise_plan.specs.Relinking.{AddsReal}
+use Rattle.balise_index.specs.declared.link_place.LinkPlace.{LinkPlace}
+use Rattle.balise_plan.specs.Relinking.{AddsReal, ForgetsOther}
 use Rattle.balise_plan.proofs.plans.Pushed.{changed-to, kept-by}
 use Rattle.balise_plan.proofs.fields.Link.{link-kept, link-set, untold}
 use Rattle.balise_plan.proofs.plans.Outcomes.{does, fails, left-alone, refuses}
@@ -32,7 +33,7 @@ returns-then-is_err-clause-does c = fails (SetVar c.args.place.group c.args.plac
 pub invariant_of-self-in-Err-set_field : goal.invariant_of-self-in-Err-set_field
 invariant_of-self-in-Err-set_field c =
     let adds : AddsReal c.self.inside.names c.add_real.new.names (record { country = c.in-Ok.id.country; number = c.fitting.result }) (place c.args.place.group c.args.place.telegram c.args.place.packet c.args.k) = search rules in
-    let same = link-kept c.self.inside.groups.entries c.self.inside.identities c.self.inside.names c.self.invariant.held c.args.place.group c.args.place.telegram c.args.place.packet c.args.k c.in-Some.group.now (sym c.in-Some.ensures.value) c.in-Ok.id c.in-Ok.ensures.ok c.fitting.result c.add_real.new.names c.forget_other.new.names adds c.forget_other.ensures.forgotten in
+    let same = link-kept c.self.inside.groups.entries c.self.inside.identities c.self.inside.names c.self.invariant.held c.args.place.group c.args.place.telegram c.args.place.packet c.args.k c.in-Some.group.now (sym c.in-Some.ensures.value) c.in-Ok.id c.in-Ok.ensures.ok c.fitting.result c.add_real.new.names c.forget_other.new.names adds (subst (λ (w : LinkPlace). ForgetsOther c.add_real.new.names c.forget_other.new.names c.in-Ok.id (record { country = c.in-Ok.id.country; number = c.fitting.result }) w) c.element-link.ensures c.forget_other.ensures.forgotten) in
     let r = not-set c.self.inside.groups.entries c.self.inside.identities c.self.inside.names c.self.invariant.held c.args.place.group c.args.place.telegram c.args.place.packet NidBg c.args.k c.args.value c.in-Some.group.now c.set_field.new.self (sym c.in-Some.ensures.value) c.in-Err-set_field.fault c.in-Err-set_field.ensures in
     kept-by c.self.invariant (c.get_mut.follows.holds c.set_field.new.self ∙ r.is)
     (held-keeps c.self.inside.identities c.self.inside.names c.forget_other.new.names c.self.inside.groups.entries c.self.invariant.held (c.forget_other.ensures.full (c.add_real.ensures.full c.self.invariant.held.full)) same)
@@ -46,11 +47,11 @@ returns-in-Err-set_field-clause-does c =
 pub invariant_of-self-2 : goal.invariant_of-self-2
 invariant_of-self-2 c =
     let adds : AddsReal c.self.inside.names c.add_real.new.names (record { country = c.in-Ok.id.country; number = c.fitting.result }) (place c.args.place.group c.args.place.telegram c.args.place.packet c.args.k) = search rules in
-    let r = link-set c.self.inside.groups.entries c.self.inside.identities c.self.inside.names c.self.invariant.held c.args.place.group c.args.place.telegram c.args.place.packet c.args.k c.in-Some.group.now (sym c.in-Some.ensures.value) c.in-Ok.id c.in-Ok.ensures.ok c.fitting.result c.add_real.new.names c.forget_other-2.new.names c.args.value c.fitting.ensures.same adds c.forget_other-2.ensures.forgotten (c.forget_other-2.ensures.full (c.add_real.ensures.full c.self.invariant.held.full)) c.set_field.new.self c.in-Ok-set_field.old c.in-Ok-set_field.ensures in
+    let r = link-set c.self.inside.groups.entries c.self.inside.identities c.self.inside.names c.self.invariant.held c.args.place.group c.args.place.telegram c.args.place.packet c.args.k c.in-Some.group.now (sym c.in-Some.ensures.value) c.in-Ok.id c.in-Ok.ensures.ok c.fitting.result c.add_real.new.names c.forget_other-2.new.names c.args.value c.fitting.ensures.same adds (subst (λ (w : LinkPlace). ForgetsOther c.add_real.new.names c.forget_other-2.new.names (record { country = c.in-Ok.id.country; number = c.fitting.result }) c.in-Ok.id w) c.element-link.ensures c.forget_other-2.ensures.forgotten) (c.forget_other-2.ensures.full (c.add_real.ensures.full c.self.invariant.held.full)) c.set_field.new.self c.in-Ok-set_field.old c.in-Ok-set_field.ensures in
     changed-to c.self.inside.changes (c.get_mut.follows.holds c.set_field.new.self) r.held
 
 pub returns-clause-does : goal.returns-clause-does
 returns-clause-does c =
     let adds : AddsReal c.self.inside.names c.add_real.new.names (record { country = c.in-Ok.id.country; number = c.fitting.result }) (place c.args.place.group c.args.place.telegram c.args.place.packet c.args.k) = search rules in
     does (SetVar c.args.place.group c.args.place.telegram c.args.place.packet NidBg c.args.k c.args.value) c.self.view_is (c.get_mut.follows.holds c.set_field.new.self)
-    (link-set c.self.inside.groups.entries c.self.inside.identities c.self.inside.names c.self.invariant.held c.args.place.group c.args.place.telegram c.args.place.packet c.args.k c.in-Some.group.now (sym c.in-Some.ensures.value) c.in-Ok.id c.in-Ok.ensures.ok c.fitting.result c.add_real.new.names c.forget_other-2.new.names c.args.value c.fitting.ensures.same adds c.forget_other-2.ensures.forgotten (c.forget_other-2.ensures.full (c.add_real.ensures.full c.self.invariant.held.full)) c.set_field.new.self c.in-Ok-set_field.old c.in-Ok-set_field.ensures)
+    (link-set c.self.inside.groups.entries c.self.inside.identities c.self.inside.names c.self.invariant.held c.args.place.group c.args.place.telegram c.args.place.packet c.args.k c.in-Some.group.now (sym c.in-Some.ensures.value) c.in-Ok.id c.in-Ok.ensures.ok c.fitting.result c.add_real.new.names c.forget_other-2.new.names c.args.value c.fitting.ensures.same adds (subst (λ (w : LinkPlace). ForgetsOther c.add_real.new.names c.forget_other-2.new.names (record { country = c.in-Ok.id.country; number = c.fitting.result }) c.in-Ok.id w) c.element-link.ensures c.forget_other-2.ensures.forgotten) (c.forget_other-2.ensures.full (c.add_real.ensures.full c.self.invariant.held.full)) c.set_field.new.self c.in-Ok-set_field.old c.in-Ok-set_field.ensures)

@@ -5,7 +5,7 @@ ghost use Rattle.balise_cli.specs.Program.{DoesWords, Shows, Starts, Works, repo
 ghost use Rattle.balise_lines.specs.Writing.{Writes};
 
 use crate::exit::{Exit, exit_after_arguments, exit_of};
-use crate::running::run;
+use crate::running::{AtEnd, run_lines};
 use balise_arguments::{ArgsFault, Flags, flags};
 use balise_lines::{Counted, WriteFault};
 use balise_text::put_fault;
@@ -14,6 +14,9 @@ use std::fmt::Display;
 use std::io::{BufWriter, Read, Write};
 
 /// Runs, and then flushes, also where a fault ended the run. States how the program ends after both.
+///
+/// It is for a program that ends after it: the system takes the session's memory back then, all at once. `run` gives it
+/// back.
 pub fn work<R: Read, W: Write + Drop>(
     alloc: Global,
     flags: Flags,
@@ -22,7 +25,7 @@ pub fn work<R: Read, W: Write + Drop>(
 ) -> Exit
     ensures { Works R.remaining W.contents flags reader.old reader.new writer.old writer.new result }
 {
-    let ended = run(alloc, reader, writer, flags);
+    let ended = run_lines(alloc, flags, AtEnd::Leave, reader, writer);
     let flushed = writer.flush_buffer();
     exit_of(ended, flushed.is_ok())
 }

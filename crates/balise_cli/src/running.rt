@@ -5,7 +5,7 @@ ghost use Rattle.balise_cli.specs.Ends.{ComesToEnd, DidLines, NoneComplete, Runs
 ghost use Rattle.balise_cli.specs.Faults.{IsFault, Prints};
 ghost use Rattle.balise_cli.specs.Output.{Commands as AtCommands, Ended, Phase, TooLong};
 ghost use Rattle.balise_cli.specs.Phases.{journal_phase, plan_phase};
-ghost use Rattle.balise_cli.specs.Progress.{RunsOn};
+ghost use Rattle.balise_cli.specs.Progress.{Ran, RunsOn};
 ghost use Rattle.balise_lines.specs.Reading.{OverAtEnd};
 ghost use Rattle.balise_rules.specs.Session.{State};
 ghost use Rattle.balise_text.specs.Replies.{bad_line};
@@ -22,6 +22,16 @@ use balise_lines::{Counted, Lines};
 use balise_text::put_bad;
 use std::alloc::Global;
 use std::io::{Read, Write};
+use std::mem;
+
+/// What becomes of the session's memory when a run ends.
+#[derive(Clone, Copy)]
+pub(crate) enum AtEnd {
+    /// It is given back.
+    GiveBack,
+    /// It is left to the system, which takes it back at once when the program ends.
+    Leave,
+}
 
 /// Reads a plan, perhaps its journal, and commands; answers each command before the next line is looked at; and writes
 /// the plan, and the journal and the view where they are asked for.
@@ -45,9 +55,22 @@ pub fn run<R: Read, W: Write>(
     ensures complete { IsErrOf result RunFault.ReadFault → DidLines flags (R.remaining reader.old.inner) (R.remaining reader.new.inner) (W.contents writer.old.inner) (W.contents writer.new.inner) NoneComplete }
     ensures some { OnErr result (WritesSome flags (R.remaining reader.old.inner) (R.remaining reader.new.inner) (W.contents writer.old.inner) (W.contents writer.new.inner)) }
 {
+    run_lines(alloc, flags, AtEnd::GiveBack, reader, writer)
+}
+
+/// The same, by what becomes of the session's memory at the end.
+pub(crate) fn run_lines<R: Read, W: Write>(
+    alloc: Global,
+    flags: Flags,
+    at_end: AtEnd,
+    reader: &mut Counted<R>,
+    writer: &mut Counted<W>,
+) -> Result<Status, RunFault>
+    ensures { Ran flags (R.remaining reader.old.inner) (R.remaining reader.new.inner) (W.contents writer.old.inner) (W.contents writer.new.inner) reader.old.failed reader.new.failed writer.old.failed writer.new.failed result }
+{
     let mut lines = Lines::new();
     let mut plan = PlanReader::new(alloc);
-    run_plan(alloc, flags, &mut lines, &mut plan, reader, writer)
+    run_plan(alloc, flags, at_end, &mut lines, &mut plan, reader, writer)
 }
 
 // Writes the line for a plan or a journal that is refused.
@@ -70,6 +93,7 @@ fn refuse<W: Write>(
 fn run_plan<R: Read, W: Write>(
     alloc: Global,
     flags: Flags,
+    at_end: AtEnd,
     lines: &mut Lines,
     plan: &mut PlanReader,
     reader: &mut Counted<R>,
@@ -82,11 +106,19 @@ fn run_plan<R: Read, W: Write>(
         Err(fault) => Err(fault),
         Ok(PlanEnd::Bad(number, refusal)) => refuse(writer, number, refusal),
         Ok(PlanEnd::Edits) => {
-            run_commands(alloc, flags, lines, plan.session(alloc), reader, writer)
+            run_commands(
+                alloc,
+                flags,
+                at_end,
+                lines,
+                plan.session(alloc),
+                reader,
+                writer,
+            )
         }
         Ok(PlanEnd::Journal(number, head)) => match plan.journal(alloc, head) {
             Err(refusal) => refuse(writer, number, refusal),
-            Ok(journal) => run_journal(alloc, flags, lines, journal, reader, writer),
+            Ok(journal) => run_journal(alloc, flags, at_end, lines, journal, reader, writer),
         },
     }
 }
@@ -95,6 +127,7 @@ fn run_plan<R: Read, W: Write>(
 fn run_journal<R: Read, W: Write>(
     alloc: Global,
     flags: Flags,
+    at_end: AtEnd,
     lines: &mut Lines,
     journal: JournalReader,
     reader: &mut Counted<R>,
@@ -107,7 +140,7 @@ fn run_journal<R: Read, W: Write>(
         Err(fault) => Err(fault),
         Ok(JournalEnd::Bad(number, refusal)) => refuse(writer, number, refusal),
         Ok(JournalEnd::Edits(session)) => {
-            run_commands(alloc, flags, lines, session, reader, writer)
+            run_commands(alloc, flags, at_end, lines, session, reader, writer)
         }
     }
 }
@@ -116,6 +149,7 @@ fn run_journal<R: Read, W: Write>(
 fn run_commands<R: Read, W: Write>(
     alloc: Global,
     flags: Flags,
+    at_end: AtEnd,
     lines: &mut Lines,
     session: Session,
     reader: &mut Counted<R>,
@@ -125,5 +159,10 @@ fn run_commands<R: Read, W: Write>(
     ensures { RunsOn flags (AtCommands session.state false) lines.old R.remaining W.contents reader.old reader.new writer.old writer.new result }
 {
     let mut commands = Commands::new(session);
-    answer_commands(alloc, flags, lines, &mut commands, reader, writer)
+    let ended = answer_commands(alloc, flags, lines, &mut commands, reader, writer);
+    match at_end {
+        AtEnd::GiveBack => mem::drop(commands),
+        AtEnd::Leave => mem::forget(commands),
+    }
+    ended
 }

@@ -18,7 +18,7 @@ length_behind (Some n) (Some c) b e =
     let same : bits 4 n ++ c ≡ b = cc e in
     (c, refl, ap length (sym same) ∙ length-append (bits 4 n) c ∙ ap (λ (k : ℕ). k + length c) (length-bits 4 n))
 
-length-digit_bits : (text : List ℕ) (b : List Bool) → digit_bits text ≡ Some b → length b ≡ 4 * length text
+pub length-digit_bits : (text : List ℕ) (b : List Bool) → digit_bits text ≡ Some b → length b ≡ 4 * length text
 unfolding digit_bits
 length-digit_bits [] b e = let same : [] ≡ b = cc e in ap length (sym same)
 length-digit_bits (d ∷ ds) b e =

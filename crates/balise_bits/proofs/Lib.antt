@@ -11,5 +11,6 @@ pub mod Ones
 pub mod Same
 pub mod Short
 pub mod Judging
+pub mod Blocks
 mod CellsMemory
 mod Refilled

@@ -6,6 +6,9 @@ ghost use Rattle.balise_bits.specs.Bytes.{flat};
 
 use hex::encode_to_slice;
 
+/// How many bytes are read at once. Loops of a fixed length become vector code.
+const BLOCK: usize = 16;
+
 /// The value of a hexadecimal digit of either case, from 0 to 15, and a number above 15 for any other byte.
 #[inline(always)]
 pub fn hex_value(byte: u8) -> u8
@@ -30,14 +33,71 @@ pub(crate) fn decoded(text: &[u8], out: &mut [u8]) -> bool
     ensures bad { result ≡ false → digit_bits text.now ≡ None }
     ensures len { length out.new ≡ length out.old }
 {
-    let mut worst: u8 = 0;
-    for i in 0..out.len() {
-        let high = hex_value(text[2 * i]);
-        let low = hex_value(text[2 * i + 1]);
-        worst = worst.max(high).max(low);
-        out[i] = high % 16 * 16 + low % 16;
+    let count = out.len();
+    if count < BLOCK {
+        return decoded_short(text, out);
     }
-    worst < 16
+    for block in 0..count.div_ceil(BLOCK) {
+        // The last block ends with the last byte. It may overlap the one before, and then writes some bytes again.
+        let at = (BLOCK * block).min(count - BLOCK);
+        if !decoded_block(&text[2 * at..2 * at + 2 * BLOCK], &mut out[at..at + BLOCK]) {
+            return false;
+        }
+    }
+    true
+}
+
+// The same for less than a block, which zeros fill.
+#[inline(never)]
+fn decoded_short(text: &[u8], out: &mut [u8]) -> bool
+    requires text { length text.now ≡ 2 * length out.old }
+    requires short { length out.old < 16 }
+    ensures ok { result ≡ true → digit_bits text.now ≡ Some (flat out.new) }
+    ensures bad { result ≡ false → digit_bits text.now ≡ None }
+    ensures len { length out.new ≡ length out.old }
+{
+    let mut digits = [b'0'; 2 * BLOCK];
+    digits[..text.len()].copy_from_slice(text);
+    let mut bytes = [0u8; BLOCK];
+    let good = decoded_block(&digits, &mut bytes);
+    out.copy_from_slice(&bytes[..out.len()]);
+    good
+}
+
+// The same for one block.
+#[inline(always)]
+fn decoded_block(text: &[u8], out: &mut [u8]) -> bool
+    requires text { length text.now ≡ 32 }
+    requires out { length out.old ≡ 16 }
+    ensures ok { result ≡ true → digit_bits text.now ≡ Some (flat out.new) }
+    ensures bad { result ≡ false → digit_bits text.now ≡ None }
+    ensures len { length out.new ≡ length out.old }
+{
+    let mut values = [0u8; 2 * BLOCK];
+    let mut good = true;
+    for i in 0..2 * BLOCK {
+        let value = chosen_value(text[i]);
+        values[i] = value;
+        good = good && value < 16;
+    }
+    for k in 0..BLOCK {
+        let high = values[2 * k].wrapping_mul(16);
+        out[k] = high.wrapping_add(values[2 * k + 1]);
+    }
+    good
+}
+
+// The same as `hex_value`, for vector code. It takes more steps, but has no branches.
+#[inline(always)]
+fn chosen_value(byte: u8) -> u8
+    ensures digit { result < 16 → digit_value byte ≡ Some result }
+    ensures other { 16 ≤ result → digit_value byte ≡ None }
+{
+    let digit = byte.wrapping_sub(b'0');
+    // A small letter is the capital one plus 32.
+    let upper = byte - byte / 32 % 2 * 32;
+    let letter = upper.wrapping_sub(b'A').saturating_add(10);
+    if digit < 10 { digit } else { letter }
 }
 
 /// Writes the digits of bytes in lower case.

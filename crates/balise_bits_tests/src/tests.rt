@@ -4,3 +4,4 @@ mod calls;
 mod edges;
 mod large;
 mod moves;
+mod reading;

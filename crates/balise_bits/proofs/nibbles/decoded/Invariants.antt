@@ -1,5 +1,8 @@
-use Rattle.balise_bits.proofs.Judging.{Judged}
+use Rattle.std.proofs.Common.{◌≡◌, ◌*◌, take, Some}
+use Rattle.std.specs.Prelude.{min}
+use Rattle.balise_rules.specs.Digits.{digit_bits}
+use Rattle.balise_bits.specs.Bytes.{flat}
 use Rattle.balise_bits.proofs.nibbles.decoded.Given as goal
 
-abbrev pub invariant-loop-i : goal.invariant-loop-i
-invariant-loop-i l = Judged l.text l.out l.i l.worst
+abbrev pub invariant-loop-block : goal.invariant-loop-block
+invariant-loop-block l = digit_bits (take (2 * min (16 * l.block) l.count) l.text) ≡ Some (flat (take (min (16 * l.block) l.count) l.out))

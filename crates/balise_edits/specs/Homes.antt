@@ -1,9 +1,10 @@
 -- Where an edit lies.
-use Rattle.std.specs.Prelude.{ℕ, Bool, false, ◌&&◌, ◌%◌, not, cond, eqb, length, List}
+use Rattle.std.specs.Prelude.{◌≡◌, ℕ, ◌+◌, ◌*◌, ◌%◌, Bool, true, false, ◌&&◌, not, cond, eqb, nat_lt, length, List, All}
 use Rattle.balise_rules.specs.declared.tag.Tag.{Tag}
 use Rattle.balise_rules.specs.declared.tag.Tag.TheVariants.{Base, Fresh}
 use Rattle.balise_rules.specs.declared.identity.Id.{Id}
 use Rattle.balise_rules.specs.Edits.{Edit, SetVar, SetHead, InsertPacket, DeletePacket, MovePacket, AddGroup, DropGroup, Renumber, TurnGroup}
+use Rattle.balise_rules.specs.Paths.{Entry, apart}
 use Rattle.balise_edits.specs.declared.home.Home.{Home}
 use Rattle.balise_edits.specs.declared.home.Extent.{Extent}
 use Rattle.balise_edits.specs.declared.home.Extent.TheVariants.{Unnamed, Named, Group}
@@ -49,6 +50,33 @@ home_lying (OfGroup g) = at_group g
 
 abbrev pub home_of : ℕ → Edit → List Id → Home
 home_of s e is = home_lying (lying s e is)
+
+-- a home as one number, so that many can be looked at together
+abbrev pub code : Extent → ℕ
+code Unnamed = 0
+code Named = 1
+code Group = 2
+
+abbrev pub home_number : Home → ℕ
+home_number h = code h.extent * 16777216 + h.telegram * 65536 + h.group
+
+-- the same of an entry
+abbrev pub number_at : Entry → ℕ
+number_at e = home_number (home_of e.0.0 e.0.1 e.1.names)
+
+-- homes of these numbers and above may meet one of this extent in any group
+abbrev pub limit : Extent → ℕ
+limit Unnamed = 50331648
+limit Named = 33554432
+limit Group = 16777216
+
+-- whether a number is that of a home of another group, and below the limit
+abbrev pub is_far : ℕ → ℕ → ℕ → Bool
+is_far group most n = not (eqb (n % 65536) group) && nat_lt n most
+
+-- each of these entries is apart from one
+abbrev pub AllApart : Entry → List Entry → Type 0
+AllApart e fs = All (λ f. apart e f ≡ true) fs
 
 -- whether edits are seen to be apart by what they are of, and whether their groups and telegrams may be one
 abbrev pub apart_by : Extent → Extent → Bool → Bool → Bool

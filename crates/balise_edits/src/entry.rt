@@ -6,7 +6,7 @@ mod places;
 ghost use Rattle.std.specs.Prelude.{◌≡◌, IfOk, IsOkUnless};
 ghost use Rattle.balise_edits.specs.Anchors.{hung_on};
 ghost use Rattle.balise_edits.specs.Edits.{edit_of};
-ghost use Rattle.balise_edits.specs.Homes.{home_of};
+ghost use Rattle.balise_edits.specs.Homes.{home_of, number_at};
 ghost use Rattle.balise_edits.specs.Notes.{note_of, Suits};
 
 use crate::edit::Edit;
@@ -97,6 +97,13 @@ impl Entry {
         ensures { result.now ≡ home_of self.now.0.0 self.now.0.1 self.now.1.names }
     {
         &self.home
+    }
+
+    /// Where its edit lies, as a number for `count_apart`.
+    pub fn home_number(&self) -> u32
+        ensures { result ≡ number_at self.now }
+    {
+        self.home.number()
     }
 
     /// Its edit.

@@ -2,7 +2,7 @@
 
 ghost use Rattle.std.specs.Prelude.{◌≡◌, cond};
 ghost use Rattle.balise_edits.specs.Edits.{edit_of};
-ghost use Rattle.balise_edits.specs.Homes.{at_group, elsewhere, home_of, in_telegram, low};
+ghost use Rattle.balise_edits.specs.Homes.{at_group, elsewhere, home_number, home_of, in_telegram, limit, low};
 ghost use Rattle.balise_edits.specs.Notes.{note_of};
 
 use crate::edit::Edit;
@@ -68,6 +68,36 @@ impl Home {
             group: low(g),
             telegram: 0,
             extent: Extent::Group,
+        }
+    }
+
+    /// The same as one number, so that many can be looked at together.
+    pub(crate) fn number(&self) -> u32
+        ensures { result ≡ home_number self.now }
+    {
+        let extent = match self.extent {
+            Extent::Unnamed => 0,
+            Extent::Named => 1,
+            Extent::Group => 2,
+        };
+        extent * 16777216 + u32::from(self.telegram) * 65536 + u32::from(self.group)
+    }
+
+    /// Its group, by the last 16 bits.
+    pub(crate) fn group(&self) -> u32
+        ensures { result ≡ self.now.group }
+    {
+        u32::from(self.group)
+    }
+
+    /// The least number of a home that may meet it in any group.
+    pub(crate) fn limit(&self) -> u32
+        ensures { result ≡ limit self.now.extent }
+    {
+        match self.extent {
+            Extent::Unnamed => 50331648,
+            Extent::Named => 33554432,
+            Extent::Group => 16777216,
         }
     }
 

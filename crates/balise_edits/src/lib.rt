@@ -3,6 +3,7 @@
 
 mod applying;
 mod copying;
+mod counting;
 mod edit;
 mod entry;
 mod home;
@@ -24,6 +25,7 @@ pub use balise_plan::{
     Spot, Tag, Telegram, Var,
 };
 pub use balise_rules::{ReviewLine, Reviewed};
+pub use counting::count_apart;
 pub use edit::Edit;
 pub use entry::Entry;
 pub use independence::{apart, independent, re_anchor, stands_behind};

@@ -1,6 +1,7 @@
 //! The tests, by topic.
 
 mod copies;
+mod counting;
 mod doing;
 mod edits;
 mod four;

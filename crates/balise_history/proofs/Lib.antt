@@ -3,6 +3,7 @@ pub mod Places
 pub mod Halving
 pub mod Mapping
 pub mod Cuts
+pub mod HomesKept
 pub mod Hanging
 pub mod Entries
 pub mod Taking
@@ -19,4 +20,5 @@ pub mod Lines
 pub mod Unmaking
 pub mod Fitting
 pub mod Tested
+pub mod TestedTo
 pub mod Resolved

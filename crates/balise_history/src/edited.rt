@@ -128,7 +128,8 @@ impl EditedPlan {
         }
         let later = &standing[place + 1..];
         let compared = later.len();
-        let behind = serials_behind(self.history.allocator(), entry, later)?;
+        let homes = &self.history.homes()[place + 1..];
+        let behind = serials_behind(self.history.allocator(), entry, later, homes)?;
         self.history.take_out(&mut self.plan, place, behind)?;
         Ok(Struck { serial, compared })
     }

@@ -4,6 +4,7 @@ mod put_back;
 
 ghost use Rattle.std.specs.Prelude.{◌≡◌, ◌+◌, ◌<◌, ◌≤◌, ◌^◌, [], ◌∷◌, ◌++◌, drop, length, map, reverse, take, vec_capacity, vec_len, List, Some, true, IfOk, IsOk, IsOkUnless, OnOk, slice_get};
 ghost use Rattle.balise_edits.specs.Anchors.{new_anchor};
+ghost use Rattle.balise_edits.specs.Homes.{number_at};
 ghost use Rattle.balise_edits.specs.Standing.{IsLast, IsNext};
 ghost use Rattle.balise_history.specs.Lists.{entries_re_anchored, is_among, items_of, place_of, Ascends, Gone, PutsBack, TakesOut, top_serial};
 ghost use Rattle.balise_rules.specs.Paths as rules;
@@ -25,22 +26,25 @@ pub(crate) struct Undone {
     pub(crate) behind: Vec<u32>,
 }
 
-/// The entries that stand and those that were undone or struck, with room for all of them in either list.
+/// The entries that stand and those that were undone or struck, with room for all of them in either list. Beside those
+/// that stand are the numbers of their homes, so that a strike goes over four bytes for each.
 #[derive(Drop)]
 pub(crate) struct History {
     standing: Vec<Entry>,
+    homes: Vec<u32>,
     stack: Vec<Undone>,
 }
 
 impl Model for History {
-    ghost use Rattle.std.specs.Prelude.{◌+◌, ◌-◌, ◌≤◌, map, min, reverse, vec_capacity, vec_len};
+    ghost use Rattle.std.specs.Prelude.{◌≡◌, ◌+◌, ◌-◌, ◌≤◌, map, min, reverse, vec_capacity, vec_len};
+    ghost use Rattle.balise_edits.specs.Homes.{number_at};
     ghost use Rattle.balise_history.specs.Lists as specs;
 
     ghost Value = { specs.History };
 
-    ghost view = { λ h. record { standing = h.standing.items; stack = map specs.gone_of (reverse h.stack.items); room = min (vec_capacity h.standing) (vec_capacity h.stack) - (vec_len h.standing + vec_len h.stack) } };
+    ghost view = { λ h. record { standing = h.standing.items; stack = map specs.gone_of (reverse h.stack.items); room = min (min (vec_capacity h.standing) (vec_capacity h.homes)) (vec_capacity h.stack) - (vec_len h.standing + vec_len h.stack) } };
 
-    ghost invariant = { λ h. (vec_len h.standing + vec_len h.stack ≤ vec_capacity h.standing) × (vec_len h.standing + vec_len h.stack ≤ vec_capacity h.stack) };
+    ghost invariant = { λ h. (h.homes.items ≡ map number_at h.standing.items) × (vec_len h.standing + vec_len h.stack ≤ vec_capacity h.standing) × (vec_len h.standing + vec_len h.stack ≤ vec_capacity h.homes) × (vec_len h.standing + vec_len h.stack ≤ vec_capacity h.stack) };
 }
 
 /// The place of a serial among entries: how many have a lower one.
@@ -102,6 +106,7 @@ impl History {
     {
         History {
             standing: Vec::new(alloc),
+            homes: Vec::new(alloc),
             stack: Vec::new(alloc),
         }
     }
@@ -116,6 +121,13 @@ impl History {
         ensures { result.now ≡ self.now.standing }
     {
         &self.standing
+    }
+
+    /// The numbers of the homes of those that stand.
+    pub(crate) fn homes(&self) -> &[u32]
+        ensures { result.now ≡ map number_at self.now.standing }
+    {
+        &self.homes
     }
 
     /// How many were undone or struck.
@@ -157,6 +169,7 @@ impl History {
         let undone = self.stack.len();
         let standing = self.standing.len();
         self.standing.reserve(undone.saturating_add(1))?;
+        self.homes.reserve(undone.saturating_add(1))?;
         self.stack.reserve(standing.saturating_add(1))?;
         Ok(())
     }
@@ -168,6 +181,7 @@ impl History {
         ensures stack { self.new.stack ≡ [] }
     {
         self.stack.clear();
+        self.homes.push(entry.home_number()).unwrap();
         self.standing.push(entry).unwrap();
     }
 }
@@ -190,6 +204,7 @@ impl History {
     {
         take_back(plan, &mut self.standing[place])?;
         let entry = self.standing.remove(place);
+        let _ = self.homes.remove(place);
         re_anchor_from(&mut self.standing, place, &behind, &entry, false);
         self.stack.push(Undone { entry, behind }).unwrap();
         Ok(())
@@ -213,6 +228,7 @@ impl History {
         again(plan, &mut undone.entry)?;
         let Undone { entry, behind } = self.stack.remove(top);
         re_anchor_from(&mut self.standing, place, &behind, &entry, true);
+        self.homes.insert(place, entry.home_number()).unwrap();
         self.standing.insert(place, entry).unwrap();
         Ok(())
     }

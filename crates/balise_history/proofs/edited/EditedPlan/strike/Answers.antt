@@ -1,4 +1,4 @@
-use Rattle.std.proofs.Common.{◌≡◌, ◌≤◌, ◌+◌, ◌-◌, ◌∙◌, ⊎_elim, ℕ, zero, suc, List, [], ◌∷◌, Some, None, length, take, drop, slice_get, refl, sym, ap, subst, arith, add-one, inl, inr}
+use Rattle.std.proofs.Common.{◌≡◌, ◌≤◌, ◌+◌, ◌-◌, ◌∙◌, ⊎_elim, ℕ, zero, suc, List, [], ◌∷◌, Some, None, length, map, take, drop, slice_get, refl, sym, ap, subst, arith, add-one, inl, inr}
 use Rattle.std.proofs.lemmas.Result.{err_from_is_err_and}
 use Rattle.balise_rules.specs.declared.refusal.Refusal.TheVariants.{DependsOn, NoSuchEdit, OutOfMemory}
 use Rattle.balise_rules.specs.Paths.{Entry}
@@ -8,7 +8,9 @@ use Rattle.balise_edit_laws.specs.Along.{back_along}
 use Rattle.balise_history.specs.Held.{Edited, Accepts, Refuses}
 use Rattle.balise_history.specs.Lists.{place_of, items_of, Ascends}
 use Rattle.balise_history.specs.Tests.{MayRunOut, RunsOutAmong, StrikeMayRunOut}
+use Rattle.balise_edits.specs.Homes.{number_at}
 use Rattle.balise_history.proofs.Cuts.{got, all-behind}
+use Rattle.balise_history.proofs.HomesKept.{numbers-drop}
 use Rattle.balise_history.proofs.Entries.{none-there, behind-ascends, rising-drop}
 use Rattle.balise_history.proofs.Few.{few-held}
 use Rattle.balise_history.proofs.Taking.{rising-standing, there}
@@ -165,3 +167,12 @@ pub returns-in_err-take_out-clause-memory : goal.returns-in_err-take_out-clause-
 returns-in_err-take_out-clause-memory c = λ k.
     let at = goal.at.returns-in_err-take_out-clause-memory c in
     may_run_out at.Else-serial (inr (independent at.In_ok-behind))
+
+pub serials_behind-requires : goal.serials_behind-requires
+serials_behind-requires c =
+    let xs : List Entry = c.standing-standing.result.now in
+    let hs : List ℕ = c.homes.result.now in
+    let n : ℕ = c.place_of-place.result + 1 in
+    record {
+      homes = all-behind hs n ∙ ap (drop n) c.homes.ensures ∙ ap (λ (es : List Entry). drop n (map number_at es)) (sym c.standing-standing.ensures) ∙ sym (numbers-drop n xs) ∙ ap (map number_at) (sym (all-behind xs n));
+    }

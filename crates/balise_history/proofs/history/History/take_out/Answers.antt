@@ -1,4 +1,4 @@
-use Rattle.std.proofs.Common.{◌≡◌, ◌+◌, ◌∙◌, ◌<◌, ◌≤◌, ◌∷◌, ◌++◌, [], ℕ, suc, List, Some, length, get_or, take, drop, set, slice_get, map, reverse, sym, ap, arith, add-one, get_or-set_same}
+use Rattle.std.proofs.Common.{rules, ◌≡◌, ◌+◌, ◌∙◌, ◌<◌, ◌≤◌, ◌∷◌, ◌++◌, [], ℕ, suc, List, Some, length, get_or, take, drop, set, slice_get, map, reverse, sym, ap, arith, add-one, get_or-set_same}
 use Rattle.std.proofs.lemmas.List.{reverse-append}
 use Rattle.balise_rules.specs.Behind.{anchor_of}
 use Rattle.balise_rules.specs.Notes.{without_content}
@@ -6,6 +6,8 @@ use Rattle.balise_rules.specs.Paths.{Entry}
 use Rattle.balise_history.specs.declared.history.Undone.{Undone}
 use Rattle.balise_history.specs.Lists.{History, Gone, gone_of, entries_re_anchored}
 use Rattle.balise_history.proofs.Cuts.{take-set, drop-set, got, rest-before, rest-behind}
+use Rattle.balise_edits.specs.Homes.{number_at}
+use Rattle.balise_history.proofs.HomesKept.{numbers-cut, numbers-without}
 use Rattle.balise_history.proofs.history.History.take_out.Goals as goal
 
 pub returns-clause-takes : goal.returns-clause-takes
@@ -42,3 +44,16 @@ returns-clause-takes c =
     ap (λ (us : List Undone). map gone_of (reverse us)) pi ∙ ap (map gone_of) (reverse-append sk (u ∷ []))
     ∙ ap (λ (e : Entry). (e, serials) ∷ map gone_of (reverse sk)) rv ∙ ap (λ (rs : List Gone). ((e0.0, without_content e0.1), serials) ∷ rs) stack in
     (e0, ap (λ (xs : List Entry). slice_get xs n) (sym seen) ∙ got st n e0 l ∙ ap Some (sym iv), c.in_ok-take_back.ensures.back, hi, top)
+
+pub invariant_of-self-2 : goal.invariant_of-self-2
+invariant_of-self-2 c =
+    let st : List Entry = c.self.inside.standing.items in
+    let hs : List ℕ = c.self.inside.homes.items in
+    let n : ℕ = c.args.place in
+    let e0 : Entry = c.take_back.new.entry in
+    let ri : c.remove-entry.new.self.items ≡ take n st ++ drop (suc n) st =
+    c.remove-entry.ensures.items ∙ ap (λ (xs : List Entry). xs ++ drop (suc n) (set st n e0)) (take-set st n e0) ∙ ap (λ (xs : List Entry). take n st ++ xs) (drop-set st n e0) in
+    let left : map number_at c.re_anchor_from.new.standing.items ≡ take n hs ++ drop (suc n) hs =
+    ap (map number_at) c.re_anchor_from.ensures.items ∙ numbers-cut _ _ n c.remove-entry.new.self.items ∙ ap (map number_at) ri ∙ numbers-without n st
+    ∙ ap (λ (ns : List ℕ). take n ns ++ drop (suc n) ns) (sym c.self.invariant.0) in
+    (c.remove.ensures.items ∙ sym left, search rules, search rules, search rules)

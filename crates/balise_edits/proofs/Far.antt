@@ -1,0 +1,83 @@
+-- Numbers of homes: those below a limit and of another group are of entries that are apart.
+use Rattle.std.proofs.Common.{◌≡◌, ◌∙◌, ◌<◌, ◌+◌, ◌*◌, ◌%◌, ℕ, zero, suc, Bool, true, false, ◌&&◌, not, eqb, nat_lt, List, [], ◌∷◌, All, length, get_or, map, take, refl, sym, ap, subst, arith}
+use Rattle.std.proofs.lemmas.Bool.{ltb-true}
+use Rattle.std.proofs.lemmas.List.Elements.{All-nil, All-cons, All-head, All-tail}
+use Rattle.balise_rules.specs.declared.tag.Tag.{Tag}
+use Rattle.balise_rules.specs.declared.tag.Tag.TheVariants.{Base, Fresh}
+use Rattle.balise_rules.specs.Paths.{Entry, apart}
+use Rattle.balise_rules.proofs.Tests.{test-sym, nat_test}
+use Rattle.balise_edits.specs.declared.home.Home.{Home}
+use Rattle.balise_edits.specs.declared.home.Extent.{Extent}
+use Rattle.balise_edits.specs.declared.home.Extent.TheVariants.{Unnamed, Named, Group}
+use Rattle.balise_edits.specs.Homes.{Lying, OfTelegram, OfGroup, lying, home_lying, home_number, number_at, elsewhere, apart_by, code, low, limit, is_far, AllApart}
+use Rattle.balise_edits.proofs.Elsewhere.{apart_elsewhere, home_at}
+
+-- one more of the first numbers
+pub all-next : (P : ℕ → Type 0) (xs : List ℕ) (i : ℕ) → i < length xs → All P (take i xs) → P (get_or xs i 0) → All P (take (suc i) xs)
+all-next P [] i h all p = absurd (omega (arith, h))
+all-next P (y ∷ xs) zero h all p = All-cons P y [] p (All-nil P)
+all-next P (y ∷ xs) (suc i) h all p = All-cons P y (take (suc i) xs) (All-head P y (take i xs) all) (all-next P xs i (omega (arith, h)) (All-tail P y (take i xs) all) p)
+
+-- a home's numbers fit
+record Fits (h : Home) : Type 0 where
+  group : h.group < 65536
+  telegram : h.telegram < 256
+
+low-fits : (g : Tag) → low g < 65536
+low-fits (Base n) = omega arith
+low-fits (Fresh n) = omega arith
+
+fits : (l : Lying) → Fits (home_lying l)
+fits (OfTelegram g t m) = record { group = low-fits g; telegram = omega arith }
+fits (OfGroup g) = record { group = low-fits g; telegram = omega arith }
+
+not-and : (b c : Bool) → b ≡ false → not (b && c) ≡ true
+not-and b c e = ap (λ x. not (x && c)) e
+
+not-not : (b : Bool) → b ≡ false → not b ≡ true
+not-not b e = ap not e
+
+-- two extents and two telegrams, where the groups differ and the second home is below the limit of the first
+by-extents : (x y : Extent) (g t : Bool) (r : ℕ) → g ≡ false → r < 16777216 → code y * 16777216 + r < limit x → apart_by x y g t ≡ true
+by-extents Group Group g t r d s m = absurd (omega (arith, m))
+by-extents Group Unnamed g t r d s m = not-not g d
+by-extents Unnamed Group g t r d s m = not-not g d
+by-extents Group Named g t r d s m = absurd (omega (arith, m))
+by-extents Named Group g t r d s m = absurd (omega (arith, m))
+by-extents Unnamed Unnamed g t r d s m = not-and g t d
+by-extents Unnamed Named g t r d s m = not-and g t d
+by-extents Named Unnamed g t r d s m = not-and g t d
+by-extents Named Named g t r d s m = not-and g t d
+
+-- the two tests of a number
+both-parts : (a b : Bool) → (not a && b) ≡ true → (a ≡ false) × (b ≡ true)
+both-parts true b h = absurd cc
+both-parts false b h = (refl, h)
+
+far-elsewhere : (h k : Home) → Fits k → is_far h.group (limit h.extent) (home_number k) ≡ true → elsewhere h k ≡ true
+far-elsewhere h k f e =
+    let b = both-parts (eqb (home_number k % 65536) h.group) (nat_lt (home_number k) (limit h.extent)) e in
+    let same : home_number k % 65536 ≡ k.group = omega (arith, f.group) in
+    let other : eqb h.group k.group ≡ false = test-sym nat_test h.group k.group ∙ sym (ap (λ (n : ℕ). eqb n h.group) same) ∙ b.0 in
+    let below : code k.extent * 16777216 + (k.telegram * 65536 + k.group) < limit h.extent = omega (arith, ltb-true (home_number k) (limit h.extent) b.1) in
+    by-extents h.extent k.extent (eqb h.group k.group) (eqb h.telegram k.telegram) (k.telegram * 65536 + k.group) other (omega (arith, f.group, f.telegram)) below
+
+-- an entry whose number is far is apart
+far-apart : (e f : Entry) → is_far (home_at e).group (limit (home_at e).extent) (number_at f) ≡ true → apart e f ≡ true
+far-apart e f d = apart_elsewhere e f (far-elsewhere (home_at e) (home_at f) (fits (lying f.0.0 f.0.1 f.1.names)) d)
+
+pub all-apart : (e : Entry) (n : ℕ) (fs : List Entry) → All (λ n. is_far (home_at e).group (limit (home_at e).extent) n ≡ true) (take n (map number_at fs)) → AllApart e (take n fs)
+all-apart e zero fs all = All-nil (λ f. apart e f ≡ true)
+all-apart e (suc n) [] all = All-nil (λ f. apart e f ≡ true)
+all-apart e (suc n) (f ∷ fs) all =
+    let P : ℕ → Type 0 = λ n. is_far (home_at e).group (limit (home_at e).extent) n ≡ true in
+    All-cons (λ f. apart e f ≡ true) f (take n fs) (far-apart e f (All-head P (number_at f) (take n (map number_at fs)) all)) (all-apart e n fs (All-tail P (number_at f) (take n (map number_at fs)) all))
+
+-- the same of numbers that are far by the group and the limit of an entry's home
+pub far-ones : (e : Entry) (n group most : ℕ) (h : Home) (xs : List ℕ) (fs : List Entry) → group ≡ h.group → most ≡ limit h.extent → h ≡ home_at e → All (λ m. is_far group most m ≡ true) (take n xs) → xs ≡ map number_at fs → AllApart e (take n fs)
+far-ones e n group most h xs fs g m at all is =
+    let G : group ≡ (home_at e).group = g ∙ ap (λ (k : Home). k.group) at in
+    let M : most ≡ limit (home_at e).extent = m ∙ ap (λ (k : Home). limit k.extent) at in
+    let one = subst (λ (k : ℕ). All (λ m. is_far k most m ≡ true) (take n xs)) G all in
+    let two = subst (λ (k : ℕ). All (λ m. is_far (home_at e).group k m ≡ true) (take n xs)) M one in
+    all-apart e n fs (subst (λ (ys : List ℕ). All (λ m. is_far (home_at e).group (limit (home_at e).extent) m ≡ true) (take n ys)) is two)

@@ -14,4 +14,3 @@ pub mod EntriesBack
 pub mod LinesBack
 pub mod PrintedLines
 pub mod Reading
-pub mod NumberLines

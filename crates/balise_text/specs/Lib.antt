@@ -16,4 +16,5 @@ pub mod Answers
 pub mod Reviews
 pub mod Laws
 pub mod Left
+pub mod LineEnds
 pub mod Printing

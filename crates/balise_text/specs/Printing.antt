@@ -1,5 +1,5 @@
 -- What is printed for a word, and the bytes of its digits.
-use Rattle.std.specs.Prelude.{ℕ, ◌++◌, List, Bool, length, decimal}
+use Rattle.std.specs.Prelude.{ℕ, ◌++◌, List, [], ◌∷◌, Bool, true, false, Option, None, Some, length, decimal}
 use Rattle.balise_rules.specs.Bits.{num, part, zeros}
 use Rattle.balise_rules.specs.Digits.{fill, hex_of}
 use Rattle.balise_text.specs.Texts.{Text}
@@ -19,6 +19,17 @@ word_text (Neighbour b) = neighbour_text b
 word_text (TelegramPath g t) = telegram_path g t
 word_text (PacketPath g t p) = packet_path g t p
 word_text (Digits b) = hex_of b.now
+
+-- names and digits may be long
+abbrev pub is_short : Word → Bool
+is_short (Name t) = false
+is_short (Digits b) = false
+is_short w = true
+
+-- one word, or none
+abbrev pub word_or_none : Option Word → List Text
+word_or_none None = []
+word_or_none (Some w) = word_text w ∷ []
 
 -- bits, and zeros up to a whole byte
 abbrev pub padded : List Bool → List Bool

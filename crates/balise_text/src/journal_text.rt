@@ -1,14 +1,15 @@
 //! Prints the lines of a journal. No memory is taken.
 
-ghost use Rattle.std.specs.Prelude.{◌++◌, ◌∷◌, [], codes, map};
+ghost use Rattle.std.specs.Prelude.{◌≡◌, ◌++◌, codes, decimal, map};
 ghost use Rattle.balise_lines.specs.Writing.{Writes};
 ghost use Rattle.balise_commands.specs.Lines.{line_edit_of, line_in, noted_in};
 ghost use Rattle.balise_rules.specs.Digits.{hex_of};
 ghost use Rattle.balise_text.specs.Entries.{edit_words, entry_text, head_text, noted_words, undone_text};
-ghost use Rattle.balise_text.specs.Places.{anchor_text};
+ghost use Rattle.balise_text.specs.Printing.{word_or_none, word_text};
 ghost use Rattle.balise_text.specs.Texts.{behind_marks};
 
-use crate::printing::{Word, put_line, put_number, put_words};
+use crate::line_end::LineEnd;
+use crate::printing::{Word, put_line, put_word, put_words};
 use balise_bits::Bits;
 use balise_commands::{Line, LineEdit, Noted, Tag};
 use balise_lines::{Counted, WriteFault, put};
@@ -26,28 +27,25 @@ fn put_telegrams<W: Write>(writer: &mut Counted<W>, telegrams: &[Bits]) -> Resul
     Ok(())
 }
 
-// The words of an added group, a space before each.
-fn put_added<W: Write>(
-    writer: &mut Counted<W>,
-    after: Option<Tag>,
-    telegrams: &[Bits],
-) -> Result<(), WriteFault>
-    ensures { Writes W.contents writer.old writer.new result (behind_marks 32 (codes "add" ∷ anchor_text after ∷ map hex_of telegrams.now)) }
+// The word of what is noted.
+#[inline(always)]
+fn noted_word(noted: Noted) -> Option<Word<'static>>
+    ensures { word_or_none result ≡ noted_words (noted_in noted) }
 {
-    if let Err(fault) = put_words(writer, &[Word::Name(b"add"), Word::Anchor(after)]) {
-        return Err(fault);
+    match noted {
+        Noted::Nothing => None,
+        Noted::Value(value) => Some(Word::Number(value)),
+        Noted::Number(number) => Some(Word::Number(number)),
+        Noted::BeforePacket(before) => Some(Word::Neighbour(before)),
+        Noted::BeforeGroup(before) => Some(Word::Neighbour(before)),
     }
-    if let Err(fault) = put_telegrams(writer, telegrams) {
-        return Err(fault);
-    }
-    Ok(())
 }
 
-// The words of an edit, a space before each.
-fn put_edit<W: Write>(writer: &mut Counted<W>, edit: &LineEdit) -> Result<(), WriteFault>
-    ensures { Writes W.contents writer.old writer.new result (behind_marks 32 (edit_words (line_edit_of edit.now))) }
+/// Writes the line of an entry, with its end: in one call, if it has no digits of bits.
+pub fn put_entry<W: Write>(writer: &mut Counted<W>, line: &Line) -> Result<(), WriteFault>
+    ensures { Writes W.contents writer.old writer.new result (entry_text (line_in line.now) ++ codes "\n") }
 {
-    match edit {
+    match &line.edit {
         LineEdit::SetVar {
             g,
             t,
@@ -55,8 +53,9 @@ fn put_edit<W: Write>(writer: &mut Counted<W>, edit: &LineEdit) -> Result<(), Wr
             var,
             k,
             value,
-        } => put_words(
+        } => put_entry_line(
             writer,
+            line,
             &[
                 Word::Name(b"set"),
                 Word::PacketPath(*g, *t, *p),
@@ -64,88 +63,145 @@ fn put_edit<W: Write>(writer: &mut Counted<W>, edit: &LineEdit) -> Result<(), Wr
                 Word::Number(*k),
                 Word::Number(*value),
             ],
+            &[],
         ),
-        LineEdit::SetHead { g, t, var, value } => put_words(
+        LineEdit::SetHead { g, t, var, value } => put_entry_line(
             writer,
+            line,
             &[
                 Word::Name(b"seth"),
                 Word::TelegramPath(*g, *t),
                 Word::Name(var.name().as_bytes()),
                 Word::Number(*value),
             ],
+            &[],
         ),
         LineEdit::InsertPacket {
             g,
             t,
             after,
             packet,
-        } => put_words(
+        } => put_entry_line(
             writer,
+            line,
             &[
                 Word::Name(b"insert"),
                 Word::TelegramPath(*g, *t),
                 Word::Anchor(*after),
                 Word::Digits(packet),
             ],
+            &[],
         ),
-        LineEdit::DeletePacket { g, t, p } => {
-            put_words(
-                writer,
-                &[Word::Name(b"delete"), Word::PacketPath(*g, *t, *p)],
-            )
-        }
-        LineEdit::MovePacket { g, t, p, after } => put_words(
+        LineEdit::DeletePacket { g, t, p } => put_entry_line(
             writer,
+            line,
+            &[Word::Name(b"delete"), Word::PacketPath(*g, *t, *p)],
+            &[],
+        ),
+        LineEdit::MovePacket { g, t, p, after } => put_entry_line(
+            writer,
+            line,
             &[
                 Word::Name(b"move"),
                 Word::PacketPath(*g, *t, *p),
                 Word::Anchor(*after),
             ],
+            &[],
         ),
-        LineEdit::AddGroup { after, telegrams } => put_added(writer, *after, telegrams),
-        LineEdit::DropGroup { g } => put_words(writer, &[Word::Name(b"drop"), Word::GroupTag(*g)]),
-        LineEdit::Renumber { g, number } => put_words(
+        LineEdit::AddGroup { after, telegrams } => put_entry_line(
             writer,
+            line,
+            &[Word::Name(b"add"), Word::Anchor(*after)],
+            telegrams,
+        ),
+        LineEdit::DropGroup { g } => put_entry_line(
+            writer,
+            line,
+            &[Word::Name(b"drop"), Word::GroupTag(*g)],
+            &[],
+        ),
+        LineEdit::Renumber { g, number } => put_entry_line(
+            writer,
+            line,
             &[
                 Word::Name(b"renumber"),
                 Word::GroupTag(*g),
                 Word::Number(*number),
             ],
+            &[],
         ),
-        LineEdit::TurnGroup { g } => put_words(writer, &[Word::Name(b"turn"), Word::GroupTag(*g)]),
+        LineEdit::TurnGroup { g } => put_entry_line(
+            writer,
+            line,
+            &[Word::Name(b"turn"), Word::GroupTag(*g)],
+            &[],
+        ),
     }
 }
 
-// The word of what is noted, with a space before it.
-fn put_noted<W: Write>(writer: &mut Counted<W>, noted: Noted) -> Result<(), WriteFault>
-    ensures { Writes W.contents writer.old writer.new result (behind_marks 32 (noted_words (noted_in noted))) }
-{
-    match noted {
-        Noted::Nothing => put_words(writer, &[]),
-        Noted::Value(value) => put_words(writer, &[Word::Number(value)]),
-        Noted::Number(number) => put_words(writer, &[Word::Number(number)]),
-        Noted::BeforePacket(before) => put_words(writer, &[Word::Neighbour(before)]),
-        Noted::BeforeGroup(before) => put_words(writer, &[Word::Neighbour(before)]),
-    }
-}
-
-/// Writes the line of an entry, with its end.
-pub fn put_entry<W: Write>(writer: &mut Counted<W>, line: &Line) -> Result<(), WriteFault>
+// Writes it by the words of its edit: some words, and the digits of telegrams.
+fn put_entry_line<W: Write>(
+    writer: &mut Counted<W>,
+    line: &Line,
+    words: &[Word],
+    telegrams: &[Bits],
+) -> Result<(), WriteFault>
+    requires { edit_words (line_edit_of line.now.edit) ≡ map word_text words.now ++ map hex_of telegrams.now }
     ensures { Writes W.contents writer.old writer.new result (entry_text (line_in line.now) ++ codes "\n") }
 {
-    if let Err(fault) = put_number(writer, line.serial) {
+    let noted = noted_word(line.noted);
+    let mut end = LineEnd::new();
+    if telegrams.is_empty()
+        && end.put_byte(b'\n')
+        && end.put_word_or_none(&noted)
+        && end.put_words(words)
+        && end.put_number(u64::from(line.serial))
+    {
+        return put(writer, end.text());
+    }
+    put_parts(writer, line.serial, words, telegrams, &noted)
+}
+
+// The same, part by part.
+#[inline(never)]
+fn put_parts<W: Write>(
+    writer: &mut Counted<W>,
+    serial: u32,
+    words: &[Word],
+    telegrams: &[Bits],
+    noted: &Option<Word>,
+) -> Result<(), WriteFault>
+    ensures { Writes W.contents writer.old writer.new result (decimal serial ++ (behind_marks 32 (map word_text words.now) ++ (behind_marks 32 (map hex_of telegrams.now) ++ (behind_marks 32 (word_or_none noted.now) ++ codes "\n")))) }
+{
+    if let Err(fault) = put_word(writer, &Word::Number(serial)) {
         return Err(fault);
     }
-    if let Err(fault) = put_edit(writer, &line.edit) {
+    if let Err(fault) = put_words(writer, words) {
         return Err(fault);
     }
-    if let Err(fault) = put_noted(writer, line.noted) {
+    if let Err(fault) = put_telegrams(writer, telegrams) {
+        return Err(fault);
+    }
+    if let Err(fault) = put_word_or_none(writer, noted) {
         return Err(fault);
     }
     if let Err(fault) = put(writer, b"\n") {
         return Err(fault);
     }
     Ok(())
+}
+
+// Writes a word with a space before it, if there is one.
+fn put_word_or_none<W: Write>(
+    writer: &mut Counted<W>,
+    word: &Option<Word>,
+) -> Result<(), WriteFault>
+    ensures { Writes W.contents writer.old writer.new result (behind_marks 32 (word_or_none word.now)) }
+{
+    match word {
+        Some(word) => put_words(writer, &[*word]),
+        None => Ok(()),
+    }
 }
 
 /// Writes the first line of a journal, with its end: version 2, and the serial of the next edit.

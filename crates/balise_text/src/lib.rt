@@ -23,6 +23,7 @@ mod section;
 mod digits;
 mod journal_text;
 pub mod laws;
+mod line_end;
 mod printing;
 mod refused;
 mod replies;

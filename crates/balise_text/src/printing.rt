@@ -1,17 +1,15 @@
 //! Prints words and lines. No memory is taken.
 
-ghost use Rattle.std.specs.Prelude.{◌∷◌, decimal, map};
+ghost use Rattle.std.specs.Prelude.{◌∷◌, map};
 ghost use Rattle.balise_lines.specs.Writing.{Writes};
-ghost use Rattle.balise_text.specs.Places.{packet_path, tag_text, telegram_path};
 ghost use Rattle.balise_text.specs.Printing.{word_text};
-ghost use Rattle.balise_text.specs.Reviews.{id_text};
 ghost use Rattle.balise_text.specs.Texts.{behind_marks, text_of, whole_line};
 
 use crate::digits::put_digits;
+use crate::line_end::LineEnd;
 use balise_bits::Bits;
 use balise_lines::{Counted, WriteFault, put};
 use balise_rules::{Id, Tag};
-use itoa::Buffer;
 use std::io::Write;
 
 /// A word of a line.
@@ -41,108 +39,36 @@ pub fn put_texts<W: Write>(writer: &mut Counted<W>, texts: &[&[u8]]) -> Result<(
     Ok(())
 }
 
-// A tag, by its letter and number.
-fn put_tag<W: Write>(writer: &mut Counted<W>, tag: Tag) -> Result<(), WriteFault>
-    ensures { Writes W.contents writer.old writer.new result (tag_text tag) }
-{
-    let mut buffer = Buffer::new();
-    match tag {
-        Tag::Base(place) => put_texts(writer, &[b"b", buffer.format(place).as_bytes()]),
-        Tag::Fresh(serial) => put_texts(writer, &[b"n", buffer.format(serial).as_bytes()]),
-    }
-}
-
-// The tags of a group and of a telegram.
-fn put_telegram_path<W: Write>(writer: &mut Counted<W>, g: Tag, t: u32) -> Result<(), WriteFault>
-    ensures { Writes W.contents writer.old writer.new result (telegram_path g t) }
-{
-    if let Err(fault) = put_tag(writer, g) {
-        return Err(fault);
-    }
-    if let Err(fault) = put(writer, b"/") {
-        return Err(fault);
-    }
-    if let Err(fault) = put_number(writer, t) {
-        return Err(fault);
-    }
-    Ok(())
-}
-
-// The tags of a group, of a telegram and of a packet.
-fn put_packet_path<W: Write>(
-    writer: &mut Counted<W>,
-    g: Tag,
-    t: u32,
-    p: Tag,
-) -> Result<(), WriteFault>
-    ensures { Writes W.contents writer.old writer.new result (packet_path g t p) }
-{
-    if let Err(fault) = put_telegram_path(writer, g, t) {
-        return Err(fault);
-    }
-    if let Err(fault) = put(writer, b"/") {
-        return Err(fault);
-    }
-    if let Err(fault) = put_tag(writer, p) {
-        return Err(fault);
-    }
-    Ok(())
-}
-
-// An identity: country and number.
-fn put_id<W: Write>(writer: &mut Counted<W>, id: Id) -> Result<(), WriteFault>
-    ensures { Writes W.contents writer.old writer.new result (id_text id) }
-{
-    let mut country = Buffer::new();
-    let mut number = Buffer::new();
-    put_texts(
-        writer,
-        &[
-            country.format(id.country).as_bytes(),
-            b".",
-            number.format(id.number).as_bytes(),
-        ],
-    )
-}
-
-/// Writes a number in decimal.
-pub(crate) fn put_number<W: Write>(writer: &mut Counted<W>, number: u32) -> Result<(), WriteFault>
-    ensures { Writes W.contents writer.old writer.new result (decimal number) }
-{
-    let mut buffer = Buffer::new();
-    put(writer, buffer.format(number).as_bytes())
-}
-
-// The number of a line in decimal.
-fn put_line_number<W: Write>(writer: &mut Counted<W>, number: u64) -> Result<(), WriteFault>
-    ensures { Writes W.contents writer.old writer.new result (decimal number) }
-{
-    let mut buffer = Buffer::new();
-    put(writer, buffer.format(number).as_bytes())
-}
-
 /// Writes a word.
 pub(crate) fn put_word<W: Write>(writer: &mut Counted<W>, word: &Word) -> Result<(), WriteFault>
     ensures { Writes W.contents writer.old writer.new result (word_text word.now) }
 {
+    let mut end = LineEnd::new();
+    if end.put_word(word) {
+        return put(writer, end.text());
+    }
     match *word {
         Word::Name(name) => put(writer, name),
-        Word::Number(number) => put_number(writer, number),
-        Word::LineNumber(number) => put_line_number(writer, number),
-        Word::Identity(id) => put_id(writer, id),
-        Word::GroupTag(tag) => put_tag(writer, tag),
-        Word::Anchor(None) => put(writer, b"^"),
-        Word::Anchor(Some(tag)) => put_tag(writer, tag),
-        Word::Neighbour(None) => put(writer, b"$"),
-        Word::Neighbour(Some(tag)) => put_tag(writer, tag),
-        Word::TelegramPath(g, t) => put_telegram_path(writer, g, t),
-        Word::PacketPath(g, t, p) => put_packet_path(writer, g, t, p),
         Word::Digits(bits) => put_digits(writer, bits),
+        // There is room for any other.
+        _ => Ok(()),
     }
 }
 
-/// Writes words, a space before each.
+/// Writes words, a space before each: in one call, if none of them is long.
 pub(crate) fn put_words<W: Write>(writer: &mut Counted<W>, words: &[Word]) -> Result<(), WriteFault>
+    ensures { Writes W.contents writer.old writer.new result (behind_marks 32 (map word_text words.now)) }
+{
+    let mut end = LineEnd::new();
+    if end.put_words(words) {
+        return put(writer, end.text());
+    }
+    put_each(writer, words)
+}
+
+// The same, one after another.
+#[inline(never)]
+fn put_each<W: Write>(writer: &mut Counted<W>, words: &[Word]) -> Result<(), WriteFault>
     ensures { Writes W.contents writer.old writer.new result (behind_marks 32 (map word_text words.now)) }
 {
     for word in words {
@@ -158,6 +84,22 @@ pub(crate) fn put_words<W: Write>(writer: &mut Counted<W>, words: &[Word]) -> Re
 
 /// Writes a line of a name and of words after it, with its end.
 pub(crate) fn put_line<W: Write>(
+    writer: &mut Counted<W>,
+    name: &[u8],
+    words: &[Word],
+) -> Result<(), WriteFault>
+    ensures { Writes W.contents writer.old writer.new result (whole_line (name.now ∷ map word_text words.now)) }
+{
+    let mut end = LineEnd::new();
+    if end.put_byte(b'\n') && end.put_words(words) && end.put_name(name) {
+        return put(writer, end.text());
+    }
+    put_long_line(writer, name, words)
+}
+
+// The same, part by part.
+#[inline(never)]
+fn put_long_line<W: Write>(
     writer: &mut Counted<W>,
     name: &[u8],
     words: &[Word],

@@ -6,30 +6,13 @@ ghost use Rattle.balise_text.specs.Answers.{reply_of};
 ghost use Rattle.balise_text.specs.Replies.{bad_line, fault_line, refused_line, reply_line};
 ghost use Rattle.balise_text.specs.Texts.{whole_line};
 
+use crate::line_end::LineEnd;
 use crate::printing::{Word, put_line};
 use crate::refused::refused_text;
 use crate::reply::Reply;
 use balise_lines::{Counted, WriteFault, put};
 use balise_rules::Refusal;
-use itoa::write_digits;
 use std::io::Write;
-
-/// The bytes of a line of a name and a number: at most 8, a space, at most 10, the line's end.
-const ROOM: usize = 20;
-
-// Puts the line of a name and a number together, from its end, and answers where it begins.
-fn number_line(line: &mut [u8; ROOM], name: &[u8], number: u32) -> usize
-    requires { length name.now ≤ 8 }
-    ensures within { result ≤ 20 }
-    ensures line { drop result line.new ≡ whole_line (name.now ∷ decimal number ∷ []) }
-{
-    line[ROOM - 1] = b'\n';
-    let digits = write_digits(u64::from(number), line, ROOM - 1);
-    line[digits - 1] = b' ';
-    let start = digits - 1 - name.len();
-    line[start..digits - 1].copy_from_slice(name);
-    start
-}
 
 // Writes the line of a name and a number, in one call.
 fn put_number_line<W: Write>(
@@ -37,12 +20,17 @@ fn put_number_line<W: Write>(
     name: &[u8],
     number: u32,
 ) -> Result<(), WriteFault>
-    requires { length name.now ≤ 8 }
     ensures { Writes W.contents writer.old writer.new result (whole_line (name.now ∷ decimal number ∷ [])) }
 {
-    let mut line = [0; ROOM];
-    let start = number_line(&mut line, name, number);
-    put(writer, &line[start..])
+    let mut end = LineEnd::new();
+    if end.put_byte(b'\n')
+        && end.put_number(u64::from(number))
+        && end.put_byte(b' ')
+        && end.put_name(name)
+    {
+        return put(writer, end.text());
+    }
+    put_line(writer, name, &[Word::Number(number)])
 }
 
 // The line of a command that is refused.

@@ -48,6 +48,14 @@ const ENTRIES: &[(&str, &str)] = &[
     ("9 renumber b0 101 100", "9 renumber b0 101 100\n"),
     ("10 turn n10", "10 turn n10\n"),
     (
+        "4294967295 set n4294967295/4294967295/n4294967295 Q_LINKORIENTATION 4294967295 4294967295 4294967295",
+        "4294967295 set n4294967295/4294967295/n4294967295 Q_LINKORIENTATION 4294967295 4294967295 4294967295\n",
+    ),
+    (
+        "4294967295 move n4294967295/4294967295/n4294967295 n4294967295 n4294967295",
+        "4294967295 move n4294967295/4294967295/n4294967295 n4294967295 n4294967295\n",
+    ),
+    (
         "11 add ^ A1007f80a0327fffffffffffffffffffffffffffffffffffffffc0",
         "11 add ^ a1007f80a0327fffffffffffffffffffffffffffffffffffffffc0\n",
     ),

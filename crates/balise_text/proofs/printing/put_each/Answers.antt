@@ -4,7 +4,7 @@ use Rattle.balise_text.specs.Printing.{word_text}
 use Rattle.balise_lines.specs.Writing.{LastFailed}
 use Rattle.balise_lines.proofs.PartsWritten.{wrote_more, wrote_some}
 use Rattle.balise_text.proofs.Lists.{item_word, word_left}
-use Rattle.balise_text.proofs.printing.put_words.Goals as goal
+use Rattle.balise_text.proofs.printing.put_each.Goals as goal
 
 pub returns-in-Err : goal.returns-in-Err
 returns-in-Err g c =

@@ -3,7 +3,7 @@ use Rattle.balise_text.specs.Texts.{Text, behind_marks, whole_line}
 use Rattle.balise_text.specs.Printing.{word_text}
 use Rattle.balise_lines.specs.Writing.{LastFailed}
 use Rattle.balise_lines.proofs.PartsWritten.{wrote_none, wrote_more, wrote_some}
-use Rattle.balise_text.proofs.printing.put_line.Goals as goal
+use Rattle.balise_text.proofs.printing.put_long_line.Goals as goal
 
 pub returns-in-Err-put : goal.returns-in-Err-put
 returns-in-Err-put g c =

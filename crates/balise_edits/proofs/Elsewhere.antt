@@ -10,8 +10,7 @@ use Rattle.balise_rules.specs.Paths.{Path, Entry, At, Nth, Of, Turn, After, Fron
 use Rattle.balise_rules.specs.Behind.{anchored}
 use Rattle.balise_rules.proofs.Tests.{equal_yes, flip_no, split_keys, test-sym, tag_test, nat_test}
 use Rattle.balise_strike_laws.proofs.Symmetry.{symmetric}
-use Rattle.balise_edits.specs.declared.home.Home.{Home}
-use Rattle.balise_edits.specs.Homes.{Lying, OfTelegram, OfGroup, lying, home_lying, home_of, are_named, elsewhere, low}
+use Rattle.balise_edits.specs.Homes.{Lying, OfTelegram, OfGroup, lying, home_lying, home_at, home_of, are_named, elsewhere, low}
 
 -- by whole tags
 abbrev far : Lying → Lying → Bool
@@ -240,9 +239,6 @@ far-lying (OfTelegram g t false) (OfGroup h) d = one-same (eqb (low g) (low h)) 
 far-lying (OfGroup h) (OfTelegram g t true) d = absurd (cc)
 far-lying (OfGroup h) (OfTelegram g t false) d = one-same (eqb (low h) (low g)) (same_tag g h) (λ n. low-same g h (flip_no nat_test (low h) (low g) n)) d
 far-lying (OfGroup g) (OfGroup h) d = absurd (cc)
-
-abbrev pub home_at : Entry → Home
-home_at e = home_of e.0.0 e.0.1 e.1.names
 
 pub apart_elsewhere : (e f : Entry) → elsewhere (home_at e) (home_at f) ≡ true → apart e f ≡ true
 apart_elsewhere e f d = apart-far e f (far-lying (lies_at e) (lies_at f) d)

@@ -1,7 +1,8 @@
 -- Numbers of homes: those below a limit and of another group are of entries that are apart.
-use Rattle.std.proofs.Common.{◌≡◌, ◌∙◌, ◌<◌, ◌+◌, ◌*◌, ◌%◌, ℕ, zero, suc, Bool, true, false, ◌&&◌, not, eqb, nat_lt, List, [], ◌∷◌, All, length, get_or, map, take, refl, sym, ap, subst, arith}
+use Rattle.std.proofs.Common.{◌≡◌, ◌∙◌, ◌<◌, ◌+◌, ◌*◌, ◌%◌, ℕ, zero, suc, Bool, true, false, ◌&&◌, not, eqb, nat_lt, List, [], ◌∷◌, All, map, take, refl, sym, ap, subst, arith}
 use Rattle.std.proofs.lemmas.Bool.{ltb-true}
 use Rattle.std.proofs.lemmas.List.Elements.{All-nil, All-cons, All-head, All-tail}
+use Rattle.std.specs.List.{prefix_len}
 use Rattle.balise_rules.specs.declared.tag.Tag.{Tag}
 use Rattle.balise_rules.specs.declared.tag.Tag.TheVariants.{Base, Fresh}
 use Rattle.balise_rules.specs.Paths.{Entry, apart}
@@ -9,14 +10,9 @@ use Rattle.balise_rules.proofs.Tests.{test-sym, nat_test}
 use Rattle.balise_edits.specs.declared.home.Home.{Home}
 use Rattle.balise_edits.specs.declared.home.Extent.{Extent}
 use Rattle.balise_edits.specs.declared.home.Extent.TheVariants.{Unnamed, Named, Group}
-use Rattle.balise_edits.specs.Homes.{Lying, OfTelegram, OfGroup, lying, home_lying, home_number, number_at, elsewhere, apart_by, code, low, limit, is_far, AllApart}
-use Rattle.balise_edits.proofs.Elsewhere.{apart_elsewhere, home_at}
-
--- one more of the first numbers
-pub all-next : (P : ℕ → Type 0) (xs : List ℕ) (i : ℕ) → i < length xs → All P (take i xs) → P (get_or xs i 0) → All P (take (suc i) xs)
-all-next P [] i h all p = absurd (omega (arith, h))
-all-next P (y ∷ xs) zero h all p = All-cons P y [] p (All-nil P)
-all-next P (y ∷ xs) (suc i) h all p = All-cons P y (take (suc i) xs) (All-head P y (take i xs) all) (all-next P xs i (omega (arith, h)) (All-tail P y (take i xs) all) p)
+use Rattle.balise_edits.specs.Homes.{Lying, OfTelegram, OfGroup, lying, home_lying, home_number, number_at, elsewhere, apart_by, code, low, limit, count_far, home_at, is_far, AllApart}
+use Rattle.balise_edits.proofs.Passing.{passing}
+use Rattle.balise_edits.proofs.Elsewhere.{apart_elsewhere}
 
 -- a home's numbers fit
 record Fits (h : Home) : Type 0 where
@@ -66,18 +62,22 @@ far-elsewhere h k f e =
 far-apart : (e f : Entry) → is_far (home_at e).group (limit (home_at e).extent) (number_at f) ≡ true → apart e f ≡ true
 far-apart e f d = apart_elsewhere e f (far-elsewhere (home_at e) (home_at f) (fits (lying f.0.0 f.0.1 f.1.names)) d)
 
-pub all-apart : (e : Entry) (n : ℕ) (fs : List Entry) → All (λ n. is_far (home_at e).group (limit (home_at e).extent) n ≡ true) (take n (map number_at fs)) → AllApart e (take n fs)
+all-apart : (e : Entry) (n : ℕ) (fs : List Entry) → All (λ n. is_far (home_at e).group (limit (home_at e).extent) n ≡ true) (take n (map number_at fs)) → AllApart e (take n fs)
 all-apart e zero fs all = All-nil (λ f. apart e f ≡ true)
 all-apart e (suc n) [] all = All-nil (λ f. apart e f ≡ true)
 all-apart e (suc n) (f ∷ fs) all =
     let P : ℕ → Type 0 = λ n. is_far (home_at e).group (limit (home_at e).extent) n ≡ true in
     All-cons (λ f. apart e f ≡ true) f (take n fs) (far-apart e f (All-head P (number_at f) (take n (map number_at fs)) all)) (all-apart e n fs (All-tail P (number_at f) (take n (map number_at fs)) all))
 
--- the same of numbers that are far by the group and the limit of an entry's home
-pub far-ones : (e : Entry) (n group most : ℕ) (h : Home) (xs : List ℕ) (fs : List Entry) → group ≡ h.group → most ≡ limit h.extent → h ≡ home_at e → All (λ m. is_far group most m ≡ true) (take n xs) → xs ≡ map number_at fs → AllApart e (take n fs)
-far-ones e n group most h xs fs g m at all is =
+-- the numbers that were counted
+pub counted-apart : (e : Entry) (n : ℕ) (ns : List ℕ) (fs : List Entry) → n ≡ count_far e ns → ns ≡ map number_at fs → AllApart e (take n fs)
+counted-apart e n ns fs c is =
+    let p = is_far (home_at e).group (limit (home_at e).extent) in
+    all-apart e n fs (subst (λ (ms : List ℕ). All (λ m. p m ≡ true) (take n ms)) is (subst (λ (k : ℕ). All (λ m. p m ≡ true) (take k ns)) (sym c) (passing p ns)))
+
+-- the same by the group and the limit of an entry's home
+pub counted-by : (e : Entry) (n group most : ℕ) (h : Home) (ns : List ℕ) → group ≡ h.group → most ≡ limit h.extent → h ≡ home_at e → n ≡ prefix_len (is_far group most) ns → n ≡ count_far e ns
+counted-by e n group most h ns g m at is =
     let G : group ≡ (home_at e).group = g ∙ ap (λ (k : Home). k.group) at in
     let M : most ≡ limit (home_at e).extent = m ∙ ap (λ (k : Home). limit k.extent) at in
-    let one = subst (λ (k : ℕ). All (λ m. is_far k most m ≡ true) (take n xs)) G all in
-    let two = subst (λ (k : ℕ). All (λ m. is_far (home_at e).group k m ≡ true) (take n xs)) M one in
-    all-apart e n fs (subst (λ (ys : List ℕ). All (λ m. is_far (home_at e).group (limit (home_at e).extent) m ≡ true) (take n ys)) is two)
+    is ∙ ap (λ (k : ℕ). prefix_len (is_far k most) ns) G ∙ ap (λ (k : ℕ). prefix_len (is_far (home_at e).group k) ns) M

@@ -2,6 +2,7 @@ pub mod Steps
 pub mod Equal
 pub mod Meets
 pub mod Elsewhere
+pub mod Passing
 pub mod Far
 pub mod Standing
 pub mod PutIn

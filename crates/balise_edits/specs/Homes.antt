@@ -1,5 +1,6 @@
 -- Where an edit lies.
 use Rattle.std.specs.Prelude.{◌≡◌, ℕ, ◌+◌, ◌*◌, ◌%◌, Bool, true, false, ◌&&◌, not, cond, eqb, nat_lt, length, List, All}
+use Rattle.std.specs.List.{prefix_len}
 use Rattle.balise_rules.specs.declared.tag.Tag.{Tag}
 use Rattle.balise_rules.specs.declared.tag.Tag.TheVariants.{Base, Fresh}
 use Rattle.balise_rules.specs.declared.identity.Id.{Id}
@@ -61,8 +62,11 @@ abbrev pub home_number : Home → ℕ
 home_number h = code h.extent * 16777216 + h.telegram * 65536 + h.group
 
 -- the same of an entry
+abbrev pub home_at : Entry → Home
+home_at e = home_of e.0.0 e.0.1 e.1.names
+
 abbrev pub number_at : Entry → ℕ
-number_at e = home_number (home_of e.0.0 e.0.1 e.1.names)
+number_at e = home_number (home_at e)
 
 -- homes of these numbers and above may meet one of this extent in any group
 abbrev pub limit : Extent → ℕ
@@ -73,6 +77,10 @@ limit Group = 16777216
 -- whether a number is that of a home of another group, and below the limit
 abbrev pub is_far : ℕ → ℕ → ℕ → Bool
 is_far group most n = not (eqb (n % 65536) group) && nat_lt n most
+
+-- how many numbers from the first on are far from the home of an entry
+abbrev pub count_far : Entry → List ℕ → ℕ
+count_far e ns = prefix_len (is_far (home_at e).group (limit (home_at e).extent)) ns
 
 -- each of these entries is apart from one
 abbrev pub AllApart : Entry → List Entry → Type 0

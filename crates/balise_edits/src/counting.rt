@@ -1,13 +1,15 @@
 //! Many entries looked at together, by where their edits lie.
 
-ghost use Rattle.std.specs.Prelude.{◌≡◌, ◌≤◌, List, All, length, map, take, true};
-ghost use Rattle.balise_edits.specs.Homes.{is_far, number_at, AllApart};
+ghost use Rattle.std.specs.Prelude.{◌≡◌, ◌≤◌, List, length, map, take};
+ghost use Rattle.std.specs.List.{list_all};
+ghost use Rattle.balise_edits.specs.Homes.{count_far, is_far, number_at, AllApart};
 ghost use Rattle.balise_rules.specs.Paths as rules;
 
 use crate::entry::Entry;
 
-/// How many numbers are looked at at once. A loop of a fixed length becomes vector code.
-const BLOCK: usize = 16;
+/// How many numbers are looked at at once. A loop of this length becomes vector code; one of 16 is written out number
+/// by number.
+const BLOCK: usize = 64;
 
 // Whether a number is that of a home of another group, and below a limit.
 #[inline(always)]
@@ -17,22 +19,25 @@ fn is_far(number: u32, group: u32, limit: u32) -> bool
     number % 65536 != group && number < limit
 }
 
-// Whether all numbers of a block are.
+// Whether all numbers of a block are: those that aren't are counted, since a loop without branches becomes vector code.
 #[inline(always)]
 fn is_far_block(numbers: &[u32], group: u32, limit: u32) -> bool
-    requires { length numbers.now ≡ 16 }
-    ensures { result ≡ true → All (λ n. is_far group limit n ≡ true) numbers.now }
+    requires { length numbers.now ≡ 64 }
+    ensures { result ≡ list_all (is_far group limit) numbers.now }
 {
-    let mut far = true;
+    let mut near: u32 = 0;
     for i in 0..BLOCK {
-        far = far && is_far(numbers[i], group, limit);
+        if !is_far(numbers[i], group, limit) {
+            near += 1;
+        }
     }
-    far
+    near == 0
 }
 
-/// How many entries from the first on are apart from this one, as their home numbers tell, up to one of which they
-/// don't. Takes no memory.
+/// How many entries from the first on are apart from this one, as their home numbers tell, up to the first of which
+/// they don't. Takes no memory.
 pub fn count_apart(entry: &Entry, numbers: &[u32]) -> usize
+    ensures count { result ≡ count_far entry.now numbers.now }
     ensures within { result ≤ length numbers.now }
     ensures apart { (fs : List rules.Entry) → numbers.now ≡ map number_at fs → AllApart entry.now (take result fs) }
 {

@@ -8,7 +8,7 @@ use std::alloc::Global;
 use std::process::Abort;
 
 /// How many numbers are counted: two blocks, and some more.
-const MANY: usize = 40;
+const MANY: usize = 150;
 
 // The entry of a step in a plan of its own.
 fn entry_of(rt: &impl Abort, alloc: Global, step: Step) -> Entry {
@@ -18,7 +18,7 @@ fn entry_of(rt: &impl Abort, alloc: Global, step: Step) -> Entry {
 
 // That many of one number are counted, up to one of another.
 fn check_counts(rt: &impl Abort, entry: &Entry, far: u32, near: u32) {
-    let mut numbers = [far; 40];
+    let mut numbers = [far; 150];
     assert!(rt; count_apart(entry, &numbers) == MANY);
     for i in 0..MANY {
         numbers[i] = near;

@@ -1,7 +1,7 @@
 use Rattle.std.proofs.Common.{◌∙◌, sym, ap}
 use Rattle.balise_edits.specs.declared.home.Home.{Home}
-use Rattle.balise_edits.specs.Homes.{elsewhere}
-use Rattle.balise_edits.proofs.Elsewhere.{apart_elsewhere, home_at}
+use Rattle.balise_edits.specs.Homes.{elsewhere, home_at}
+use Rattle.balise_edits.proofs.Elsewhere.{apart_elsewhere}
 use Rattle.balise_edits.proofs.independence.apart.Goals as goal
 
 pub returns-then-is_elsewhere : goal.returns-then-is_elsewhere

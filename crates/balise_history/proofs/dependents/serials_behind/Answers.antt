@@ -1,10 +1,12 @@
-use Rattle.std.proofs.Common.{◌∙◌, ◌+◌, ℕ, List, [], ◌∷◌, ◌++◌, Some, length, inl, inr, refl, sym, ap, subst}
+use Rattle.std.proofs.Common.{◌≡◌, ◌∙◌, ◌+◌, ℕ, List, [], ◌∷◌, ◌++◌, None, Some, length, inl, inr, refl, sym, ap, subst}
 use Rattle.std.proofs.lemmas.Bool.{ltb-false}
 use Rattle.std.proofs.lemmas.Result.{err_from_is_err_and}
+use Rattle.balise_rules.specs.Behind.{serials_behind}
 use Rattle.balise_rules.specs.Paths.{Entry}
+use Rattle.balise_rules.specs.Session.{first_dependent}
 use Rattle.balise_history.proofs.TestedTo.{TestedTo, counted, first-dependent, found-at, next-apart, next-behind, runs-out, tested-all}
 use Rattle.balise_history.proofs.dependents.serials_behind.Goals as goal
-use Rattle.balise_history.proofs.dependents.serials_behind.Goals.{After-count_apart-place, else-later-test, then-later-test+in_default}
+use Rattle.balise_history.proofs.dependents.serials_behind.Goals.{After-count_apart-place, Left-later, else-later-test, then-later-test+in_default}
 
 -- all up to the next that its home's number doesn't tell
 up_to : (c : After-count_apart-place) → TestedTo c.args.entry.now c.args.later.now c.later.behind.items (c.later.place + c.count_apart-place.result)
@@ -40,26 +42,21 @@ later-preserved c =
     (found-at c.args.later.now (c.later.place + c.count_apart-place.result) c.in-Some.f.now c.in-Some.ensures.lookup.0 c.in-Some.ensures.lookup.1) (sym c.apart.ensures ∙ c.if-apart.false) (sym c.stands_behind.ensures ∙ c.if-not-stands_behind.false) in
     subst (λ (l : List ℕ). TestedTo e fs l (p + 1)) (ap (λ (k : ℕ). b ++ k ∷ []) (sym c.serial-in-later.ensures) ∙ sym c.in_ok-push.ensures.items) next
 
-pub returns-clause-independent : goal.returns-clause-independent
-returns-clause-independent c =
+-- where the loop ends all were tested
+ended : (c : Left-later) → (first_dependent c.args.entry.now c.args.later.now ≡ None) × (c.later.behind.items ≡ serials_behind c.args.entry.now c.args.later.now)
+ended c =
     let e = c.args.entry.now in
     let fs : List Entry = c.args.later.now in
     let b : List ℕ = c.later.behind.items in
     elim c.later-test.branch [
-      | else-later-test w ↦ (tested-all e fs b c.later.place c.later.invariant w.later-test.false).0
+      | else-later-test w ↦ tested-all e fs b c.later.place c.later.invariant w.later-test.false
       | then-later-test+in_default w ↦
-          (tested-all e fs b (c.later.place + w.count_apart-place.result) (counted e fs c.args.homes.now b c.later.place w.count_apart-place.result c.later.invariant c.requires.homes w.count_apart-place.ensures.within w.count_apart-place.ensures.apart)
-          (ltb-false (c.later.place + w.count_apart-place.result) (length fs) (sym w.in_default.ensures.lookup.0))).0
+          tested-all e fs b (c.later.place + w.count_apart-place.result) (counted e fs c.args.homes.now b c.later.place w.count_apart-place.result c.later.invariant c.requires.homes w.count_apart-place.ensures.within w.count_apart-place.ensures.apart)
+          (ltb-false (c.later.place + w.count_apart-place.result) (length fs) (sym w.in_default.ensures.lookup.0))
     ]
 
+pub returns-clause-independent : goal.returns-clause-independent
+returns-clause-independent c = (ended (goal.at.returns-clause-independent c).Left-later).0
+
 pub returns-clause-ok : goal.returns-clause-ok
-returns-clause-ok c =
-    let e = c.args.entry.now in
-    let fs : List Entry = c.args.later.now in
-    let b : List ℕ = c.later.behind.items in
-    elim c.later-test.branch [
-      | else-later-test w ↦ (tested-all e fs b c.later.place c.later.invariant w.later-test.false).1
-      | then-later-test+in_default w ↦
-          (tested-all e fs b (c.later.place + w.count_apart-place.result) (counted e fs c.args.homes.now b c.later.place w.count_apart-place.result c.later.invariant c.requires.homes w.count_apart-place.ensures.within w.count_apart-place.ensures.apart)
-          (ltb-false (c.later.place + w.count_apart-place.result) (length fs) (sym w.in_default.ensures.lookup.0))).1
-    ]
+returns-clause-ok c = (ended (goal.at.returns-clause-ok c).Left-later).1

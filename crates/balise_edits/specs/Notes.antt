@@ -27,7 +27,7 @@ note_of (Header n) = record nothing { old = n }
 note_of (Inserted is) = record nothing { names = is.items }
 note_of (Deleted b x) = record nothing { before = b; names = x.value.names.items; packet = x.value.packet }
 note_of (Moved b) = record nothing { before = b }
-note_of (Added i is) = record nothing { own = i; names = is.items }
+note_of (Added i is) = record nothing { own = i; names = is.value.items }
 note_of (Dropped b i x) = record nothing { before = b; own = i; names = x.value.names.items; group = x.value.group }
 note_of (Own i) = of_group i
 

@@ -45,3 +45,12 @@ pub(crate) fn copy_names(names: &Vec<Id>) -> Result<Vec<Id>, Refusal>
 {
     Ok(Vec::from_slice(*names.allocator(), names)?)
 }
+
+/// Identities that have a place of their own once more.
+pub(crate) fn copy_placed_names(names: &Box<Vec<Id>>) -> Result<Box<Vec<Id>>, Refusal>
+    ensures ok { IfOk result (λ copied. copied.value.items ≡ names.now.value.items) }
+    ensures fault { IsOkUnless result Refusal.OutOfMemory }
+{
+    let copied = copy_names(names)?;
+    Ok(Box::new(*Box::allocator(names), copied)?)
+}

@@ -3,7 +3,7 @@
 ghost use Rattle.std.specs.Prelude.{◌≡◌, IfOk, IsOkUnless};
 ghost use Rattle.balise_edits.specs.Notes.{kind_in, names_in, note_of};
 
-use crate::copying::{copy_names, copy_packet};
+use crate::copying::{copy_names, copy_packet, copy_placed_names};
 use balise_layout::Packet;
 use balise_plan::Group;
 use balise_rules::{Id, Refusal, Tag};
@@ -69,10 +69,10 @@ pub(crate) enum Note {
     Moved {
         before: Option<Tag>,
     },
-    /// A group put in: its identity, and those that it names.
+    /// A group put in: its identity, and those that it names, which have a place of their own, as few notes have them.
     Added {
         own: Id,
-        names: Vec<Id>,
+        names: Box<Vec<Id>>,
     },
     /// A group taken out, and its identity.
     Dropped {
@@ -104,7 +104,7 @@ impl Note {
             Note::Moved { before } => Ok(Note::Moved { before }),
             Note::Added { own, ref names } => Ok(Note::Added {
                 own,
-                names: copy_names(names)?,
+                names: copy_placed_names(names)?,
             }),
             Note::Dropped {
                 before,

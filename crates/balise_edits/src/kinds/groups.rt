@@ -55,6 +55,7 @@ fn note_added(alloc: Global, group: &Group) -> Result<Note, Refusal>
 {
     let own = group.identity();
     let names = names_of_group(alloc, group)?;
+    let names = Box::new(alloc, names)?;
     Ok(Note::Added { own, names })
 }
 

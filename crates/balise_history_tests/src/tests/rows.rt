@@ -249,6 +249,8 @@ const LINKS: &[Stage] = &[(
     &[
         (Set(102, Var::NidBg, 1, 150), Ok(1)),
         (Set(102, Var::NidBg, 2, 5), Err(NoSuchVariable)),
+        (Set(102, Var::NidBg, 256, 5), Err(NoSuchVariable)),
+        (Set(102, Var::NidBg, 4_294_967_295, 5), Err(NoSuchVariable)),
         (Set(102, Var::NidC, 0, 7), Err(Steering)),
         (Set(102, Var::NidBg, 0, 16384), Err(ValueTooWide)),
         (Undo, Ok(1)),

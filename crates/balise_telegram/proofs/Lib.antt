@@ -1,4 +1,5 @@
 pub mod HeaderBits
+pub mod HeaderWindows
 pub mod PacketSteps
 pub mod PacketsRead
 pub mod Using

@@ -1,6 +1,6 @@
 //! An identity in four bytes.
 
-ghost use Rattle.std.specs.Prelude.{◌≡◌, IfSome};
+ghost use Rattle.std.specs.Prelude.{◌≡◌, ◌≤◌, ◌^◌, ◌⊎◌, IfNone, IfSome};
 ghost use Rattle.balise_index.specs.Narrow.{wide};
 
 use balise_rules::Id;
@@ -14,9 +14,10 @@ pub(super) struct Narrow {
 }
 
 impl Narrow {
-    /// The narrow form of an identity, if it has one.
+    /// The narrow form of an identity; `None` where its country or its number is above 65,535.
     pub(super) fn of(id: Id) -> Option<Narrow>
-        ensures { IfSome result (λ n. wide n ≡ id) }
+        ensures some { IfSome result (λ n. wide n ≡ id) }
+        ensures none { IfNone result ((2 ^ 16 ≤ id.country) ⊎ (2 ^ 16 ≤ id.number)) }
     {
         let Ok(country) = u16::try_from(id.country) else {
             return None;

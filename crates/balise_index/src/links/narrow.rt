@@ -1,6 +1,6 @@
 //! A link place in twelve bytes.
 
-ghost use Rattle.std.specs.Prelude.{◌≡◌, IfSome};
+ghost use Rattle.std.specs.Prelude.{◌≡◌, ◌≤◌, ◌^◌, ◌⊎◌, IfNone, IfSome};
 ghost use Rattle.balise_index.specs.NarrowPlace.{wide_place, wide_tag};
 
 use crate::link_place::LinkPlace;
@@ -26,9 +26,10 @@ pub(crate) enum TagKind {
 }
 
 impl NarrowPlace {
-    /// The narrow form of a place, if it has one.
+    /// The narrow form of a place; `None` where its telegram or its element is above 255.
     pub(super) fn of(place: LinkPlace) -> Option<NarrowPlace>
-        ensures { IfSome result (λ n. wide_place n ≡ place) }
+        ensures some { IfSome result (λ n. wide_place n ≡ place) }
+        ensures none { IfNone result ((2 ^ 8 ≤ place.telegram) ⊎ (2 ^ 8 ≤ place.element)) }
     {
         let Ok(telegram) = u8::try_from(place.telegram) else {
             return None;

@@ -29,11 +29,11 @@ pub invariant_of-self-2 : goal.invariant_of-self-2
 invariant_of-self-2 g c =
     let ids = c.push.ensures.items ∙ pushed (is_ok c.push.result) c.self.inside.ids.items c.reserve.new.self.items c.in-Some.narrow (c.push.ensures.succeeds (omega (arith, c.in_ok-reserve.ensures.ok))) c.in_ok-reserve.ensures.items in
     let values = c.push-2.ensures.items ∙ pushed (is_ok c.push-2.result) c.self.inside.values.items c.reserve-2.new.self.items c.args.value (c.push-2.ensures.succeeds (omega (arith, c.in_ok-reserve-2.ensures.ok))) c.in_ok-reserve-2.ensures.items in
-    placed_put c.self.inside.ids.items c.push.new.self.items c.self.inside.values.items c.push-2.new.self.items c.self.inside.rows.items c.make_cell.new.rows.items c.set_cell.new.rows.items c.self.invariant.0 c.self.invariant.1 c.make_cell.ensures.kept c.args.id c.in-Some.narrow c.args.value c.in-Some.ensures (ap (λ l. indexed l c.args.id) c.self.view_is ∙ c.requires) c.len-i.result (omega (arith, c.len-i.ensures, c.self.inside.ids.ok.0)) (omega (arith, c.if-i-ge4294967295.false)) c.set_cell.ensures ids values
+    placed_put c.self.inside.ids.items c.push.new.self.items c.self.inside.values.items c.push-2.new.self.items c.self.inside.rows.items c.make_cell.new.rows.items c.set_cell.new.rows.items c.self.invariant.0 c.self.invariant.1 c.make_cell.ensures.kept c.args.id c.in-Some.narrow c.args.value c.in-Some.ensures.some (ap (λ l. indexed l c.args.id) c.self.view_is ∙ c.requires) c.len-i.result (omega (arith, c.len-i.ensures, c.self.inside.ids.ok.0)) (omega (arith, c.if-i-ge4294967295.false)) c.set_cell.ensures ids values
 
 pub returns-clause-updates : goal.returns-clause-updates
 returns-clause-updates g c q =
     let ids = c.push.ensures.items ∙ pushed (is_ok c.push.result) c.self.inside.ids.items c.reserve.new.self.items c.in-Some.narrow (c.push.ensures.succeeds (omega (arith, c.in_ok-reserve.ensures.ok))) c.in_ok-reserve.ensures.items in
     let values = c.push-2.ensures.items ∙ pushed (is_ok c.push-2.result) c.self.inside.values.items c.reserve-2.new.self.items c.args.value (c.push-2.ensures.succeeds (omega (arith, c.in_ok-reserve-2.ensures.ok))) c.in_ok-reserve-2.ensures.items in
-    let updates = updates_put c.self.inside.ids.items c.push.new.self.items c.self.inside.values.items c.push-2.new.self.items c.self.inside.rows.items c.make_cell.new.rows.items c.set_cell.new.rows.items c.self.invariant.0 c.self.invariant.1 c.make_cell.ensures.kept c.args.id c.in-Some.narrow c.args.value c.in-Some.ensures (ap (λ l. indexed l c.args.id) c.self.view_is ∙ c.requires) c.len-i.result (omega (arith, c.len-i.ensures, c.self.inside.ids.ok.0)) (omega (arith, c.if-i-ge4294967295.false)) c.set_cell.ensures ids values in
+    let updates = updates_put c.self.inside.ids.items c.push.new.self.items c.self.inside.values.items c.push-2.new.self.items c.self.inside.rows.items c.make_cell.new.rows.items c.set_cell.new.rows.items c.self.invariant.0 c.self.invariant.1 c.make_cell.ensures.kept c.args.id c.in-Some.narrow c.args.value c.in-Some.ensures.some (ap (λ l. indexed l c.args.id) c.self.view_is ∙ c.requires) c.len-i.result (omega (arith, c.len-i.ensures, c.self.inside.ids.ok.0)) (omega (arith, c.if-i-ge4294967295.false)) c.set_cell.ensures ids values in
     updates q ∙ ap (λ l. cond (is_id c.args.id q) (Some c.args.value) (indexed l q)) c.self.view_is

@@ -13,7 +13,7 @@ invariant_of-self-in-Empty-3 c = ordered-one (wide_place c.in-Some.narrow)
 pub returns-in-Empty-clause-put : goal.returns-in-Empty-clause-put
 returns-in-Empty-clause-put c v =
     let old : c.args.self.now.keys ≡ [] = ap (λ l. l.keys) (sym c.self.view_is) ∙ ap (λ h. (places_held h).keys) c.in-Empty.is in
-    let put = puts-one (wide_place c.in-Some.narrow) v ∙ ap (λ w. cond (is_place w v) true (among v [])) c.in-Some.ensures ∙ ap (λ l. cond (is_place c.args.place v) true (among v l)) (sym old) in
+    let put = puts-one (wide_place c.in-Some.narrow) v ∙ ap (λ w. cond (is_place w v) true (among v [])) c.in-Some.ensures.some ∙ ap (λ l. cond (is_place c.args.place v) true (among v l)) (sym old) in
     elim c.match-self-2.branch [
       | in-Few-1 w ↦ ap (λ l. among v l.keys) w.self-is ∙ put
       | in-Many-1 w ↦ ap (λ l. among v l.keys) w.self-is ∙ put

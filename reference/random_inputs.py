@@ -21,6 +21,10 @@ from telegrams import FREE_IN_HEADER, Telegram
 from texts import digits_of_bits
 
 
+# Numbers on both sides of 32 elements, and of what 8, 14, 16 and 32 bits hold.
+EDGES = ("31", "32", "255", "256", "16383", "16384", "65535", "65536", "4294967295", "4294967296")
+
+
 @dataclass(frozen=True)
 class Input:
     """The arguments of a run and its standard input."""
@@ -166,11 +170,19 @@ class Maker(PlanMaker):
             value = self.random.choice(plan.groups).identity[1]
         return f"set {where} {name} {k} {value}"
 
+    def at_edge(self, line: str) -> str:
+        """A line with one of its numbers at an edge."""
+        words = line.split(" ")
+        numbers = [i for i, word in enumerate(words) if word.isdecimal()]
+        if numbers:
+            words[self.random.choice(numbers)] = self.random.choice(EDGES)
+        return " ".join(words)
+
     def spoiled(self, line: str) -> str:
         """A line with one thing wrong, or one that is right by chance."""
         words = line.split(" ")
         place = self.random.randrange(len(words))
-        other = ("0", "1", "7", "9", "16383", "16384", "4294967295", "4294967296", "00", "zz", "")
+        other = ("0", "1", "7", "9", *EDGES, "00", "zz", "")
         names = (*STEERING, "NID_BG", "N_PIG", "M_DUP", "D_LINK", "SPEED")
         variables = [i for i, word in enumerate(words) if word in WIDTHS]
         kind = self.random.randrange(9)
@@ -216,8 +228,8 @@ class Maker(PlanMaker):
         lines = []
         for _ in range(self.random.randint(0, most)):
             line = self.command(session)
-            if self.chance(6):
-                line = self.spoiled(line)
+            if self.chance(12):
+                line = self.spoiled(line) if self.chance(50) else self.at_edge(line)
             commands.take(line)
             lines.append(line)
         return lines

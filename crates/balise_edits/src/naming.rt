@@ -14,11 +14,8 @@ ghost use Rattle.balise_edits.specs.Notes.{names_in as names_held};
 use crate::note::Names;
 use balise_layout::Elements;
 use balise_plan::{Group, PacketRef, Plan, Telegram};
-use balise_rules::{Id, Refusal, Tag, Var};
+use balise_rules::{Id, NO_GROUP, Refusal, Tag, Var};
 use std::alloc::{AllocError, Global};
-
-/// The number of an element that names no group.
-const NO_GROUP: u32 = 16383;
 
 /// The identities that a group names.
 pub(crate) fn names_of_group(alloc: Global, group: &Group) -> Result<Vec<Id>, Refusal>

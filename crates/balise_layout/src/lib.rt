@@ -18,7 +18,7 @@ mod visit;
 mod walker;
 
 pub use balise_bits::{Bits, BitsFault};
-pub use balise_rules::{Id, Refusal, Tag, Var};
+pub use balise_rules::{Id, NO_GROUP, Refusal, Tag, Var};
 pub use elements::{Elements, MOST_ELEMENTS};
 pub use fault::LayoutFault;
 pub use kind::{PacketKind, is_known};

@@ -1,5 +1,5 @@
 -- One link that names another identity, in the index.
-use Rattle.std.specs.Prelude.{◌≡◌, ℕ, not, ◌&&◌, true, false, cond, List, slice_get, unwrap_or}
+use Rattle.std.specs.Prelude.{◌≡◌, not, ◌&&◌, true, false, cond}
 use Rattle.std.specs.BTreeSet as set
 use Rattle.balise_rules.specs.declared.identity.Id.{Id}
 use Rattle.balise_rules.specs.Tags.{same_id}
@@ -8,14 +8,6 @@ use Rattle.balise_index.specs.declared.link_place.LinkPlace.{LinkPlace}
 use Rattle.balise_index.specs.Identities.{IndexOf, is_id}
 use Rattle.balise_index.specs.Places.{is_place}
 use Rattle.balise_plan.specs.Links.{held}
-
--- an identity that nothing names
-abbrev pub unnamed : Id
-unnamed = record { country = 0; number = 16383 }
-
--- the identity of element k, where there is one
-abbrev pub element_at : List Id → ℕ → Id
-element_at links k = unwrap_or (slice_get links k) unnamed
 
 -- w names q, if that can be named
 abbrev pub AddsReal : IndexOf (set.BTreeSet LinkPlace) → IndexOf (set.BTreeSet LinkPlace) → Id → LinkPlace → Type 0

@@ -11,7 +11,7 @@ mod plan;
 
 pub use balise_bits::Bits;
 pub use balise_index::{LinkPlace, Links, Places, Spot};
-pub use balise_layout::{Id, Packet, Var};
+pub use balise_layout::{Id, NO_GROUP, Packet, Var};
 pub use balise_rules::{
     Address, Place, Refusal, Refusal as PlanFault, Tag, Tag as GroupTag, Tag as PacketTag,
 };

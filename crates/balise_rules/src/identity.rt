@@ -5,6 +5,9 @@
 pub struct Id {
     /// NID_C.
     pub country: u32,
-    /// NID_BG; 16383 is no group's number, and names none.
+    /// NID_BG; [`NO_GROUP`] is no group's number, and names none.
     pub number: u32,
 }
+
+/// NID_BG of an element that names no group (SUBSET-026, 7.5), and the largest number of 14 bits.
+pub const NO_GROUP: u32 = 16383;

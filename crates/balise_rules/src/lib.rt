@@ -12,7 +12,7 @@ mod tag;
 mod variable;
 
 pub use address::{Address, Place};
-pub use identity::Id;
+pub use identity::{Id, NO_GROUP};
 pub use refusal::Refusal;
 pub use review::{ReviewLine, Reviewed};
 pub use tag::Tag;

@@ -1,8 +1,7 @@
 //! Fields set: done and taken back.
 
-ghost use Rattle.std.specs.Prelude.{◌≡◌, ◌<◌, ◌^◌, ℕ, false, IfOk, IfSome, IsOk, Some};
+ghost use Rattle.std.specs.Prelude.{◌≡◌, ◌<◌, ◌^◌, ℕ, false, IfOk, IsOk};
 ghost use Rattle.balise_rules.specs.declared.variable.Var.TheVariants.{NidBg};
-ghost use Rattle.balise_rules.specs.Doing.{refusal};
 ghost use Rattle.balise_rules.specs.Edits.{SetHead, SetVar};
 ghost use Rattle.balise_rules.specs.Tags.{same_var};
 ghost use Rattle.balise_rules.specs.Notes.{noted};
@@ -15,25 +14,6 @@ use crate::naming::names_set;
 use crate::note::Note;
 use balise_plan::Plan;
 use balise_rules::{Refusal, Tag, Var};
-
-/// The index of links has places for elements up to this one, from 0; no packet has as many.
-const LAST_ELEMENT: u32 = 255;
-
-// Why a setting is refused, if its packet or its field is seen to be missing.
-fn missing(plan: &Plan, g: Tag, t: u32, p: Tag, var: Var, k: u32) -> Option<Refusal>
-    ensures { IfSome result (λ r. (value : ℕ) → refusal (SetVar g t p var k value) plan.now.groups ≡ Some r) }
-{
-    let Some(telegram) = plan.telegram(g, t) else {
-        return None;
-    };
-    let Some(packet) = telegram.packet(p) else {
-        return Some(Refusal::NoSuchPacket);
-    };
-    match packet.field(var, k) {
-        Some(_) => None,
-        None => Some(Refusal::NoSuchVariable),
-    }
-}
 
 /// Sets a field of a packet, and answers what that notes.
 #[inline]
@@ -52,11 +32,6 @@ pub(crate) fn set_var(
     ensures noted { IfOk result (λ m. note_of m ≡ noted (SetVar g t p var k value) plan.old.groups) }
     ensures kind { IfOk result (λ m. kind_in m ≡ OfField) }
 {
-    if k > LAST_ELEMENT {
-        if let Some(fault) = missing(plan, g, t, p, var, k) {
-            return Err(fault);
-        }
-    }
     let names = names_set(plan, g, t, p, var, k, value);
     let old = match plan.set_field(g, t, p, var, k, value) {
         Ok(old) => old,

@@ -52,7 +52,7 @@ refused p v k n none o = first_of (when none NoSuchGroup ∷ when (is_none o) No
     ∷ when (is_none (option_and_then (λ (x : Packet). field_of v k x.fields) (option_and_then (λ (y : Telegram). find same_tag p y.packets) o))) NoSuchVariable ∷ when (steers v) Steering ∷ too_wide v n ∷ [])
 
 module _ (g : Tag) (t : ℕ) (p : Tag) (v : Var) (k n : ℕ) (plan : Plan) (ys : Group) (here : find same_tag g plan ≡ Some ys) where
-  stands-is : (y : Telegram) → find eqb t ys ≡ Some y → refusal (SetVar g t p v k n) plan ≡ field_refusal p v k n y
+  pub stands-is : (y : Telegram) → find eqb t ys ≡ Some y → refusal (SetVar g t p v k n) plan ≡ field_refusal p v k n y
   unfolding refused
   stands-is y e = ap (λ b. refused p v k n b (telegram_at g t plan)) (ap is_none here) ∙ ap (refused p v k n false) (ap (option_and_then (find eqb t)) here ∙ e)
 

@@ -1,66 +1,68 @@
 -- What setting the number of a link makes of a plan and of its indexes.
-use Rattle.std.proofs.Common.{◌≡◌, ◌<◌, ◌^◌, ℕ, Bool, true, false, cond, eqb, ◌&&◌, List, Option, Some, None, Ok, refl, sym, ap, subst, ◌∙◌}
+use Rattle.std.proofs.Common.{◌≡◌, ◌<◌, ◌≤◌, ◌^◌, ℕ, Bool, true, false, cond, eqb, ◌&&◌, [], ◌∷◌, Option, Some, None, refl, sym, ap, subst, ◌∙◌}
 use Rattle.std.specs.Map.{set_value}
-use Rattle.std.specs.Prelude.{option_and_then, option_map, slice_get, unwrap_or}
+use Rattle.std.specs.Prelude.{option_and_then, option_map, is_none, unwrap_or}
 use Rattle.std.specs.BTreeSet as set
-use Rattle.std.proofs.lemmas.Bool.{eqb-true}
+use Rattle.std.proofs.lemmas.Bool.{eqb-true, le-ltb, lt-ltb}
 use Rattle.balise_rules.specs.declared.tag.Tag.{Tag}
 use Rattle.balise_rules.specs.declared.identity.Id.{Id}
 use Rattle.balise_rules.specs.declared.refusal.Refusal.{Refusal}
+use Rattle.balise_rules.specs.declared.refusal.Refusal.TheVariants.{NoSuchPacket, NoSuchVariable, Steering, ValueTooWide}
 use Rattle.balise_rules.specs.declared.variable.Var.TheVariants.{NidBg, NidC}
-use Rattle.balise_rules.specs.Tagged.{find}
+use Rattle.balise_rules.specs.Variables.{steers, width_of}
+use Rattle.balise_rules.specs.Tagged.{find, Distinct}
 use Rattle.balise_rules.specs.Tags.{Key, same_tag, same_id, same_key}
+use Rattle.balise_rules.specs.Forms.{Numbered}
 use Rattle.balise_rules.specs.Packet.{Packet, field_of}
 use Rattle.balise_rules.specs.Telegram.{Telegram}
 use Rattle.balise_rules.specs.Plan.{Group, telegram_at, country_of}
 use Rattle.balise_rules.specs.Plan as rules
-use Rattle.balise_rules.specs.Accepting.{Accepted}
-use Rattle.balise_rules.specs.Variables.{width_of}
-use borrow.Author.Tests.{ltb-true}
-use Rattle.balise_rules.specs.Doing.{refusal}
-use Rattle.balise_rules.specs.Names.{country_at, is_it, is_real, links_of}
-use Rattle.balise_rules.specs.Notes.{noted}
+use Rattle.balise_rules.specs.Doing.{refusal, first_of, when, too_wide}
+use Rattle.balise_rules.specs.Names.{country_at, is_it, is_real}
+use Rattle.balise_rules.specs.Notes.{note_at, noted, set_note}
 use Rattle.balise_rules.specs.Edits.{SetVar}
-use Rattle.balise_rules.proofs.Tests.{test-sym, tag_test, key_test}
+use Rattle.balise_rules.proofs.Tests.{split_on, test-sym, tag_test, key_test, nat_test}
 use Rattle.balise_rules.proofs.Cases.{found, unsome}
+use Rattle.balise_rules.proofs.Found.{group_sound}
 use Rattle.balise_rules.proofs.Lists.{find-each}
 use Rattle.balise_rules.proofs.Keys.{other_key}
-use Rattle.balise_edit_laws.proofs.Refusing.{refused_exactly}
 use Rattle.balise_layout.specs.Held.{with_field as with_packet_field}
-use Rattle.balise_telegram.specs.Packed.{links_at, links_found}
-use Rattle.balise_telegram.specs.Setting.{SetsField, field_at}
+use Rattle.balise_telegram.specs.Setting.{field_refusal, with_changed}
 use Rattle.balise_index.specs.declared.link_place.LinkPlace.{LinkPlace}
 use Rattle.balise_index.specs.Identities.{IndexOf}
-use Rattle.balise_plan.specs.Links.{held, named_at, named_in_packet, AreFull, Keeps}
-use Rattle.balise_plan.specs.ElementIn.{ElementIn, NoTelegram}
-use Rattle.balise_plan.specs.PacketLinks.{is_in}
-use Rattle.balise_plan.specs.Relinking.{AddsReal, ForgetsOther, element_at, unnamed}
-use Rattle.balise_plan.specs.Within.{Within, Passed, no_telegram}
-use Rattle.balise_plan.specs.Held.{IsHeld}
-use Rattle.balise_plan.proofs.telegrams.Answered.{well, at-group}
-use Rattle.balise_plan.proofs.plans.Outcomes.{Outcome}
 use Rattle.balise_index.proofs.places.Equal.{place_is}
-use Rattle.balise_plan.proofs.naming.Identities.{country-each}
+use Rattle.balise_plan.specs.declared.links.change.Change.TheVariants.{Name}
+use Rattle.balise_plan.specs.Links.{held, named_at, named_in_packet, AreFull}
+use Rattle.balise_plan.specs.ElementIn.{ElementIn, NoElement, element_refusal, link_refusal}
+use Rattle.balise_plan.specs.PacketLinks.{is_in}
+use Rattle.balise_plan.specs.Relinking.{AddsReal, ForgetsOther}
+use Rattle.balise_plan.specs.Walks.{changed, in_group}
+use Rattle.balise_plan.specs.Within.{with_item}
+use Rattle.balise_plan.specs.Held.{IsHeld}
+use Rattle.balise_plan.proofs.fields.Levels.{absent-is, set-is, stands-is}
+use Rattle.balise_plan.proofs.items.Places.{value-each}
+use Rattle.balise_plan.proofs.naming.Identities.{country-each, id_in_packet}
+use Rattle.balise_plan.proofs.naming.LinksAt.{Linking, linking, links-at}
 use Rattle.balise_plan.proofs.naming.OfPacket.{named-inside, numbered}
-use Rattle.balise_plan.proofs.naming.LinksAt.{links-at}
-use Rattle.balise_plan.proofs.fields.Levels.{set, set_plan, absent-is}
-use Rattle.balise_plan.proofs.naming.Relinked.{relinked, unlinked}
-use Rattle.balise_plan.proofs.telegrams.Replaced.{held-put}
-use Rattle.balise_plan.proofs.telegrams.Sound.{field-set}
+use Rattle.balise_plan.proofs.naming.Relinked.{relinked}
+use Rattle.balise_plan.proofs.naming.Walking.{each-found, place}
+use Rattle.balise_plan.proofs.plans.Outcomes.{Outcome}
+use Rattle.balise_plan.proofs.telegrams.Answered.{at-group, written}
+use Rattle.balise_plan.proofs.telegrams.Replaced.{held-put, with_telegram}
+use Rattle.balise_plan.proofs.telegrams.Sound.{element-changed}
 use Rattle.balise_plan.proofs.turned.Plans.{map-id}
-use Rattle.balise_plan.proofs.naming.Walking.{place}
 
--- a packet that has the link
-pub record HasLink (p : Tag) (k was : ℕ) (y : Telegram) : Type 0 where
-  pub packet : Packet
-  pub there : find same_tag p y.packets ≡ Some packet
-  pub number : field_of NidBg k packet.fields ≡ Some was
+-- the number of an element that stands, and its country
+module _ (p : Tag) (k : ℕ) (y : Telegram) (from : Id) (l : Linking p k y from) where
+  abbrev the : ℕ → Id
+  the v = record { country = country_at (country_of y) k l.packet.fields; number = v }
 
-has-link : (p : Tag) (k was : ℕ) (y : Telegram) → field_at p NidBg k y ≡ Some was → HasLink p k was y
-has-link p k was y f =
-    found (find same_tag p y.packets)
-    (λ h. absurd (let q = sym f ∙ ap (option_and_then (λ (x : Packet). field_of NidBg k x.fields)) h in cc))
-    (λ x h. record { packet = x; there = h; number = sym (ap (option_and_then (λ (x : Packet). field_of NidBg k x.fields)) h) ∙ f })
+  linked-number : (field_of NidBg k l.packet.fields ≡ Some from.number) × (from.country ≡ country_at (country_of y) k l.packet.fields)
+  linked-number =
+      found (field_of NidBg k l.packet.fields)
+      (λ f. absurd (let q = sym (ap (option_map the) f) ∙ l.names in cc))
+      (λ v f. let q : the v ≡ from = unsome (sym (ap (option_map the) f) ∙ l.names) in
+      (f ∙ ap (λ (i : Id). Some i.number) q, sym (ap (λ (i : Id). i.country) q)))
 
 -- ---- the packet with the new number
 
@@ -95,88 +97,123 @@ parted true true false e x y z h k = refl
 parted true false d e x y z h k = refl
 parted false b d e x y z h k = refl
 
-module _ (plan : rules.Plan) (ids : IndexOf Tag) (names : IndexOf (set.BTreeSet LinkPlace)) (held_is : IsHeld ids names plan) (g : Tag) (t : ℕ) (p : Tag) (k n : ℕ) (ys : Group) (here : find same_tag g plan ≡ Some ys) where
-  -- no telegram stands there
-  pub untold : (e : Refusal) → NoTelegram t ys e → refusal (SetVar g t p NidBg k n) plan ≡ Some e
-  untold e q = absent-is g t p NidBg k n plan ys here q.1 ∙ ap Some (sym q.0)
+-- ---- refusals, by the packet and by its field
 
-  -- a number that was set fits
-  narrow : (zs : Group) (was : ℕ) → Within eqb t no_telegram (Passed (SetsField p NidBg k n)) ys (Ok was) zs → n < 2 ^ 14
-  unfolding width_of
-  narrow zs was w =
-      let ok : refusal (SetVar g t p NidBg k n) plan ≡ None = (set g t p NidBg k n plan held_is.sound ys zs here was w).0 in
-      let accepted : Accepted (SetVar g t p NidBg k n) plan = (refused_exactly (SetVar g t p NidBg k n) plan held_is.sound).0 ok in
-      ltb-true n 16384 accepted.0.1
+module _ (k n : ℕ) where
+  abbrev by_field : Option ℕ → Option Refusal
+  by_field o = first_of (when (is_none o) NoSuchVariable ∷ when (steers NidBg) Steering ∷ too_wide NidBg n ∷ [])
 
-  module _ (ls : List Id) (links : (y : Telegram) × (find eqb t ys ≡ Some y) × (ls ≡ links_at p y)) where
-    abbrev to : Id
-    to = record { country = (element_at ls k).country; number = n }
+  abbrev by_packet : Option Packet → Option Refusal
+  by_packet o = first_of (when (is_none o) NoSuchPacket ∷ when (is_none (option_and_then (λ (x : Packet). field_of NidBg k x.fields) o)) NoSuchVariable ∷ when (steers NidBg) Steering ∷ too_wide NidBg n ∷ [])
 
-    stands : telegram_at g t plan ≡ Some links.0
-    stands = at-group g t plan held_is.sound ys ys here (Some links.0) links.1
+  abbrev by_link : Option Id → Option Refusal
+  by_link o = first_of (when (is_none o) NoSuchVariable ∷ [])
 
-    module _ (mid after : IndexOf (set.BTreeSet LinkPlace)) (adds : AddsReal names mid to (place g t p k)) where
-      -- not set
-      kept : ForgetsOther mid after (element_at ls k) to (place g t p k) → Keeps names after
-      kept f = unlinked g t p k plan held_is.sound links.0 stands names held_is.named ls links.2 to mid after adds f
+  fits-well : (v : ℕ) → n < 2 ^ 14 → by_field (Some v) ≡ None
+  unfolding steers width_of
+  fits-well v h = let b = lt-ltb n 16384 h in simp b
 
-      -- set
-      linked : (zs : Group) (was : ℕ) → Within eqb t no_telegram (Passed (SetsField p NidBg k n)) ys (Ok was) zs → AreFull after → ForgetsOther mid after to (element_at ls k) (place g t p k) →
-          Outcome (SetVar g t p NidBg k n) ids after plan (set_value (same_tag g) plan zs)
-      linked zs was w full f =
-          let l = well g t plan held_is.sound ys zs here (SetsField p NidBg k n) was w in
-          let y = l.old in
-          let c = country_of y in
-          let own = (noted (SetVar g t p NidBg k n) plan).own in
-          let ok : refusal (SetVar g t p NidBg k n) plan ≡ None = (set g t p NidBg k n plan held_is.sound ys zs here was w).0 in
-          let h = has-link p k was y l.call.1 in
-          let x = h.packet in
-          let all : ls ≡ links_of c x = links.2 ∙ ap (links_at p) (unsome (sym stands ∙ l.stands)) ∙ ap (links_found c) h.there in
-          let element : slice_get ls k ≡ Some (record { country = country_at c k x.fields; number = was }) = ap (λ l. slice_get l k) all ∙ links-at c k x (numbered g t plan held_is.sound y l.stands p x h.there)
-          ∙ ap (option_map (λ (v : ℕ). record { country = country_at c k x.fields; number = v })) h.number in
-          let to_is : to ≡ record { country = country_at c k x.fields; number = n } = ap (λ o. record { country = (unwrap_or o unnamed).country; number = n }) element in
-          let body : (r : Tag) → find same_tag r l.next.packets ≡ option_map (λ z. cond (same_tag p r) (with_packet_field NidBg k n z) z) (find same_tag r y.packets) =
-          λ r. ap (λ (z : Telegram). find same_tag r z.packets) l.call.2 ∙ find-each tag_test (λ q z. cond (same_tag p q) (with_packet_field NidBg k n z) z) r y.packets in
-          let itself : find same_tag p l.next.packets ≡ Some (with_packet_field NidBg k n x) = body p ∙ ap (option_map (λ z. cond (same_tag p p) (with_packet_field NidBg k n z) z)) h.there
-          ∙ ap (λ b. Some (cond b (with_packet_field NidBg k n x) x)) (tag_test.itself p) in
-          record {
-            accepted = ok;
-            is = set_plan g t p NidBg k n plan held_is.sound ys zs here was w own;
-            held = subst (IsHeld ids after) (sym l.is) (held-put plan held_is.sound g t y l.next l.stands (field-set p NidBg k n (Ok was) y l.next l.call) ids names held_is p (Some (with_packet_field NidBg k n x)) itself
-                (λ r d. body r ∙ ap (λ b. option_map (λ z. cond b (with_packet_field NidBg k n z) z) (find same_tag r y.packets)) (test-sym tag_test p r ∙ d) ∙ map-id (find same_tag r y.packets)) after full
-                (index y l.stands x was h.there h.number to_is f));
-          }
-        where
-          index : (y : Telegram) → telegram_at g t plan ≡ Some y → (x : Packet) (was : ℕ) → find same_tag p y.packets ≡ Some x → field_of NidBg k x.fields ≡ Some was → to ≡ record { country = country_at (country_of y) k x.fields; number = n } →
-              ForgetsOther mid after to (element_at ls k) (place g t p k) →
-              (q : Id) (w : LinkPlace) → held after q w ≡ cond (is_in g t p w) (is_real q && named_in_packet (country_of y) q w.element (Some (with_packet_field NidBg k n x))) (named_at q w plan)
-          index y s x was e f i o q w =
-              relinked g t p k plan held_is.sound links.0 stands names held_is.named ls links.2 to mid after adds o q w
-              ∙ ap (λ b. cond b (is_real q && same_id to q) (held names q w)) (place_is (place g t p k) w)
-              ∙ ap (cond (same_tag g w.group && (eqb t w.telegram && (same_tag p w.packet && eqb k w.element))) (is_real q && same_id to q)) (held_is.named q w)
-              ∙ parted (same_tag g w.group) (eqb t w.telegram) (same_tag p w.packet) (eqb k w.element) _ (is_real q && named_in_packet (country_of y) q w.element (Some (with_packet_field NidBg k n x))) (named_at q w plan)
-              (λ d m. ap (λ b. is_real q && b) (ap (λ j. same_id j q) i ∙ sym (named-new k n x (country_of y) was q f) ∙ ap (λ j. named_in_packet (country_of y) q j (Some (with_packet_field NidBg k n x))) (eqb-true k w.element m)))
-              (λ d m. named-inside g t plan held_is.sound y s p q w d ∙ ap (λ o. is_real q && named_in_packet (country_of y) q w.element o) e
-              ∙ ap (λ b. is_real q && b) (sym (named-old k n x (country_of y) w.element q m)))
+  too-wide : (v : ℕ) → 2 ^ 14 ≤ n → by_field (Some v) ≡ Some ValueTooWide
+  unfolding steers width_of
+  too-wide v h = let b = le-ltb n 16384 h in simp b
 
--- ---- as the code has them: the identity that the element names, and the number under which it is noted
+  lacking : (p : Tag) (y : Telegram) (e : Refusal) → ((x : Packet) → find same_tag p y.packets ≡ Some x → Numbered x.fields) → element_refusal p k (Some y) ≡ Some e → field_refusal p NidBg k n y ≡ Some e
+  lacking p y e u h =
+      found (find same_tag p y.packets)
+      (λ a. ap by_packet a ∙ sym (ap (link_refusal (country_of y) k) a) ∙ h)
+      (λ x a.
+      let l = links-at (country_of y) k x (u x a) in
+      let r : by_link (id_in_packet (country_of y) k x) ≡ Some e = sym (ap by_link l) ∙ sym (ap (link_refusal (country_of y) k) a) ∙ h in
+      found (field_of NidBg k x.fields)
+      (λ f. ap by_packet a ∙ ap by_field f ∙ sym (ap (λ o. by_link (option_map (λ (v : ℕ). record { country = country_at (country_of y) k x.fields; number = v }) o)) f) ∙ r)
+      (λ v f. absurd (let q = sym (ap (λ o. by_link (option_map (λ (v : ℕ). record { country = country_at (country_of y) k x.fields; number = v }) o)) f) ∙ r in cc)))
 
-module _ (plan : rules.Plan) (ids : IndexOf Tag) (names : IndexOf (set.BTreeSet LinkPlace)) (held_is : IsHeld ids names plan) (g : Tag) (t : ℕ) (p : Tag) (k : ℕ) (ys : Group) (here : find same_tag g plan ≡ Some ys) (from : Id) (element : ElementIn t p k ys from) (m : ℕ) (mid after : IndexOf (set.BTreeSet LinkPlace)) where
-  abbrev noted_as : ℕ → Id → Id
-  noted_as n i = record { country = i.country; number = n }
+-- ---- what the code knows
 
-  -- not set
-  pub link-kept : AddsReal names mid (noted_as m from) (place g t p k) → ForgetsOther mid after from (noted_as m from) (place g t p k) → Keeps names after
-  link-kept adds forgets =
-      kept plan ids names held_is g t p k m ys here (links_at p element.0) (element.0, element.1, refl) mid after
-      (subst (λ (i : Id). AddsReal names mid (noted_as m i) (place g t p k)) element.2 adds) (subst (λ (i : Id). ForgetsOther mid after i (noted_as m i) (place g t p k)) element.2 forgets)
+module _ (plan : rules.Plan) (ids : IndexOf Tag) (names : IndexOf (set.BTreeSet LinkPlace)) (held_is : IsHeld ids names plan) (g : Tag) (t : ℕ) (p : Tag) (k : ℕ) (ys : Group) (here : find same_tag g plan ≡ Some ys) where
+  at-telegram : (y : Telegram) → find eqb t ys ≡ Some y → telegram_at g t plan ≡ Some y
+  at-telegram y e = at-group g t plan held_is.sound ys ys here (Some y) e
 
-  -- set
-  pub link-set : (n : ℕ) → (n < 2 ^ 14 → m ≡ n) → AddsReal names mid (noted_as m from) (place g t p k) → ForgetsOther mid after (noted_as m from) from (place g t p k) → AreFull after →
-      (zs : Group) (was : ℕ) → Within eqb t no_telegram (Passed (SetsField p NidBg k n)) ys (Ok was) zs → Outcome (SetVar g t p NidBg k n) ids after plan (set_value (same_tag g) plan zs)
-  link-set n fits adds forgets full zs was w =
-      let same : m ≡ n = fits (narrow plan ids names held_is g t p k n ys here zs was w) in
-      let noted_is = subst (λ (j : ℕ). AddsReal names mid (noted_as j from) (place g t p k)) same adds in
-      let gone = subst (λ (j : ℕ). ForgetsOther mid after (noted_as j from) from (place g t p k)) same forgets in
-      linked plan ids names held_is g t p k n ys here (links_at p element.0) (element.0, element.1, refl) mid after
-      (subst (λ (i : Id). AddsReal names mid (noted_as n i) (place g t p k)) element.2 noted_is) zs was w full (subst (λ (i : Id). ForgetsOther mid after (noted_as n i) i (place g t p k)) element.2 gone)
+  -- no such element
+  pub untold : (n : ℕ) (e : Refusal) → NoElement t p k ys e → refusal (SetVar g t p NidBg k n) plan ≡ Some e
+  untold n e h =
+      found (find eqb t ys)
+      (λ a. absent-is g t p NidBg k n plan ys here a ∙ sym (ap (element_refusal p k) a) ∙ h)
+      (λ y a. stands-is g t p NidBg k n plan ys here y a ∙ lacking k n p y e (numbered g t plan held_is.sound y (at-telegram y a) p) (sym (ap (element_refusal p k) a) ∙ h))
+
+  module _ (from : Id) (element : ElementIn t p k ys from) where
+    abbrev y : Telegram
+    y = element.0
+
+    stands : telegram_at g t plan ≡ Some y
+    stands = at-telegram y element.1
+
+    link : Linking p k y from
+    link = linking p k y from (numbered g t plan held_is.sound y stands p) element.2
+
+    number : field_of NidBg k link.packet.fields ≡ Some from.number
+    number = (linked-number p k y from link).0
+
+    -- by the number alone
+    told : (n : ℕ) → refusal (SetVar g t p NidBg k n) plan ≡ by_field k n (Some from.number)
+    told n = stands-is g t p NidBg k n plan ys here y element.1 ∙ ap (by_packet k n) link.there ∙ ap (by_field k n) number
+
+    pub wide-refused : (n : ℕ) → 2 ^ 14 ≤ n → refusal (SetVar g t p NidBg k n) plan ≡ Some ValueTooWide
+    wide-refused n h = told n ∙ too-wide k n from.number h
+
+    pub none-refused : (n : ℕ) → n < 2 ^ 14 → refusal (SetVar g t p NidBg k n) plan ≡ None
+    none-refused n h = told n ∙ fits-well k n from.number h
+
+    -- its old number
+    pub old-number_is : (n : ℕ) → from.number ≡ (noted (SetVar g t p NidBg k n) plan).old
+    old-number_is n = sym (ap (λ o. (note_at (SetVar g t p NidBg k n) o).old) stands ∙ ap (λ o. (set_note NidBg k n (country_of y) o).old) link.there ∙ ap (λ o. unwrap_or o 0) number)
+
+    module _ (n : ℕ) (fits : n < 2 ^ 14) where
+      abbrev to : Id
+      to = record { country = from.country; number = n }
+
+      abbrev next : Telegram
+      next = with_changed p (with_packet_field NidBg k n) y
+
+      abbrev changed_packet : Packet
+      changed_packet = with_packet_field NidBg k n link.packet
+
+      to_is : to ≡ record { country = country_at (country_of y) k link.packet.fields; number = n }
+      to_is = ap (λ (c : ℕ). record { country = c; number = n }) (linked-number p k y from link).1
+
+      body : (r : Tag) → find same_tag r next.packets ≡ option_map (λ z. cond (same_tag p r) (with_packet_field NidBg k n z) z) (find same_tag r y.packets)
+      body r = find-each tag_test (λ q z. cond (same_tag p q) (with_packet_field NidBg k n z) z) r y.packets
+
+      itself : find same_tag p next.packets ≡ Some changed_packet
+      itself = body p ∙ ap (option_map (λ z. cond (same_tag p p) (with_packet_field NidBg k n z) z)) link.there ∙ ap (λ b. Some (cond b changed_packet link.packet)) (tag_test.itself p)
+
+      other : (r : Tag) → same_tag r p ≡ false → find same_tag r next.packets ≡ find same_tag r y.packets
+      other r d = body r ∙ ap (λ b. option_map (λ z. cond b (with_packet_field NidBg k n z) z) (find same_tag r y.packets)) (test-sym tag_test p r ∙ d) ∙ map-id (find same_tag r y.packets)
+
+      module _ (mid after : IndexOf (set.BTreeSet LinkPlace)) (adds : AddsReal names mid to (place g t p k)) (forgets : ForgetsOther mid after to from (place g t p k)) where
+        index : (q : Id) (w : LinkPlace) → held after q w ≡ cond (is_in g t p w) (is_real q && named_in_packet (country_of y) q w.element (Some changed_packet)) (named_at q w plan)
+        index q w =
+            relinked g t p k plan held_is.sound y stands names held_is.named from link to mid after adds forgets q w
+            ∙ ap (λ b. cond b (is_real q && same_id to q) (held names q w)) (place_is (place g t p k) w)
+            ∙ ap (cond (same_tag g w.group && (eqb t w.telegram && (same_tag p w.packet && eqb k w.element))) (is_real q && same_id to q)) (held_is.named q w)
+            ∙ parted (same_tag g w.group) (eqb t w.telegram) (same_tag p w.packet) (eqb k w.element) _ (is_real q && named_in_packet (country_of y) q w.element (Some changed_packet)) (named_at q w plan)
+            (λ d m. ap (λ b. is_real q && b) (ap (λ j. same_id j q) to_is ∙ sym (named-new k n link.packet (country_of y) from.number q number) ∙ ap (λ j. named_in_packet (country_of y) q j (Some changed_packet)) (eqb-true k w.element m)))
+            (λ d m. named-inside g t plan held_is.sound y stands p q w d ∙ ap (λ o. is_real q && named_in_packet (country_of y) q w.element o) link.there
+            ∙ ap (λ b. is_real q && b) (sym (named-old k n link.packet (country_of y) w.element q m)))
+
+        -- set
+        pub link-set : AreFull after → (zs : Group) → zs ≡ in_group t p (changed (Name n) k) ys → Outcome (SetVar g t p NidBg k n) ids after plan (set_value (same_tag g) plan zs)
+        link-set full zs e =
+            let w : set_value (same_tag g) plan zs ≡ with_telegram g t next plan = written g t plan held_is.sound ys zs here next (e ∙ at-one ys (group_sound plan held_is.sound g ys here).tags element.1) in
+            record {
+              accepted = none-refused n fits;
+              is = value-each tag_test g _ plan ys zs held_is.sound.tags here e ∙ set-is 0 (noted (SetVar g t p NidBg k n) plan).own g t p NidBg k n plan;
+              held = subst (IsHeld ids after) (sym w) (held-put plan held_is.sound g t y next stands (element-changed p (Name n) k fits y next refl) ids names held_is p (Some changed_packet) itself other after full index);
+            }
+          where
+            at-one : (us : Group) → Distinct eqb us → find eqb t us ≡ Some y → in_group t p (changed (Name n) k) us ≡ with_item eqb t next us
+            at-one us d f =
+                each-found nat_test _ _ us d (λ u x a.
+                split_on (eqb t u)
+                (λ b. let q : x ≡ y = unsome (sym a ∙ ap (λ j. find eqb j us) (sym (nat_test.one t u b)) ∙ f) in simp b (ap (with_changed p (with_packet_field NidBg k n)) q))
+                (λ b. simp b))

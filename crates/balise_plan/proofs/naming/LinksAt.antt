@@ -1,5 +1,5 @@
 -- The identity of the element k of a packet is the item k of its links: its numbers of links are counted from 0.
-use Rattle.std.proofs.Common.{◌≡◌, ◌+◌, ℕ, zero, suc, true, false, cond, eqb, [], ◌∷◌, ◌++◌, slice_get, Some, refl, sym, ap, ◌∙◌, arith}
+use Rattle.std.proofs.Common.{◌≡◌, ◌+◌, ℕ, zero, suc, true, false, cond, eqb, [], ◌∷◌, ◌++◌, slice_get, Option, Some, None, refl, sym, ap, ◌∙◌, arith}
 use Rattle.std.specs.Option.{option_map}
 use Rattle.std.proofs.lemmas.Bool.{ne_eqb, eq-eqb}
 use Rattle.balise_rules.specs.declared.variable.Var.TheVariants.{NidBg}
@@ -10,6 +10,13 @@ use Rattle.balise_rules.specs.Packet.{Packet}
 use Rattle.balise_rules.specs.Names.{country_at, links_among, links_of}
 use Rattle.balise_rules.proofs.Tests.{split_on, var_test}
 use Rattle.balise_rules.proofs.Keys.{count-append}
+use Rattle.balise_rules.specs.declared.identity.Id.{Id}
+use Rattle.balise_rules.specs.declared.tag.Tag.{Tag}
+use Rattle.balise_rules.specs.Tags.{same_tag}
+use Rattle.balise_rules.specs.Telegram.{Telegram}
+use Rattle.balise_rules.specs.Plan.{country_of}
+use Rattle.balise_rules.proofs.Cases.{found}
+use Rattle.balise_telegram.specs.Packed.{links_at, links_found}
 use Rattle.balise_plan.proofs.naming.Identities.{id_in_packet}
 
 links-from : (c : ℕ) (fs : Fields) (seen from : Fields) → NumberedFrom seen from → (j i : ℕ) → i ≡ count_of NidBg seen + j →
@@ -39,3 +46,23 @@ links-from c fs seen (f ∷ from) u (suc j) i e =
 
 pub links-at : (c k : ℕ) (x : Packet) → Numbered x.fields → slice_get (links_of c x) k ≡ id_in_packet c k x
 links-at c k x u = links-from c x.fields [] x.fields u k k (omega arith)
+
+-- an element of a telegram stands in its packet
+pub record Linking (p : Tag) (k : ℕ) (y : Telegram) (from : Id) : Type 0 where
+  pub packet : Packet
+  pub there : find same_tag p y.packets ≡ Some packet
+  pub names : id_in_packet (country_of y) k packet ≡ Some from
+
+none-at : (c k : ℕ) (from : Id) → slice_get (links_found c None) k ≡ Some from → ⊥
+none-at c zero from e = absurd cc
+none-at c (suc k) from e = absurd cc
+
+module _ (p : Tag) (k : ℕ) (y : Telegram) (from : Id) (u : (x : Packet) → find same_tag p y.packets ≡ Some x → Numbered x.fields) (e : slice_get (links_at p y) k ≡ Some from) where
+  abbrev at : Option Packet → Option Id
+  at o = slice_get (links_found (country_of y) o) k
+
+  pub linking : Linking p k y from
+  linking =
+      found (find same_tag p y.packets)
+      (λ h. absurd (none-at (country_of y) k from (sym (ap at h) ∙ e)))
+      (λ x h. record { packet = x; there = h; names = sym (links-at (country_of y) k x (u x h)) ∙ sym (ap at h) ∙ e })

@@ -1,6 +1,6 @@
 -- The index after one link was added and another forgotten, at one place.
-use Rattle.std.proofs.Common.{◌≡◌, ℕ, Bool, true, false, not, cond, ◌&&◌, List, Option, Some, None, slice_get, refl, sym, ap, ◌∙◌}
-use Rattle.std.specs.Prelude.{unwrap_or}
+use Rattle.std.proofs.Common.{◌≡◌, ℕ, Bool, true, false, not, cond, ◌&&◌, Some, refl, sym, ap, ◌∙◌}
+use Rattle.std.specs.Prelude.{option_and_then}
 use Rattle.std.specs.BTreeSet as set
 use Rattle.std.proofs.lemmas.Bool.{true≢false}
 use Rattle.balise_rules.specs.declared.tag.Tag.{Tag}
@@ -9,21 +9,19 @@ use Rattle.balise_rules.specs.Tagged.{find}
 use Rattle.balise_rules.specs.Tags.{same_tag, same_id}
 use Rattle.balise_rules.specs.Telegram.{Telegram}
 use Rattle.balise_rules.specs.Plan.{Plan, IsSound, country_of, telegram_at}
-use Rattle.balise_rules.specs.Names.{is_real, links_of}
-use Rattle.balise_rules.proofs.Tests.{split_on, tag_test, nat_test, id_test, test-sym}
-use Rattle.balise_rules.proofs.Cases.{found}
-use Rattle.balise_telegram.specs.Packed.{links_at, links_found}
+use Rattle.balise_rules.specs.Names.{is_real}
+use Rattle.balise_rules.proofs.Tests.{tag_test, nat_test, id_test}
 use Rattle.balise_index.specs.declared.link_place.LinkPlace.{LinkPlace}
 use Rattle.balise_index.specs.Identities.{IndexOf, is_id}
 use Rattle.balise_index.specs.Places.{is_place}
-use Rattle.balise_plan.specs.Links.{held, named_at, named_in_packet, Keeps}
+use Rattle.balise_plan.specs.Links.{held, named_at}
 use Rattle.balise_plan.specs.PacketLinks.{is_in}
-use Rattle.balise_plan.specs.Relinking.{AddsReal, ForgetsOther, element_at, unnamed}
+use Rattle.balise_plan.specs.Relinking.{AddsReal, ForgetsOther}
 use Rattle.balise_index.proofs.identities.Equal.{id_is}
 use Rattle.balise_index.proofs.places.Equal.{place_one}
-use Rattle.balise_plan.proofs.naming.Identities.{is_the, in-packet}
-use Rattle.balise_plan.proofs.naming.LinksAt.{links-at}
-use Rattle.balise_plan.proofs.naming.OfPacket.{named-inside, numbered}
+use Rattle.balise_plan.proofs.naming.Identities.{id_in_packet, is_the, in-packet}
+use Rattle.balise_plan.proofs.naming.LinksAt.{Linking}
+use Rattle.balise_plan.proofs.naming.OfPacket.{named-inside}
 use Rattle.balise_plan.proofs.naming.Walking.{place}
 
 -- ---- by cases: a, whether the two identities are one; b, c, whether the old or the new is this one; s, whether the new can be named; r, whether this one can
@@ -46,19 +44,6 @@ swapped true false false false r h i j = refl
 swapped false false false true r h i j = refl
 swapped false false false false r h i j = refl
 
-restored : (a b c s r : Bool) → (c ≡ true → r ≡ s) → (a ≡ true → b ≡ c) → (b ≡ true → c ≡ true → a ≡ true) → cond (not a && c) false (cond (s && c) true (r && b)) ≡ (r && b)
-restored true true true true true h i j = refl
-restored true true true true false h i j = absurd (true≢false (sym (h refl)))
-restored true true true false r h i j = refl
-restored false true true s r h i j = absurd (true≢false (sym (j refl refl)))
-restored true b false true r h i j = refl
-restored true b false false r h i j = refl
-restored false b false true r h i j = refl
-restored false b false false r h i j = refl
-restored true false true s r h i j = absurd (true≢false (sym (i refl)))
-restored false false true s true h i j = refl
-restored false false true s false h i j = refl
-
 -- with the test of the place
 elsewhere : (a b s c d : Bool) (o : Bool) → cond (a && (b && false)) false (cond (s && (c && false)) true o) ≡ o
 elsewhere true true true true d o = refl
@@ -75,35 +60,16 @@ right : (b : Bool) → (b && true) ≡ b
 right true = refl
 right false = refl
 
-unnamed-real : (r : Id) → (is_real r && false) ≡ (is_real r && same_id unnamed r)
-unnamed-real r =
-    split_on (same_id unnamed r)
-    (λ e. let n : is_real r ≡ false = ap is_real (sym (id_test.one unnamed r e)) in simp n)
-    (λ e. ap (λ b. is_real r && b) (sym e))
-
--- what names one identity
-told : (r : Id) (o : Option Id) → (is_real r && is_the r o) ≡ (is_real r && same_id (unwrap_or o unnamed) r)
-told r None = unnamed-real r
-told r (Some j) = refl
-
-module _ (g : Tag) (t : ℕ) (p : Tag) (k : ℕ) (plan : Plan) (sound : IsSound plan) (y : Telegram) (stands : telegram_at g t plan ≡ Some y) (names : IndexOf (set.BTreeSet LinkPlace)) (index : (q : Id) (w : LinkPlace) → held names q w ≡ named_at q w plan) (ls : List Id) (all : ls ≡ links_at p y) where
-  here : (r : Id) → held names r (place g t p k) ≡ (is_real r && same_id (element_at ls k) r)
+module _ (g : Tag) (t : ℕ) (p : Tag) (k : ℕ) (plan : Plan) (sound : IsSound plan) (y : Telegram) (stands : telegram_at g t plan ≡ Some y) (names : IndexOf (set.BTreeSet LinkPlace)) (index : (q : Id) (w : LinkPlace) → held names q w ≡ named_at q w plan) (from : Id) (link : Linking p k y from) where
+  here : (r : Id) → held names r (place g t p k) ≡ (is_real r && same_id from r)
   here r =
       index r (place g t p k) ∙ named-inside g t plan sound y stands p r (place g t p k) inside
-      ∙ found (find same_tag p y.packets)
-      (λ e. ap (λ o. is_real r && named_in_packet (country_of y) r k o) e ∙ unnamed-real r ∙ ap (λ l. is_real r && same_id (element_at l k) r) (sym (all ∙ ap (links_found (country_of y)) e)))
-      (λ x e. ap (λ o. is_real r && named_in_packet (country_of y) r k o) e ∙ ap (λ b. is_real r && b) (in-packet (country_of y) k r (Some x))
-      ∙ ap (λ o. is_real r && is_the r o) (sym (links-at (country_of y) k x (numbered g t plan sound y stands p x e)))
-      ∙ told r (slice_get (links_of (country_of y) x) k)
-      ∙ ap (λ l. is_real r && same_id (element_at l k) r) (sym (all ∙ ap (links_found (country_of y)) e)))
+      ∙ ap (λ b. is_real r && b) (in-packet (country_of y) k r (find same_tag p y.packets) ∙ ap (is_the r) (ap (option_and_then (id_in_packet (country_of y) k)) link.there ∙ link.names))
     where
       inside : is_in g t p (place g t p k) ≡ true
       inside = let a = tag_test.itself g in let b = nat_test.itself t in let c = tag_test.itself p in simp (a, b, c)
 
   module _ (to : Id) (mid after : IndexOf (set.BTreeSet LinkPlace)) (adds : AddsReal names mid to (place g t p k)) where
-    abbrev from : Id
-    from = element_at ls k
-
     -- this place or another
     by-place : (r : Id) (v : LinkPlace) (a c : Bool) (i j : Id) (x z : Bool) → (is_place (place g t p k) v ≡ true → cond (a && is_id i r) false (cond (c && is_id j r) true (is_real r && same_id from r)) ≡ x) → (is_place (place g t p k) v ≡ false → held names r v ≡ z) →
         cond (a && (is_id i r && is_place (place g t p k) v)) false (cond (c && (is_id j r && is_place (place g t p k) v)) true (held names r v)) ≡ cond (is_place (place g t p k) v) x z
@@ -134,17 +100,3 @@ module _ (g : Tag) (t : ℕ) (p : Tag) (k : ℕ) (plan : Plan) (sound : IsSound 
         ∙ ap (λ b. cond (not (same_id to from) && same_id from r) false (cond (is_real to && b) true (is_real r && same_id from r))) (id_is to r)
         ∙ swapped (same_id to from) (same_id from r) (same_id to r) (is_real to) (is_real r) (same-real r) (same-both r) (same-two r))
         (λ e. refl)
-
-    pub unlinked : ForgetsOther mid after from to (place g t p k) → Keeps names after
-    unlinked f r v =
-        f r v ∙ ap (cond (not (same_id from to) && (is_id to r && is_place (place g t p k) v)) false) (adds r v)
-        ∙ ap (λ a. cond (not a && (is_id to r && is_place (place g t p k) v)) false (cond (is_real to && (is_id to r && is_place (place g t p k) v)) true (held names r v))) (test-sym id_test from to)
-        ∙ by-place r v (not (same_id to from)) (is_real to) to to (is_real r && same_id from r) (held names r v)
-        (λ e. ap (λ b. cond (not (same_id to from) && b) false (cond (is_real to && b) true (is_real r && same_id from r))) (id_is to r)
-        ∙ restored (same_id to from) (same_id from r) (same_id to r) (is_real to) (is_real r) (same-real r) (same-both r) (same-two r))
-        (λ e. refl)
-        ∙ back (is_place (place g t p k) v) refl
-      where
-        back : (b : Bool) → is_place (place g t p k) v ≡ b → cond b (is_real r && same_id from r) (held names r v) ≡ held names r v
-        back true e = sym (ap (held names r) (sym (place_one (place g t p k) v e)) ∙ here r)
-        back false e = refl

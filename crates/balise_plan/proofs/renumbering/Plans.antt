@@ -9,6 +9,7 @@ use Rattle.balise_rules.specs.declared.tag.Tag.{Tag}
 use Rattle.balise_rules.specs.declared.identity.Id.{Id}
 use Rattle.balise_rules.specs.declared.variable.Var.{Var}
 use Rattle.balise_rules.specs.declared.variable.Var.TheVariants.{NidBg, NidC}
+use Rattle.balise_rules.specs.declared.refusal.Refusal.{Refusal}
 use Rattle.balise_rules.specs.declared.refusal.Refusal.TheVariants.{NoSuchGroup, ValueTooWide, NumberReserved, NumberTaken}
 use Rattle.balise_rules.specs.Variables.{width_of}
 use Rattle.balise_rules.specs.Bits.{fits}
@@ -67,15 +68,18 @@ pub is_reserved : (g : Tag) (n : ℕ) (plan : rules.Plan) (ys : Group) → find 
 unfolding width_of
 is_reserved g n plan ys e l = let f : find same_tag g plan ≡ Some ys = e in subst (λ m. refusal (Renumber g m) plan ≡ Some NumberReserved) (sym l) (simp f)
 
-pub is_taken : (g : Tag) (n : ℕ) (plan : rules.Plan) (ys : Group) → find same_tag g plan ≡ Some ys → n < 16384 → n ≢ 16383 → taken (renumbered (Some ys) n) plan ≡ true → refusal (Renumber g n) plan ≡ Some NumberTaken
-unfolding width_of
-is_taken g n plan ys e l r t =
+-- the one reason that is left for a number that fits and isn't reserved
+by_taken : Bool → Option Refusal
+by_taken b = first_of (when b NumberTaken ∷ [])
+
+taken_or_free : (g : Tag) (n : ℕ) (plan : rules.Plan) (ys : Group) → find same_tag g plan ≡ Some ys → n < 16384 → n ≢ 16383 → refusal (Renumber g n) plan ≡ by_taken (taken (renumbered (Some ys) n) plan)
+unfolding width_of by_taken
+taken_or_free g n plan ys e l r =
     let f : nat_lt n 16384 ≡ true = lt-ltb n 16384 l in
     let d : eqb n 16383 ≡ false = ne_eqb n 16383 r in
     ap (λ (o : Option Group). first_of (when (is_none o) NoSuchGroup ∷ when (not (nat_lt n 16384)) ValueTooWide ∷ when (eqb n 16383) NumberReserved ∷ when (taken (renumbered o n) plan) NumberTaken ∷ [])) e
     ∙ ap (λ b. first_of (when (not b) ValueTooWide ∷ when (eqb n 16383) NumberReserved ∷ when (taken (renumbered (Some ys) n) plan) NumberTaken ∷ [])) f
     ∙ ap (λ b. first_of (when b NumberReserved ∷ when (taken (renumbered (Some ys) n) plan) NumberTaken ∷ [])) d
-    ∙ ap (λ b. first_of (when b NumberTaken ∷ [])) t
 
 -- ---- done
 
@@ -292,11 +296,21 @@ module _ (plan : rules.Plan) (ids : IndexOf Tag) (names : IndexOf (set.BTreeSet 
       (λ e. e ∙ sym (untold names plan held_is.sound held_is.named i (none-of (indexed names i) e)))
 
   module _ (g0 : Tag) (ys0 : Group) (n : ℕ) (here : find same_tag g0 plan ≡ Some ys0) where
-    pub known_taken : n < 16384 → n ≢ 16383 → (own : Id) → own ≡ identity_of ys0 → (is_some (indexed ids (record { country = own.country; number = n })) || is_some (indexed names (record { country = own.country; number = n }))) ≡ true → refusal (Renumber g0 n) plan ≡ Some NumberTaken
-    known_taken l r own e k =
+    abbrev known : Id → Bool
+    known own = is_some (indexed ids (record { country = own.country; number = n })) || is_some (indexed names (record { country = own.country; number = n }))
+
+    by_known : n < 16384 → n ≢ 16383 → (own : Id) → own ≡ identity_of ys0 → refusal (Renumber g0 n) plan ≡ by_taken (known own)
+    by_known l r own e =
         let i = renumbered (Some ys0) n in
-        let q = ap (λ (j : Id). is_some (indexed ids (record { country = j.country; number = n })) || is_some (indexed names (record { country = j.country; number = n }))) e in
-        is_taken g0 n plan ys0 here l r (ap (λ b. b || is_named i plan) (sym (known_id i)) ∙ ap (λ b. is_some (indexed ids i) || b) (sym (known_name i)) ∙ sym q ∙ k)
+        taken_or_free g0 n plan ys0 here l r ∙ ap by_taken (ap (λ b. b || is_named i plan) (sym (known_id i)) ∙ ap (λ b. is_some (indexed ids i) || b) (sym (known_name i)) ∙ sym (ap known e))
+
+    pub known_taken : n < 16384 → n ≢ 16383 → (own : Id) → own ≡ identity_of ys0 → known own ≡ true → refusal (Renumber g0 n) plan ≡ Some NumberTaken
+    unfolding by_taken
+    known_taken l r own e k = by_known l r own e ∙ ap by_taken k
+
+    pub unknown_free : n < 16384 → n ≢ 16383 → (own : Id) → own ≡ identity_of ys0 → known own ≡ false → refusal (Renumber g0 n) plan ≡ None
+    unfolding by_taken
+    unknown_free l r own e k = by_known l r own e ∙ ap by_taken k
 
     pub moved_apart : (own : Id) → own ≡ identity_of ys0 → (is_some (indexed ids (record { country = own.country; number = n })) || is_some (indexed names (record { country = own.country; number = n }))) ≡ false → own ≢ (record { country = own.country; number = n })
     moved_apart own e k same =

@@ -4,14 +4,13 @@ ghost use Rattle.balise_plan.specs.Within.{Within, Passed, no_telegram};
 ghost use Rattle.balise_plan.specs.Walks.{changed, in_group, with_number, FitsName};
 ghost use Rattle.std.specs.Prelude.{eqb, ◌≡◌, ◌≢◌, ◌<◌, ◌^◌, IfOk, IfErr};
 ghost use Rattle.balise_rules.specs.Plan.{reserved};
-ghost use Rattle.balise_plan.specs.ElementIn.{ElementIn, NoTelegram};
+ghost use Rattle.balise_plan.specs.ElementIn.{ElementIn, NoElement};
 ghost use Rattle.balise_telegram.specs.Setting.{SetsField, SetsHead};
 ghost use Rattle.balise_telegram.specs.Changes.{OrWants};
 ghost use Rattle.balise_telegram.specs.Moving.{TakesOut};
 
 use crate::group::{Group, Telegrams, find};
 use crate::links::change::Change;
-use crate::links::relink::{UNNAMED, element};
 use balise_layout::Packet;
 use balise_rules::{Id, Refusal, Tag, Var};
 
@@ -53,19 +52,23 @@ impl Group {
         Ok(old)
     }
 
-    /// The identity of element `k`, from 0, of a packet of one telegram: one that nothing names where it isn't there.
+    /// The identity of element `k`, from 0, of a packet of one telegram.
     pub(crate) fn element(&self, t: u32, p: Tag, k: u32) -> Result<Id, Refusal>
         ensures ok { IfOk result (λ id. ElementIn t p k self.now id) }
-        ensures fault { IfErr result (λ e. NoTelegram t self.now e) }
+        ensures fault { IfErr result (λ e. NoElement t p k self.now e) }
     {
         let Some(i) = find(&self.telegrams, t) else {
             return Err(Refusal::NoSuchTelegram);
         };
         let telegram = &self.telegrams[i].1;
-        match telegram.packet(p) {
-            Some(packet) => Ok(element(&packet.elements(telegram.identity().country), k)),
-            None => Ok(UNNAMED),
-        }
+        let Some(packet) = telegram.packet(p) else {
+            return Err(Refusal::NoSuchPacket);
+        };
+        let elements = packet.elements(telegram.identity().country);
+        let Some(id) = elements.get(k as usize) else {
+            return Err(Refusal::NoSuchVariable);
+        };
+        Ok(id)
     }
 
     /// Takes a packet out of one telegram.

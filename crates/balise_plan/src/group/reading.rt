@@ -7,7 +7,7 @@ ghost use Rattle.balise_rules.specs.Plan.{agree_from, read_group, IsSoundGroup};
 use crate::group::{Group, Telegrams, identity};
 use crate::one_or_more::OneOrMore;
 use balise_bits::Bits;
-use balise_rules::{Id, Refusal};
+use balise_rules::{Id, NO_GROUP, Refusal};
 use balise_telegram::Telegram;
 use std::alloc::Global;
 
@@ -54,7 +54,7 @@ impl Group {
         if !agree(&telegrams, id) {
             return Err(Refusal::HeaderDisagrees);
         }
-        if id.number == 16383 {
+        if id.number == NO_GROUP {
             return Err(Refusal::NumberReserved);
         }
         Ok(Group { telegrams })

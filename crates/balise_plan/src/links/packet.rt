@@ -9,10 +9,8 @@ use crate::links::names::{add, forget};
 use crate::packet_place::PacketPlace;
 use balise_index::{IdentityMap, Links};
 use balise_layout::{Elements, PacketRef};
+use balise_rules::NO_GROUP;
 use std::alloc::{AllocError, Global};
-
-/// The number of an element that names no group (SUBSET-026, 7.5, NID_BG).
-pub(crate) const NO_GROUP: u32 = 16383;
 
 /// Notes the links of a packet in a telegram of this country. Where memory runs out, some of them may be noted.
 pub(crate) fn add_packet(

@@ -1,6 +1,6 @@
 //! What is refused, and in which order.
 
-use crate::tests::digits::{ABROAD, FIRST, INFILL, LINKING, REVOCATIONS};
+use crate::tests::digits::{ABROAD, FIRST, INFILL, LINKING, REVOCATIONS, SECOND};
 use crate::tests::steps::Step::{Field, Head, Put, PutGroup, Rename, Shift, Take, TakeGroup, Turn};
 use crate::tests::steps::{RefusedRow, refuse_over};
 use balise_plan::{GroupTag, PacketTag, Refusal, Spot, Var};
@@ -10,6 +10,9 @@ const NOWHERE: GroupTag = GroupTag::Fresh(9);
 const PACKET: PacketTag = PacketTag::Base(0);
 
 const NEW: PacketTag = PacketTag::Fresh(1);
+
+/// The largest number that a command can name.
+const LAST: u32 = 4294967295;
 
 /// The groups that changes are refused in.
 const LINKS: &[&str] = &[REVOCATIONS, LINKING];
@@ -114,6 +117,8 @@ const CHANGES: &[RefusedRow] = &[
         Refusal::NoSuchTelegram,
         &[
             Field(FIRST, 1, NEW, Var::NidBg, 1, 16384),
+            Field(FIRST, 256, PACKET, Var::NidBg, 0, 7),
+            Field(FIRST, LAST, PACKET, Var::NidBg, LAST, 7),
             Head(FIRST, 1, Var::NidTsr, 256),
             Take(FIRST, 1, NEW),
             Shift(FIRST, 1, NEW, Spot::After(None)),
@@ -123,6 +128,8 @@ const CHANGES: &[RefusedRow] = &[
         Refusal::NoSuchPacket,
         &[
             Field(FIRST, 0, NEW, Var::NidBg, 1, 16384),
+            Field(FIRST, 0, NEW, Var::NidBg, 256, 7),
+            Field(FIRST, 0, NEW, Var::NidBg, LAST, 7),
             Take(FIRST, 0, NEW),
             Shift(FIRST, 0, NEW, Spot::After(None)),
             Shift(FIRST, 0, PACKET, Spot::After(Some(NEW))),
@@ -132,11 +139,22 @@ const CHANGES: &[RefusedRow] = &[
         Refusal::NoSuchVariable,
         &[
             Field(FIRST, 0, PACKET, Var::NidBg, 0, 7),
+            Field(SECOND, 0, PACKET, Var::NidBg, 1, 16384),
+            Field(SECOND, 0, PACKET, Var::NidBg, 255, 7),
+            Field(SECOND, 0, PACKET, Var::NidBg, 256, 7),
+            Field(SECOND, 0, PACKET, Var::NidBg, LAST, LAST),
             Head(FIRST, 0, Var::NidTsr, 256),
         ],
     ),
     (Refusal::Steering, &[Head(FIRST, 0, Var::NidBg, 20000)]),
-    (Refusal::ValueTooWide, &[Head(FIRST, 0, Var::MMcount, 256)]),
+    (
+        Refusal::ValueTooWide,
+        &[
+            Field(SECOND, 0, PACKET, Var::NidBg, 0, 16384),
+            Field(SECOND, 0, PACKET, Var::NidBg, 0, LAST),
+            Head(FIRST, 0, Var::MMcount, 256),
+        ],
+    ),
     (
         Refusal::SamePlace,
         &[Shift(FIRST, 0, PACKET, Spot::After(None))],

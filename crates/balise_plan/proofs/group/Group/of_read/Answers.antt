@@ -11,16 +11,16 @@ pub invariant_of-result : goal.invariant_of-result
 invariant_of-result c =
     let ys = c.args.telegrams in
     (read_sound ys (stands ys c.identity-id.result.number c.requires (omega (arith, c.len-count.ensures, c.if-count-eq0.false)) (ap (λ (i : Id). agree_from i (length ys - 1) 0 ys) (sym c.identity-id.ensures) ∙ sym c.agree.ensures ∙ c.if-not-agree.false)
-    (ap (λ (i : Id). i.number) c.identity-id.ensures) c.if-id-eq16383.false)).sound
+    (ap (λ (i : Id). i.number) c.identity-id.ensures) c.if-id-eq-NO_GROUP.false)).sound
 
 pub returns-clause-sound : goal.returns-clause-sound
 returns-clause-sound c =
     let ys = c.args.telegrams in
     (read_sound ys (stands ys c.identity-id.result.number c.requires (omega (arith, c.len-count.ensures, c.if-count-eq0.false)) (ap (λ (i : Id). agree_from i (length ys - 1) 0 ys) (sym c.identity-id.ensures) ∙ sym c.agree.ensures ∙ c.if-not-agree.false)
-    (ap (λ (i : Id). i.number) c.identity-id.ensures) c.if-id-eq16383.false)).sound
+    (ap (λ (i : Id). i.number) c.identity-id.ensures) c.if-id-eq-NO_GROUP.false)).sound
 
 pub returns-clause-read : goal.returns-clause-read
 returns-clause-read c =
     let ys = c.args.telegrams in
     (stands ys c.identity-id.result.number c.requires (omega (arith, c.len-count.ensures, c.if-count-eq0.false)) (ap (λ (i : Id). agree_from i (length ys - 1) 0 ys) (sym c.identity-id.ensures) ∙ sym c.agree.ensures ∙ c.if-not-agree.false)
-    (ap (λ (i : Id). i.number) c.identity-id.ensures) c.if-id-eq16383.false)
+    (ap (λ (i : Id). i.number) c.identity-id.ensures) c.if-id-eq-NO_GROUP.false)

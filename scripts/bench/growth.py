@@ -123,7 +123,7 @@ def main(program, other, picture=None):
         before += [f"seth {name(1 + i % 9999)} 0 M_MCOUNT {i % 250}" for i in range(count - 1)]
         pairs = min(PAIRS, (1_000_000 - count) // 2)
         if kind == AFTER[-1]:
-            pairs = max(20, min(pairs, 2_000_000 // count))
+            pairs = max(100, min(pairs, 40_000_000 // count))
         return each((program, other), folder, before, [line for i in range(pairs) for line in after_edits(kind, count, i)])
 
     tables = [

@@ -16,15 +16,17 @@ const ABOUT: &str =
 // Else clap prints the name of the file that was run.
 const USAGE: &str = "baliseplan [OPTIONS]";
 
-const STATUS: &str =
-    "Status:{n}  0   all commands accepted{n}  1   a command refused{n}  2   the plan refused{n}  3   a line too long, too little memory, or a read or write that failed{n}  64  an unknown argument, or one given twice";
+// The commands, the exit statuses, and where all formats are described.
+const AFTER_OPTIONS: &str =
+    "Commands, one a line after the line 'edits':{n}  set, seth, insert, delete, move, add, drop, renumber, turn, undo, redo, strike{n}{n}Status:{n}  0   all commands accepted{n}  1   a command refused{n}  2   the plan refused{n}  3   a line too long, too little memory, or a read or write that failed{n}  64  an unknown argument, or one given twice{n}{n}The words of each command, the formats and the refusals: man baliseplan, or docs/FORMATS.md";
 
 // What help says of each argument.
 const QUIET: &str = "Print no reply to a command that is accepted";
 
 const STOP: &str = "Do no command after the first that is refused";
 
-const JOURNAL: &str = "Print the journal after the plan: the edits that stand, for a later run";
+const JOURNAL: &str =
+    "Print the journal after the plan: the edits that stand and those undone, for a later run";
 
 const JSON: &str = "Print each group as one line of JSON after the plan";
 
@@ -77,7 +79,7 @@ fn described<'a>(alloc: Global) -> Command<'a>
     Command::new(alloc, "baliseplan")
         .about(ABOUT)
         .override_usage(USAGE)
-        .after_help(STATUS)
+        .after_help(AFTER_OPTIONS)
 }
 
 // An argument `--NAME` that takes no value.

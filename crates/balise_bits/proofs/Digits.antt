@@ -39,7 +39,7 @@ whole_bytes text b e = elim (cases_eq (length text % 2) 0) [
 -- ---- printing
 
 -- the digit of a value, as the table has it
-same_digit : (d : ℕ) → d < 16 → digit_of d ≡ slice_index lower_digits d
+pub same_digit : (d : ℕ) → d < 16 → digit_of d ≡ slice_index lower_digits d
 same_digit d h = below d h
   where
     below : (d : ℕ) → d < 16 → digit_of d ≡ slice_index lower_digits d

@@ -12,5 +12,6 @@ pub mod Same
 pub mod Short
 pub mod Judging
 pub mod Blocks
+mod Printed
 mod CellsMemory
 mod Refilled

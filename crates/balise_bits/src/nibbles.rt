@@ -1,10 +1,8 @@
 //! Hexadecimal digits of bytes, read and written in place.
 
 ghost use Rattle.std.specs.Prelude.{◌≡◌, ◌*◌, ◌<◌, ◌≤◌, true, false, length, Some, None};
-ghost use Rattle.balise_rules.specs.Digits.{digit_bits, digit_value, digits_in};
+ghost use Rattle.balise_rules.specs.Digits.{digit_bits, digit_of, digit_value, digits_in};
 ghost use Rattle.balise_bits.specs.Bytes.{flat};
-
-use hex::encode_to_slice;
 
 /// How many bytes are read at once. Loops of a fixed length become vector code.
 const BLOCK: usize = 16;
@@ -100,11 +98,26 @@ fn chosen_value(byte: u8) -> u8
     if digit < 10 { digit } else { letter }
 }
 
-/// Writes the digits of bytes in lower case.
+// The lower-case digit of a value. Both that it could be are worked out, so that there is no branch.
+#[inline(always)]
+fn chosen_digit(value: u8) -> u8
+    requires { value < 16 }
+    ensures { result ≡ digit_of value }
+{
+    let small = value + b'0';
+    let large = value + (b'a' - 10);
+    if value < 10 { small } else { large }
+}
+
+/// Writes the digits of bytes in lower case. The loop becomes vector code.
 pub(crate) fn put_digits(bytes: &[u8], out: &mut [u8])
     requires { length out.old ≡ 2 * length bytes.now }
     ensures digits { out.new ≡ digits_in (flat bytes.now) }
     ensures len { length out.new ≡ length out.old }
 {
-    let _written = encode_to_slice(bytes, out);
+    for k in 0..bytes.len() {
+        let byte = bytes[k];
+        out[2 * k] = chosen_digit(byte / 16);
+        out[2 * k + 1] = chosen_digit(byte % 16);
+    }
 }

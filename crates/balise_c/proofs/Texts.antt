@@ -1,39 +1,42 @@
--- A text that is cut is a beginning of an output, and a whole text has a size.
-use Rattle.std.proofs.Common.{◌∙◌, ◌≡◌, ℕ, [], ◌++◌, length, take, drop, Result, Ok, Err, refl, sym, ap, append_assoc, append-nil, take-append-drop}
+-- What begins an output of an input: nothing does, and a longer text that is cut.
+use Rattle.std.proofs.Common.{◌∙◌, ◌≡◌, ◌<◌, ℕ, true, [], ◌++◌, length, take, drop, Result, Ok, Err, arith, refl, sym, ap, append_assoc, append-nil, length-append, take-append-drop}
+use Rattle.balise_lines.specs.Lines.{lines_of}
 use Rattle.balise_arguments.specs.declared.options.Flags.{Flags}
 use Rattle.balise_text.specs.Texts.{Text}
 use Rattle.balise_cli.specs.Ends.{IsOutputOf}
-use Rattle.balise_cli.specs.Output.{Ended, Ending, TooLong}
+use Rattle.balise_cli.specs.Output.{Ended, Ending, Header, TooLong}
 use Rattle.balise_cli.specs.declared.fault.RunFault.{RunFault}
 use Rattle.balise_cli.specs.declared.fault.RunFault.TheVariants.{InputTooLong, OutOfMemory, ReadFault, WriteFault}
 use Rattle.balise_cli.specs.declared.status.Status.{Status}
-use Rattle.balise_c.specs.Outcome.{BeginsOutput, HasSize, IsPrinted}
+use Rattle.balise_cli.proofs.Outputs.{some_output}
+use Rattle.balise_c.specs.Outcome.{BeginsLonger, BeginsOutput, Ran}
 
--- an output of all of the input begins with itself
-of_all : (flags : Flags) (input text : Text) (e : Ending) → IsOutputOf flags input text e → BeginsOutput flags input text
-of_all flags input text e o =
-    record { read = input; unread = []; split = sym (append-nil input); output = text; ending = e; is_output = o; begins = ([], append-nil text) }
+pub nothing : (flags : Flags) (input : Text) → BeginsOutput flags input []
+nothing flags input = let o = some_output flags true Header 1 0 (lines_of input) in record { output = o.0; ending = o.1.0; is_output = o.1.1; begins = (o.0, refl) }
 
--- a text that begins an output still does so when it is cut
-of_cut : (flags : Flags) (input text : Text) (n : ℕ) → BeginsOutput flags input text → BeginsOutput flags input (take n text)
-of_cut flags input text n b = record {
-  read = b.read;
-  unread = b.unread;
-  split = b.split;
-  output = b.output;
-  ending = b.ending;
-  is_output = b.is_output;
-  begins = (drop n text ++ b.begins.0, sym (append_assoc (take n text) (drop n text) b.begins.0) ∙ ap (λ (t : Text). t ++ b.begins.0) (take-append-drop n text) ∙ b.begins.1);
-}
+-- an output begins with itself
+itself : (flags : Flags) (input text : Text) (e : Ending) → IsOutputOf flags input text e → BeginsOutput flags input text
+itself flags input text e o = record { output = text; ending = e; is_output = o; begins = ([], append-nil text) }
 
--- however the run ended, what fits begins an output
-pub cut_printed : (flags : Flags) (input text : Text) (n : ℕ) (r : Result Status RunFault) → IsPrinted flags input text r → BeginsOutput flags input (take n text)
-cut_printed flags input text n (Ok status) p = of_cut flags input text n (of_all flags input text (Ended status) p.0)
-cut_printed flags input text n (Err InputTooLong) o = of_cut flags input text n (of_all flags input text TooLong o)
-cut_printed flags input text n (Err OutOfMemory) b = of_cut flags input text n b
-cut_printed flags input text n (Err ReadFault) b = of_cut flags input text n b
-cut_printed flags input text n (Err WriteFault) b = of_cut flags input text n b
+-- however the run ended, its text begins one
+begun : (flags : Flags) (input text : Text) (r : Result Status RunFault) → Ran flags input text r → BeginsOutput flags input text
+begun flags input text (Ok status) p = itself flags input text (Ended status) p.0
+begun flags input text (Err InputTooLong) o = itself flags input text TooLong o
+begun flags input text (Err OutOfMemory) b = b.0
+begun flags input text (Err ReadFault) b = b
+begun flags input text (Err WriteFault) b = b.0
 
--- what was printed has the size of its text
-pub sized : (flags : Flags) (input text : Text) (r : Result Status RunFault) → IsPrinted flags input text r → (r ≡ Err WriteFault → ⊥) → HasSize flags input (length text) r
-sized flags input text r p whole = record { text = text; is_printed = p; is_size = refl; is_whole = whole }
+-- and where it is cut, that output is longer
+pub cut : (flags : Flags) (input text : Text) (n : ℕ) (r : Result Status RunFault) → Ran flags input text r → length (take n text) ≡ n → n < length text → BeginsLonger flags input (take n text)
+cut flags input text n r p size less =
+    let b = begun flags input text r p in
+    let whole = ap length b.begins.1 in
+    let parts = length-append text b.begins.0 in (
+      record {
+        output = b.output;
+        ending = b.ending;
+        is_output = b.is_output;
+        begins = (drop n text ++ b.begins.0, sym (append_assoc (take n text) (drop n text) b.begins.0) ∙ ap (λ (t : Text). t ++ b.begins.0) (take-append-drop n text) ∙ b.begins.1);
+      },
+      omega (arith, whole, parts, size, less),
+    )

@@ -1,33 +1,63 @@
 -- What a call writes and answers.
-use Rattle.std.specs.Prelude.{◌≡◌, ◌≤◌, ℕ, ℤ, pos, true, ◌++◌, length, take, drop, Result, Ok, Err}
+use Rattle.std.specs.Prelude.{◌≡◌, ◌⊎◌, ◌<◌, ◌≤◌, ℕ, ℤ, pos, true, List, [], length, take, drop, Option, Some, Result, Ok, Err}
+use Rattle.balise_lines.specs.Lines.{Line}
 use Rattle.balise_lines.specs.Writing.{IsPrefixOf}
 use Rattle.balise_arguments.specs.declared.options.Flags.{Flags}
 use Rattle.balise_text.specs.Texts.{Text}
-use Rattle.balise_cli.specs.Ends.{IsOutputOf}
+use Rattle.balise_cli.specs.Ends.{DidLines, FailsToWrite, IsOutputOf, RunsOutOfMemory}
 use Rattle.balise_cli.specs.Laws.{PrintsStanding}
-use Rattle.balise_cli.specs.Output.{Ended, Ending, TooLong}
+use Rattle.balise_cli.specs.Output.{Ended, Ending, Phase, TooLong}
 use Rattle.balise_cli.specs.Statuses.{code_of}
 use Rattle.balise_cli.specs.declared.fault.RunFault.{RunFault}
 use Rattle.balise_cli.specs.declared.fault.RunFault.TheVariants.{InputTooLong, OutOfMemory, ReadFault, WriteFault}
 use Rattle.balise_cli.specs.declared.status.Status.{Status}
 
--- the first bytes of the input have an output that begins with this text
+-- this text begins an output of the input
 pub record BeginsOutput (flags : Flags) (input text : Text) : Type 0 where
-  pub read : Text
-  pub unread : Text
-  pub split : input ≡ read ++ unread
   pub output : Text
   pub ending : Ending
-  pub is_output : IsOutputOf flags read output ending
+  pub is_output : IsOutputOf flags input output ending
   pub begins : IsPrefixOf text output
 
--- The text is what the program prints for the whole input, and the headline holds of it. After a fault that isn't the input's it is a beginning of such a text.
+-- and that output is longer
+abbrev pub BeginsLonger : Flags → Text → Text → Type 0
+BeginsLonger flags input text = (b : BeginsOutput flags input text) × (length text < length b.output)
+
+-- The first lines of the input were done, and the text is what they print, and then a last text. P says how the run ended there, as in `run`.
+abbrev pub DidLinesOf : Flags → Text → Text → (Option Text → Phase → ℕ → List Line → Text → Type 0) → Type 0
+DidLinesOf flags input text P = (has : Option Text) × DidLines flags (Some input) has (Some []) (Some text) (P has)
+
+-- memory ran out in a group or in the journal, or as the end was printed
+abbrev pub RanOut : Flags → Text → Text → Type 0
+RanOut flags input text = DidLinesOf flags input text (RunsOutOfMemory flags)
+
+-- a write failed, in what a line or the end prints
+abbrev pub StoppedIn : Flags → Text → Text → Type 0
+StoppedIn flags input text = DidLinesOf flags input text (FailsToWrite flags)
+
+-- A run over the whole input that wrote this text ended so.
+abbrev pub Ran : Flags → Text → Text → Result Status RunFault → Type 0
+Ran flags input text (Ok status) = IsOutputOf flags input text (Ended status) × PrintsStanding flags true input text status
+Ran flags input text (Err InputTooLong) = IsOutputOf flags input text TooLong
+Ran flags input text (Err OutOfMemory) = BeginsOutput flags input text × RanOut flags input text
+Ran flags input text (Err ReadFault) = BeginsOutput flags input text
+Ran flags input text (Err WriteFault) = BeginsOutput flags input text × StoppedIn flags input text
+
+-- The text is what the program prints for the whole input, and the headline holds of it. Out of memory, it begins such a text: nothing, or what was printed until memory ran out as it may in the program. Where the output is full, what is printed is longer. No reading fails.
 abbrev pub IsPrinted : Flags → Text → Text → Result Status RunFault → Type 0
 IsPrinted flags input text (Ok status) = IsOutputOf flags input text (Ended status) × PrintsStanding flags true input text status
 IsPrinted flags input text (Err InputTooLong) = IsOutputOf flags input text TooLong
-IsPrinted flags input text (Err OutOfMemory) = BeginsOutput flags input text
-IsPrinted flags input text (Err ReadFault) = BeginsOutput flags input text
-IsPrinted flags input text (Err WriteFault) = BeginsOutput flags input text
+IsPrinted flags input text (Err OutOfMemory) = BeginsOutput flags input text × ((text ≡ []) ⊎ RanOut flags input text)
+IsPrinted flags input text (Err ReadFault) = ⊥
+IsPrinted flags input text (Err WriteFault) = BeginsLonger flags input text
+
+-- The same of a text that grows as far as memory goes: it is never full, and memory may also run out for what a line or the end prints.
+abbrev pub IsGrown : Flags → Text → Text → Result Status RunFault → Type 0
+IsGrown flags input text (Ok status) = IsOutputOf flags input text (Ended status) × PrintsStanding flags true input text status
+IsGrown flags input text (Err InputTooLong) = IsOutputOf flags input text TooLong
+IsGrown flags input text (Err OutOfMemory) = BeginsOutput flags input text × ((text ≡ []) ⊎ RanOut flags input text ⊎ StoppedIn flags input text)
+IsGrown flags input text (Err ReadFault) = ⊥
+IsGrown flags input text (Err WriteFault) = ⊥
 
 -- the exit status, or the number of the fault
 abbrev pub number_of : Result Status RunFault → ℕ
@@ -46,12 +76,11 @@ pub record Fills (flags : Flags) (input old new : Text) (written : ℕ) (answer 
   pub is_full : ended ≡ Err WriteFault → written ≡ length old
   pub is_number : answer ≡ pos (number_of ended)
 
--- a run that ended so printed a text of this size, and no write of it failed
+-- a run that ended so printed a text of this size
 pub record HasSize (flags : Flags) (input : Text) (size : ℕ) (ended : Result Status RunFault) : Type 0 where
   pub text : Text
-  pub is_printed : IsPrinted flags input text ended
+  pub is_printed : IsGrown flags input text ended
   pub is_size : size ≡ length text
-  pub is_whole : ended ≡ Err WriteFault → ⊥
 
 -- the size of what a run prints, and how that run ended
 pub record Measures (flags : Flags) (input : Text) (size : ℕ) (answer : ℤ) : Type 0 where

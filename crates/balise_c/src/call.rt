@@ -1,7 +1,7 @@
 //! A run over bytes in memory.
 
 ghost use Rattle.std.specs.Prelude.{◌≡◌, ◌≤◌, [], length, take, drop, IsErrOf};
-ghost use Rattle.balise_c.specs.Outcome.{HasSize, IsPrinted};
+ghost use Rattle.balise_c.specs.Outcome.{HasSize, IsPrinted, Ran};
 
 use crate::copying::copy_front;
 use crate::output_text::OutputText;
@@ -16,7 +16,7 @@ fn run_into(
     writer: &mut Counted<OutputText>,
 ) -> Result<Status, RunFault>
     requires { writer.old.inner.bytes.items ≡ [] }
-    ensures { IsPrinted flags input.now writer.new.inner.bytes.items result }
+    ensures { Ran flags input.now writer.new.inner.bytes.items result }
 {
     let mut reader = Counted::new(input);
     run(alloc, &mut reader, writer, flags)
@@ -36,27 +36,29 @@ pub(crate) fn fill(
     ensures full { IsErrOf result RunFault.WriteFault → written.new ≡ length output.old }
 {
     *written = 0;
-    let Ok(text) = OutputText::with_room(alloc, output.len()) else {
+    // A text that fills the one byte more is longer than the output.
+    let Ok(text) = OutputText::with_room(alloc, output.len() + 1) else {
         return Err(RunFault::OutOfMemory);
     };
     let mut writer = Counted::new(text);
     let ended = run_into(alloc, input, flags, &mut writer);
     let text = writer.inner().bytes();
-    let count = copy_front(text, output);
-    *written = count;
-    // No contract says how much room the writer has after the run, so this is looked at again.
-    if count < text.len() {
+    if text.len() > output.len() {
+        *written = copy_front(text, output);
         return Err(RunFault::WriteFault);
     }
     match ended {
-        // There was room left, so the write ran out of memory.
-        Err(RunFault::WriteFault) if count < output.len() => Err(RunFault::OutOfMemory),
-        ended => ended,
+        // Neither comes: there was room left, and reading bytes doesn't fail. But the contract of `run` is of any reader
+        // and writer. Nothing is written then.
+        Err(RunFault::ReadFault | RunFault::WriteFault) => Err(RunFault::OutOfMemory),
+        ended => {
+            *written = copy_front(text, output);
+            ended
+        }
     }
 }
 
 /// Runs, and counts what was printed. Here a write fails only where memory runs out.
-#[tactic(auto, using(crate::proofs::Texts::sized))]
 pub(crate) fn measure(
     alloc: Global,
     input: &[u8],
@@ -70,6 +72,11 @@ pub(crate) fn measure(
     *size = writer.inner().bytes().len();
     match ended {
         Err(RunFault::WriteFault) => Err(RunFault::OutOfMemory),
+        // It never comes, as above.
+        Err(RunFault::ReadFault) => {
+            *size = 0;
+            Err(RunFault::OutOfMemory)
+        }
         ended => ended,
     }
 }

@@ -1,7 +1,7 @@
 //! The program as calls over memory, for C and all that can call C.
 #![tactic(auto)]
 
-ghost use Rattle.std.specs.Prelude.{◌≡◌, ◌<◌, ◌≤◌, pos};
+ghost use Rattle.std.specs.Prelude.{◌≡◌, ◌≢◌, ◌<◌, ◌≤◌, pos};
 ghost use Rattle.balise_c.specs.FlagBits.{flags_of};
 ghost use Rattle.balise_c.specs.Outcome.{Fills, Measures};
 
@@ -35,8 +35,8 @@ pub extern "C" fn baliseplan_abi() -> u32
     ABI
 }
 
-/// Does what the program does, from memory to memory. Answers the exit status 0, 1 or 2, or a fault's number 29 to 32;
-/// then only a beginning of an output may be written. 32: the output is too small.
+/// Does what the program does, from memory to memory. Answers the exit status 0, 1 or 2, or a fault's number 29, 30 or
+/// 32; then only a beginning of an output may be written. 32: the output is too small.
 ///
 /// Flags are a sum of 1 quiet, 2 stop, 4 journal and 8 JSON. With any other bit it answers 64 and writes nothing.
 #[unsafe(no_mangle)]
@@ -48,6 +48,7 @@ pub extern "C" fn baliseplan_run(
     written: &mut usize,
 ) -> i32
     ensures known { flags < 16 → Fills (flags_of flags) input.now output.old output.new written.new result }
+    ensures never { result ≢ pos 31 }
     ensures other { 16 ≤ flags → (result ≡ pos 64) × (written.new ≡ 0) × (output.new ≡ output.old) }
 {
     if flags >= FIRST_UNKNOWN {
@@ -63,6 +64,7 @@ pub extern "C" fn baliseplan_run(
 #[unsafe(no_mangle)]
 pub extern "C" fn baliseplan_size(alloc: Global, input: &[u8], flags: u32, size: &mut usize) -> i32
     ensures known { flags < 16 → Measures (flags_of flags) input.now size.new result }
+    ensures never { (result ≢ pos 31) × (result ≢ pos 32) }
     ensures other { 16 ≤ flags → (result ≡ pos 64) × (size.new ≡ 0) }
 {
     if flags >= FIRST_UNKNOWN {

@@ -1,6 +1,6 @@
 -- What a command is answered, from what its session answers.
-use Rattle.std.proofs.Common.{◌≡◌, ◌≢◌, ◌⊎◌, ◌∙◌, inl, inr, ◌<◌, ◌≤◌, List, [], Bool, true, false, ◌&&◌, ◌||◌, IsTrue, IfErr, cond, nat_le, nat_lt, Option, Some, None, Result, Ok, Err, option_map, refl, sym, ap}
-use Rattle.std.proofs.lemmas.Bool.{cases_lt, le-leb, lt-ltb, true≢false}
+use Rattle.std.proofs.Common.{◌≡◌, ◌≢◌, ◌⊎◌, ◌∙◌, inl, inr, ◌<◌, ◌≤◌, List, [], true, false, IfErr, cond, nat_le, Option, Some, None, Result, Ok, Err, option_map, refl, sym, ap, subst}
+use Rattle.std.proofs.lemmas.Bool.{cases_lt, le-leb, true≢false}
 use Rattle.balise_rules.specs.declared.identity.Id.{Id}
 use Rattle.balise_rules.specs.declared.refusal.Refusal.{Refusal}
 use Rattle.balise_rules.specs.declared.refusal.Refusal.TheVariants.{OutOfMemory, Worn}
@@ -9,14 +9,14 @@ use Rattle.balise_rules.specs.declared.tag.Tag.{Tag}
 use Rattle.balise_rules.specs.Addresses.{AskSet, AskSetHead, AskInsert, AskDelete, AskMove, AskAdd, AskDrop, AskRenumber, AskTurn}
 use Rattle.balise_rules.specs.Plan.{Group, Plan}
 use Rattle.balise_rules.specs.Review.{review}
-use Rattle.balise_rules.specs.Session.{State, Call, Ask, Undo, Redo, Strike, Reply, Refused, answer_in_time, most_commands, takes_memory}
+use Rattle.balise_rules.specs.Session.{State, Call, Ask, Undo, Redo, Strike, Reply, Refused, answer_in_time, most_commands}
 use Rattle.balise_rules.proofs.Cases.{unsome}
 use Rattle.balise_text.specs.Checks.{checked}
 use Rattle.balise_text.specs.Commands.{call_of, reads_digits}
 use Rattle.balise_text.specs.declared.request.Request.{Request}
 use Rattle.balise_text.specs.Answers.{reply_of}
 use Rattle.balise_text.specs.Texts.{Text}
-use Rattle.balise_cli.specs.Output.{MayAnswer, answer_line, does_take_memory, group_review, may_run_out, reviewed}
+use Rattle.balise_cli.specs.Output.{MayAnswer, MayRunOut, TakesMemory, answer_line, group_review, reviewed}
 use Rattle.balise_cli.specs.Private.{DidAnswer, DidDo, IsRefused, TurnsWith, at_limit, turned_by}
 use Rattle.balise_cli.specs.declared.answers.Answer.{Answer}
 
@@ -25,15 +25,9 @@ pub group_reviewed : (o : Option (Tag × Group)) (g : Tag) (plan : Plan) → opt
 group_reviewed None g plan h = absurd cc
 group_reviewed (Some z) g plan h = ap (λ (t : Tag). review t plan) (sym (unsome h))
 
-or_true : (b : Bool) → (b || true) ≡ true
-or_true true = refl
-or_true false = refl
-
 -- a command that takes memory to be done
-done_out : (line : Text) (s : State) (c : Call) → call_of line ≡ Ok c → IsTrue (takes_memory c s) → s.count < most_commands → may_run_out line s ≡ true
-done_out line s c h takes time =
-    ap (λ b. b && (reads_digits line || does_take_memory (call_of line) s)) (lt-ltb s.count most_commands time)
-    ∙ ap (λ (x : Result Call Refusal). reads_digits line || does_take_memory x s) h ∙ ap (λ b. reads_digits line || b) takes ∙ or_true (reads_digits line)
+done_out : (line : Text) (s : State) (c : Call) → call_of line ≡ Ok c → TakesMemory (Ok c) s → s.count < most_commands → MayRunOut line s
+done_out line s c h takes time = (time, inr (subst (λ (x : Result Call Refusal). TakesMemory x s) (sym h) takes))
 
 -- the line of a command that was read
 pub line_answered : (line : Text) (s t : State) (r : Reply) (c : Call) → call_of line ≡ Ok c → DidDo c s r t → MayAnswer true line s r t
@@ -98,11 +92,11 @@ pub refused_answered : (line : Text) (s : State) (r : Refusal) (ls : List Review
 refused_answered line s r ls may none = (may, none ∙ none_reviewed (call_of line) r s)
 
 -- below the limit
-before_limit : (s : State) → nat_le most_commands s.count ≡ false → nat_lt s.count most_commands ≡ true
+before_limit : (s : State) → nat_le most_commands s.count ≡ false → s.count < most_commands
 before_limit s h = by (cases_lt s.count most_commands)
   where
-    by : (s.count < most_commands) ⊎ (most_commands ≤ s.count) → nat_lt s.count most_commands ≡ true
-    by (inl time) = lt-ltb s.count most_commands time
+    by : (s.count < most_commands) ⊎ (most_commands ≤ s.count) → s.count < most_commands
+    by (inl time) = time
     by (inr worn) = absurd (true≢false (sym (le-leb most_commands s.count worn) ∙ h))
 
 pub read_refused : (line : Text) (s : State) (q : Result Request Refusal) → nat_le most_commands s.count ≡ false → IfErr q (λ e. e ≢ OutOfMemory → call_of line ≡ Err e) → IfErr q (λ e. e ≡ OutOfMemory → reads_digits line ≡ true)
@@ -111,9 +105,7 @@ read_refused line s (Ok x) time fault memory = tt
 read_refused line s (Err r) time fault memory = by (wanted_or r)
   where
     by : (r ≡ OutOfMemory) ⊎ (r ≢ OutOfMemory) → IsRefused line s r
-    by (inl e) =
-        let out : may_run_out line s ≡ true = ap (λ b. b && (reads_digits line || does_take_memory (call_of line) s)) (before_limit s time) ∙ ap (λ b. b || does_take_memory (call_of line) s) (memory e) in
-        inr (refl, out, ap Refused e, refl)
+    by (inl e) = inr (refl, (before_limit s time, inl (memory e)), ap Refused e, refl)
     by (inr n) = inl (sym (ap (λ (x : Result Call Refusal). answer_line x s) (fault n)))
 
 -- at the limit

@@ -1,5 +1,5 @@
 -- How a run goes on after a line that was read, and how it ends.
-use Rattle.std.proofs.Common.{◌≡◌, ℕ, [], Bool, true, false, Option, Some, None, Result, Ok, Err, refl, sym, ap, subst, ◌∙◌}
+use Rattle.std.proofs.Common.{◌≡◌, ◌≢◌, ℕ, [], Bool, true, false, Option, Some, None, Result, Ok, Err, refl, sym, ap, subst, ◌∙◌}
 use Rattle.std.specs.Prelude.{IfErr, IfOk, IsErrOf, OnErr, OnOk}
 use Rattle.std.specs.Io.KnownBytes.{Appends, IsAtEnd, Keeps}
 use Rattle.std.proofs.KnownBytes.{Appends-nil}
@@ -8,7 +8,7 @@ use Rattle.balise_rules.specs.Session.{State}
 use Rattle.balise_lines.specs.Counts.{one_more}
 use Rattle.balise_lines.specs.Lines.{HasNoEnd, Line}
 use Rattle.balise_lines.specs.Reading.{LongNext, OverAtEnd, TookLine, TookNone, ahead, is_over, left, number_of, place_of}
-use Rattle.balise_lines.specs.Writing.{AppendsSome}
+use Rattle.balise_lines.specs.Writing.{AppendsPart, AppendsSome, Leaves}
 use Rattle.balise_lines.specs.declared.counted.Counted.{Counted}
 use Rattle.balise_lines.specs.declared.lines.Lines.{Lines}
 use Rattle.balise_lines.proofs.HeldBytes.{ahead_few}
@@ -17,19 +17,19 @@ use Rattle.balise_lines.proofs.WrittenTexts.{some_nothing}
 use Rattle.balise_arguments.specs.declared.options.Flags.{Flags}
 use Rattle.balise_text.specs.Replies.{bad_line}
 use Rattle.balise_text.specs.Texts.{Text}
-use Rattle.balise_cli.specs.Ends.{ComesToEnd, DidLines, NoneComplete, RunsOutOfMemory, WritesOutput, WritesSome}
-use Rattle.balise_cli.specs.Faults.{IsCause, IsFault, Prints}
+use Rattle.balise_cli.specs.Ends.{ComesToEnd, DidLines, FailsToWrite, NoneComplete, RunsOutOfMemory, WritesBeginning, WritesOutput, WritesSome}
+use Rattle.balise_cli.specs.Faults.{IsCause, IsFault, Prints, reason_of}
 use Rattle.balise_cli.specs.Output.{Bad, Commands, Ended, Good, Header, IsStep, Over, Phase, Read, TooLong, after_read, at_end, read_line}
 use Rattle.balise_cli.specs.PlanTexts.{end_text}
-use Rattle.balise_cli.specs.Phases.{DidSome, DidStep, WrittenOfEnd, WrittenOfLine, WroteSuch, last_text}
+use Rattle.balise_cli.specs.Phases.{DidPart, DidSome, DidStep, WrittenOfEnd, WrittenOfLine, WroteSuch, last_text}
 use Rattle.balise_cli.specs.Progress.{HasCome, IsReadAs, IsRefused, Ran, RanToEnd, RanToFault}
 use Rattle.balise_cli.specs.Statuses.{status_of}
 use Rattle.balise_cli.specs.declared.fault.RunFault.{RunFault}
 use Rattle.balise_cli.specs.declared.fault.RunFault.TheVariants.{InputTooLong, OutOfMemory, ReadFault, WriteFault}
 use Rattle.balise_cli.specs.declared.status.Status.{Status}
 use Rattle.balise_cli.specs.declared.status.Status.TheVariants.{BadInput}
-use Rattle.balise_cli.proofs.LineByLine.{TookIt, begins, ended, fault_before, fault_ending, fault_in, over_at, stepped, too_long}
-use Rattle.balise_cli.proofs.LinesRead.{end_ran_out, input_ended, line_ended, line_ran_out, reader_failed}
+use Rattle.balise_cli.proofs.LineByLine.{TookIt, begins, begun_before, begun_ending, begun_in, ended, fault_before, fault_ending, fault_in, over_at, stepped, too_long}
+use Rattle.balise_cli.proofs.LinesRead.{end_ran_out, end_unwritten, input_ended, line_ended, line_ran_out, line_unwritten, reader_failed}
 use Rattle.balise_cli.proofs.OneLine.{IsReading, none_read, read_step}
 
 taken : (l m : Lines) (had has : Option Text) (line : Line) → TookLine l had line m has → TookIt (left l had) (left m has) (is_over m) (place_of l) line
@@ -53,6 +53,13 @@ not_read written writes OutOfMemory w h = absurd cc
 not_read written writes WriteFault w h = absurd cc
 not_read written writes InputTooLong w h = absurd w
 not_read written writes ReadFault w h = absurd w
+
+-- a fault is one
+not_both : {A : Type 0} (e : RunFault) → e ≡ OutOfMemory → e ≡ WriteFault → A
+not_both OutOfMemory is h = absurd cc
+not_both InputTooLong is h = absurd cc
+not_both ReadFault is h = absurd cc
+not_both WriteFault is h = absurd cc
 
 out_of_memory : (writes : ℕ) (e : RunFault) → e ≡ OutOfMemory → IsCause writes writes e
 out_of_memory writes e is = subst (IsCause writes writes) (sym is) refl
@@ -79,19 +86,21 @@ module _ (flags : Flags) (had old now : Option Text) (p : Phase) (l m : Lines) (
       unwritten = w;
     }
 
-    pub line_fails : (new : Option Text) (e : RunFault) (read reads written writes : ℕ) → DidSome flags p (number_of l) line.bytes now new → (e ≡ OutOfMemory → WroteSuch (WrittenOfLine flags p (number_of l) line.bytes) now new)
-        → reads ≡ read → IsCause written writes e → RanToFault flags had has old new read reads written writes e
-    line_fails new e read reads written writes did wants r w = record {
+    pub line_fails : (new : Option Text) (e : RunFault) (read reads written writes : ℕ) → DidSome flags p (number_of l) line.bytes now new → (e ≡ WriteFault → DidPart flags p (number_of l) line.bytes now new)
+        → (e ≡ OutOfMemory → WroteSuch (WrittenOfLine flags p (number_of l) line.bytes) now new) → reads ≡ read → IsCause written writes e → RanToFault flags had has old new read reads written writes e
+    line_fails new e read reads written writes did part wants r w = record {
       some = fault_in flags had (left l before) has old now new (ahead m) (is_over l) (is_over m) p (number_of l) (place_of l) line took.before it end did go;
       counts = counted read reads written writes e r w;
       long = not_long written writes e w;
-      memory = λ h. line_ran_out flags had (left l before) has old now new (ahead m) (is_over l) (is_over m) p (number_of l) (place_of l) line took.before it end (wants h) go;
+      memory = λ h. line_ran_out flags had (left l before) has old now new (ahead m) (is_over l) (is_over m) p (number_of l) (place_of l) line took.before it (ahead_few m) end (wants h) go;
       complete = not_read written writes e w;
+      full = λ h. line_unwritten flags had (left l before) has old now new (ahead m) (is_over l) (is_over m) p (number_of l) (place_of l) line took.before it (ahead_few m) end (part h) go;
+      begun = begun_in flags had (left l before) (left m has) old now new (is_over l) (is_over m) p (number_of l) (place_of l) line took.before it end did go;
     }
 
     -- It is a line of the plan or the journal.
     pub line_out : IsReading p → (e : RunFault) → e ≡ OutOfMemory → WroteSuch (WrittenOfLine flags p (number_of l) line.bytes) now now → (read reads writes : ℕ) → reads ≡ read → RanToFault flags had has old now read reads writes writes e
-    line_out h e is wrote read reads writes r = line_fails now e read reads writes writes (none_read flags p (number_of l) line.bytes now h) (λ _. wrote) r (out_of_memory writes e is)
+    line_out h e is wrote read reads writes r = line_fails now e read reads writes writes (none_read flags p (number_of l) line.bytes now h) (not_both e is) (λ _. wrote) r (out_of_memory writes e is)
 
     pub line_read : IsReading p → (rd : Read) → read_line p (number_of l) line.bytes ≡ rd → IsReadAs flags had old m has now rd
     line_read h (Good q) e = went_on now q ([], (subst (λ (r : Read). IsStep flags true p (number_of l) line.bytes [] (after_read r)) e (read_step flags p (number_of l) line.bytes h), Appends-nil now))
@@ -100,6 +109,8 @@ module _ (flags : Flags) (had old now : Option Text) (p : Phase) (l m : Lines) (
           output = λ new w. over_at flags had (left l before) (left m has) old now new (is_over l) (is_over m) p p (number_of l) (place_of l) line BadInput took.before it end ([], (bad_line k r, (is, w))) go;
           lines = λ new w. line_ended flags had (left l before) has old now new (ahead m) (is_over l) (is_over m) p p (number_of l) (place_of l) line BadInput took.before it (ahead_few m) end ([], (bad_line k r, (is, w))) go;
           some = λ new w. fault_in flags had (left l before) has old now new (ahead m) (is_over l) (is_over m) p (number_of l) (place_of l) line took.before it end ([], (Over (bad_line k r) BadInput, (is, w))) go;
+          full = λ new w. line_unwritten flags had (left l before) has old now new (ahead m) (is_over l) (is_over m) p (number_of l) (place_of l) line took.before it (ahead_few m) end ([], (Over (bad_line k r) BadInput, (is, w))) go;
+          begun = λ new w. begun_in flags had (left l before) (left m has) old now new (is_over l) (is_over m) p (number_of l) (place_of l) line took.before it end ([], (Over (bad_line k r) BadInput, (is, w))) go;
         }
 
   -- The input ended.
@@ -116,24 +127,28 @@ module _ (flags : Flags) (had old now : Option Text) (p : Phase) (l m : Lines) (
       unwritten = w;
     }
 
-    pub end_fails : (new : Option Text) (e : RunFault) (read reads written writes : ℕ) → AppendsSome now new (last_text (at_end flags p (number_of l))) → (e ≡ OutOfMemory → WroteSuch (WrittenOfEnd flags p) now new)
-        → reads ≡ read → IsCause written writes e → RanToFault flags had has old new read reads written writes e
-    end_fails new e read reads written writes some wants r w = record {
+    pub end_fails : (new : Option Text) (e : RunFault) (read reads written writes : ℕ) → (some : AppendsSome now new (last_text (at_end flags p (number_of l)))) → (e ≡ WriteFault → some.begins.0 ≢ [])
+        → (e ≡ OutOfMemory → WroteSuch (WrittenOfEnd flags p) now new) → reads ≡ read → IsCause written writes e → RanToFault flags had has old new read reads written writes e
+    end_fails new e read reads written writes some part wants r w = record {
       some = fault_ending flags had (left l before) has old now new (ahead m) (is_over l) p (number_of l) (place_of l) took.kept took.at_end some go;
       counts = counted read reads written writes e r w;
       long = not_long written writes e w;
       memory = λ h. end_ran_out flags had (left l before) has old now new (ahead m) (is_over l) p (number_of l) (place_of l) took.kept took.at_end gone (wants h) go;
       complete = not_read written writes e w;
+      full = λ h. end_unwritten flags had (left l before) has old now new (ahead m) (is_over l) p (number_of l) (place_of l) took.kept took.at_end gone (some, part h) go;
+      begun = begun_ending flags had (left l before) old now new (is_over l) p (number_of l) (place_of l) took.at_end some go;
     }
 
     pub end_out : (e : RunFault) → e ≡ OutOfMemory → WroteSuch (WrittenOfEnd flags p) now now → (read reads writes : ℕ) → reads ≡ read → RanToFault flags had has old now read reads writes writes e
-    end_out e is wrote read reads writes r = end_fails now e read reads writes writes (some_nothing now (last_text (at_end flags p (number_of l)))) (λ _. wrote) r (out_of_memory writes e is)
+    end_out e is wrote read reads writes r = end_fails now e read reads writes writes (some_nothing now (last_text (at_end flags p (number_of l)))) (not_both e is) (λ _. wrote) r (out_of_memory writes e is)
 
     pub end_refused : (k : ℕ) (r : Refusal) → at_end flags p (number_of l) ≡ after_read (Bad k r) → IsRefused flags had has old now k r
     end_refused k r e = record {
       output = λ new w. ended flags had (left l before) old now new (is_over l) p (number_of l) (place_of l) BadInput took.at_end (bad_line k r, (e, w)) go;
       lines = λ new w. input_ended flags had (left l before) has old now new (ahead m) (is_over l) p (number_of l) (place_of l) BadInput took.kept took.at_end gone (bad_line k r, (e, w)) go;
       some = λ new w. fault_ending flags had (left l before) has old now new (ahead m) (is_over l) p (number_of l) (place_of l) took.kept took.at_end (subst (λ x. AppendsSome now new (last_text x)) (sym e) w) go;
+      full = λ new w. end_unwritten flags had (left l before) has old now new (ahead m) (is_over l) p (number_of l) (place_of l) took.kept took.at_end gone (subst (λ x. AppendsPart now new (last_text x)) (sym e) w) go;
+      begun = λ new w. begun_ending flags had (left l before) old now new (is_over l) p (number_of l) (place_of l) took.at_end (subst (λ x. AppendsSome now new (last_text x)) (sym e) w) go;
     }
 
   -- No line was taken.
@@ -145,6 +160,8 @@ module _ (flags : Flags) (had old now : Option Text) (p : Phase) (l m : Lines) (
       long = λ _. too_long flags had (left l before) old now (is_over l) p (number_of l) (place_of l) next first go;
       memory = λ e. absurd cc;
       complete = λ e. absurd cc;
+      full = λ e. absurd cc;
+      begun = begun_before flags had (left l before) old now (is_over l) p (number_of l) (place_of l) end go;
     }
 
     pub failed_ahead : (read reads writes : ℕ) → HasNoEnd (ahead m) → reads ≡ one_more read → RanToFault flags had has old now read reads writes writes ReadFault
@@ -154,6 +171,8 @@ module _ (flags : Flags) (had old now : Option Text) (p : Phase) (l m : Lines) (
       long = λ e. absurd cc;
       memory = λ e. absurd cc;
       complete = λ _. reader_failed flags had (left l before) has old now (ahead m) (is_over l) p (number_of l) (place_of l) kept end short go;
+      full = λ e. absurd cc;
+      begun = begun_before flags had (left l before) old now (is_over l) p (number_of l) (place_of l) end go;
     }
 
 -- the line for what is refused was written, or a call of the writer failed
@@ -172,6 +191,8 @@ refused_ran contents flags had has old writer writers k q read reads (Err e) is 
   long = not_long writer.failed writers.failed e p.cause;
   memory = λ h. let same : WriteFault ≡ OutOfMemory = sym err ∙ h in absurd cc;
   complete = not_read writer.failed writers.failed e p.cause;
+  full = λ h. is.full (contents writers.inner) (p.begun, subst (λ f. Leaves (reason_of f) p.begun.begins.0) h p.left);
+  begun = is.begun (contents writers.inner) p.begun;
 }
 
 -- the end of the commands was printed, or a beginning of it
@@ -181,7 +202,7 @@ pub commands_ended : {W : Type 0} (contents : W → Option Text) (flags : Flags)
 commands_ended contents flags had old s refused l m before has writer writers (Ok status) go took end read reads written r w ok p =
     end_over flags had old (contents writer.inner) (Commands s refused) l m before has go took end (contents writers.inner) status (end_text flags s) read reads written writers.failed (ap (Over (end_text flags s)) (sym ok)) p.appended r (p.unfailed ∙ w)
 commands_ended contents flags had old s refused l m before has writer writers (Err e) go took end read reads written r w ok p =
-    end_fails flags had old (contents writer.inner) (Commands s refused) l m before has go took end (contents writers.inner) e read reads written writers.failed p.begun (λ h. (p.begun.done, (p.begun.begins, p.begun.appended))) r
+    end_fails flags had old (contents writer.inner) (Commands s refused) l m before has go took end (contents writers.inner) e read reads written writers.failed p.begun (λ h. subst (λ f. Leaves (reason_of f) p.begun.begins.0) h p.left) (λ h. (p.begun.done, ((p.begun.begins.0, (p.begun.begins.1, subst (λ f. Leaves (reason_of f) p.begun.begins.0) h p.left)), p.begun.appended))) r
     (subst (λ (k : ℕ). IsCause k writers.failed e) w p.cause)
 
 -- a run has come to its first line
@@ -225,3 +246,11 @@ module _ (flags : Flags) (had has old new : Option Text) (read reads written wri
   pub ran_complete : (result : Result Status RunFault) → Ran flags had has old new read reads written writes result → IsErrOf result ReadFault → DidLines flags had has old new NoneComplete
   ran_complete (Ok status) ran h = absurd cc
   ran_complete (Err e) ran h = ran.complete cc
+
+  pub ran_full : (result : Result Status RunFault) → Ran flags had has old new read reads written writes result → IsErrOf result WriteFault → DidLines flags had has old new (FailsToWrite flags has)
+  ran_full (Ok status) ran h = absurd cc
+  ran_full (Err e) ran h = ran.full cc
+
+  pub ran_begun : (result : Result Status RunFault) → Ran flags had has old new read reads written writes result → OnErr result (WritesBeginning flags had old new)
+  ran_begun (Ok status) ran = tt
+  ran_begun (Err e) ran = ran.begun

@@ -6,7 +6,7 @@ use Rattle.balise_lines.specs.Counts.{Counts}
 use Rattle.balise_lines.specs.Lines.{Line}
 use Rattle.balise_arguments.specs.declared.options.Flags.{Flags}
 use Rattle.balise_text.specs.Texts.{Text}
-use Rattle.balise_cli.specs.Ends.{DidLines, WritesOutput, WritesSome, WritesStanding}
+use Rattle.balise_cli.specs.Ends.{DidLines, WritesBeginning, WritesOutput, WritesSome, WritesStanding}
 use Rattle.balise_cli.specs.Output.{Ending, Phase}
 use Rattle.balise_cli.specs.Program.{Runs, count_after}
 use Rattle.balise_cli.specs.declared.fault.RunFault.{RunFault}
@@ -28,6 +28,20 @@ output_kept flags had old mid new e k w = record {
   out = w.out;
   is_output = w.is_output;
   appended = Appends-kept old mid new w.out w.appended k;
+}
+
+begun_kept : (flags : Flags) (had old mid new : Option Text) → Keeps mid new → WritesBeginning flags had old mid → WritesBeginning flags had old new
+begun_kept flags had old mid new k w = record {
+  input = w.input;
+  is_input = w.is_input;
+  out = w.out;
+  e = w.e;
+  is_output = w.is_output;
+  written = record {
+    done = w.written.done;
+    begins = w.written.begins;
+    appended = Appends-kept old mid new w.written.done w.written.appended k;
+  };
 }
 
 some_kept : (flags : Flags) (had has old mid new : Option Text) → Keeps mid new → WritesSome flags had has old mid → WritesSome flags had has old new
@@ -67,6 +81,8 @@ runs_kept flags had has old mid new (Ok status) k w = record {
   long = λ e. output_kept flags had old mid new _ k (w.long e);
   memory = λ e. lines_kept flags had has old mid new _ k (w.memory e);
   complete = λ e. lines_kept flags had has old mid new _ k (w.complete e);
+  full = λ e. lines_kept flags had has old mid new _ k (w.full e);
+  begun = tt;
   some = tt;
 }
 runs_kept flags had has old mid new (Err fault) k w = record {
@@ -76,6 +92,8 @@ runs_kept flags had has old mid new (Err fault) k w = record {
   long = λ e. output_kept flags had old mid new _ k (w.long e);
   memory = λ e. lines_kept flags had has old mid new _ k (w.memory e);
   complete = λ e. lines_kept flags had has old mid new _ k (w.complete e);
+  full = λ e. lines_kept flags had has old mid new _ k (w.full e);
+  begun = begun_kept flags had old mid new k w.begun;
   some = some_kept flags had has old mid new k w.some;
 }
 

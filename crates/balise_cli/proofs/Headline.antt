@@ -1,5 +1,5 @@
 -- What a whole run prints: from the plan's first line on, each session is one of which all is promised.
-use Rattle.std.proofs.Common.{◌≡◌, ◌⊎◌, ◌∙◌, inl, inr, ℕ, ◌+◌, ◌≤◌, ◌<◌, Bool, true, false, cond, ◌&&◌, ◌||◌, IsTrue, List, [], ◌∷◌, ◌++◌, length, is_some, Option, Some, None, Result, Ok, Err, refl, sym, ap, subst, append_assoc, append-nil, arith, length-append}
+use Rattle.std.proofs.Common.{◌≡◌, ◌⊎◌, ◌∙◌, inl, inr, ℕ, ◌+◌, ◌≤◌, ◌<◌, Bool, true, false, cond, ◌&&◌, ◌||◌, List, [], ◌∷◌, ◌++◌, length, is_some, Option, Some, None, Result, Ok, Err, refl, sym, ap, subst, append_assoc, append-nil, arith, length-append}
 use Rattle.std.specs.Prelude.{IfOk}
 use Rattle.std.specs.List.{list_any}
 use Rattle.balise_rules.specs.declared.refusal.Refusal.{Refusal}
@@ -30,7 +30,7 @@ use Rattle.balise_text.specs.declared.plan_line.PlanLine.{PlanLine}
 use Rattle.balise_text.specs.declared.plan_line.PlanLine.TheVariants.{FirstLine, GroupLine, EditsLine, JournalLine as HeadLine, Empty, TelegramLine}
 use Rattle.balise_cli.specs.Ends.{WritesOutput, WritesStanding}
 use Rattle.balise_cli.specs.Laws.{Answered, GoesOn, KeepsPromises, Opens, PrintsAll, PrintsBad, PrintsHeld, PrintsStandingEdits, RefusedOr, Refuses}
-use Rattle.balise_cli.specs.Output.{Phase, Header, Between, InGroup, InJournal, Commands, Read, Good, Bad, Next, On, Over, Ended, Follows, IsOutput, IsStep, MayAnswer, after_command, after_read, answer_line, at_end, between, closed, closed_as, first_line, if_fits, in_group, in_journal, journal_begun, one_more, read_line, reply_text, reviewed, may_run_out}
+use Rattle.balise_cli.specs.Output.{Phase, Header, Between, InGroup, InJournal, Commands, Read, Good, Bad, Next, On, Over, Ended, Follows, IsOutput, IsStep, MayAnswer, after_command, after_read, answer_line, at_end, between, closed, closed_as, first_line, if_fits, in_group, in_journal, journal_begun, one_more, read_line, reply_text, reviewed, MayRunOut}
 use Rattle.balise_cli.specs.PlanRead.{WasRead, with_line}
 use Rattle.balise_cli.specs.PlanTexts.{end_text}
 use Rattle.balise_cli.specs.Statuses.{status_of}
@@ -151,7 +151,7 @@ answer_kept scarce line s t r h may = by (call_of line) may
     same : t ≡ s → IsSession t × (t.base ≡ s.base)
     same e = (subst IsSession (sym e) h, ap (λ (u : State). u.base) e)
 
-    by : (c : Result Call Refusal) → (◌≡◌ {A = Reply × State} (r, t) (answer_line c s)) ⊎ ((scarce ≡ true) × IsTrue (may_run_out line s) × (r ≡ Refused OutOfMemory) × (t ≡ s)) → IsSession t × (t.base ≡ s.base)
+    by : (c : Result Call Refusal) → (◌≡◌ {A = Reply × State} (r, t) (answer_line c s)) ⊎ ((scarce ≡ true) × MayRunOut line s × (r ≡ Refused OutOfMemory) × (t ≡ s)) → IsSession t × (t.base ≡ s.base)
     by (Err f) (inl e) = same (ap (λ (a : Reply × State). a.1) e)
     by (Ok c) (inl e) = sessions_kept c r s t h (inl e)
     by c (inr w) = same w.3

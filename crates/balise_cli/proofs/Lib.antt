@@ -12,9 +12,11 @@ pub mod LineByLine
 pub mod LinesRead
 pub mod Endings
 pub mod SmallTags
+pub mod Stopped
 pub mod Printables
 pub mod JournalTexts
 pub mod Headline
 pub mod OneStanding
+pub mod Shortage
 pub mod Flushed
 pub mod Reported

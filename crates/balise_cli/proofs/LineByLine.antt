@@ -4,14 +4,14 @@ use Rattle.std.specs.Io.KnownBytes.{Appends, Consumes, IsAtEnd, Keeps, prepend_k
 use Rattle.std.proofs.KnownBytes.{Appends-trans, Appends-nil, Consumes-nil, Consumes-trans, Keeps-refl}
 use Rattle.balise_lines.specs.Laws.{joined}
 use Rattle.balise_lines.specs.Lines.{Fits, IsLine, Line, lines_of, whole}
-use Rattle.balise_lines.specs.Reading.{LongNext}
+use Rattle.balise_lines.specs.Reading.{IsInput, LongNext}
 use Rattle.balise_lines.specs.Writing.{AppendsSome}
 use Rattle.balise_lines.proofs.InputsLeft.{ahead_read, input_at_end, input_read, lines_of-line, some_input}
 use Rattle.balise_lines.proofs.WrittenTexts.{some_after, some_front, some_nothing}
 use Rattle.balise_arguments.specs.declared.options.Flags.{Flags}
 use Rattle.balise_text.specs.Texts.{Text}
 use Rattle.balise_cli.specs.Output.{Ended, Ending, Header, IsOutput, IsStep, Next, On, Over, Phase, TooLong, at_end}
-use Rattle.balise_cli.specs.Ends.{IsOutputOf, WritesOutput, WritesSome}
+use Rattle.balise_cli.specs.Ends.{IsOutputOf, WritesBeginning, WritesOutput, WritesSome}
 use Rattle.balise_cli.specs.Phases.{DidSome, DidStep, last_text}
 use Rattle.balise_cli.specs.Progress.{Progress}
 use Rattle.balise_cli.specs.declared.status.Status.{Status}
@@ -148,6 +148,47 @@ fault_at flags had left has old now new over p n place rest more e none o took w
   is_output = leads flags had left old now over p n place go rest more e none o;
   written = some_after old now new go.written more go.appended wrote;
 }
+
+-- the same of all that the reader had, whatever comes after what was read
+all_at : (flags : Flags) (had left old now new : Option Text) (over : Bool) (p : Phase) (n place : ℕ) (rest more : Text) (e : Ending) → (over ≡ true → rest ≡ [])
+    → IsOutput flags true p n place (lines_of rest) more e → IsInput left rest → AppendsSome now new more → Progress flags had left old now over p n place → WritesBeginning flags had old new
+all_at flags had left old now new over p n place rest more e none o is wrote go = record {
+  input = go.read ++ rest;
+  is_input = input_read had left go.read rest go.consumed is;
+  out = go.written ++ more;
+  e = e;
+  is_output = leads flags had left old now over p n place go rest more e none o;
+  written = some_after old now new go.written more go.appended wrote;
+}
+
+pub begun_before : (flags : Flags) (had left old now : Option Text) (over : Bool) (p : Phase) (n place : ℕ) → (over ≡ true → IsAtEnd left) → Progress flags had left old now over p n place → WritesBeginning flags had old now
+begun_before flags had left old now over p n place end go =
+    let (rest, (is, none)) = some_input left over end in
+    let o = some_output flags true p n place (lines_of rest) in
+    all_at flags had left old now now over p n place rest o.0 o.1.0 none o.1.1 is (some_nothing now o.0) go
+
+pub begun_ending : (flags : Flags) (had left old now new : Option Text) (over : Bool) (p : Phase) (n place : ℕ) → IsAtEnd left → AppendsSome now new (last_text (at_end flags p n))
+    → Progress flags had left old now over p n place → WritesBeginning flags had old new
+begun_ending flags had left old now new over p n place end wrote go =
+    let o = ends_over flags p n in
+    let here : IsOutput flags true p n place [] o.0 (Ended o.1.0) = rw o.1.1 (refl, refl) in
+    all_at flags had left old now new over p n place [] o.0 (Ended o.1.0) (λ _. refl) here (input_at_end left end) (subst (λ x. AppendsSome now new (last_text x)) o.1.1 wrote) go
+
+pub begun_in : (flags : Flags) (had left next old now new : Option Text) (before over : Bool) (p : Phase) (n place : ℕ) (line : Line) → before ≡ false → TookIt left next over place line
+    → (over ≡ true → IsAtEnd next) → DidSome flags p n line.bytes now new → Progress flags had left old now before p n place → WritesBeginning flags had old new
+begun_in flags had left next old now new before over p n place line first took end did go =
+    let (rest, (is, none)) = some_input next over end in
+    by rest (input_read left next (whole line) rest took.consumed is) (lines_left left next over place line rest took none) did.1.0 did.1.1.0 did.1.1.1
+  where
+    by : (rest : Text) → IsInput left (whole line ++ rest) → lines_of (whole line ++ rest) ≡ line ∷ lines_of rest → (then : Next) → IsStep flags true p n line.bytes did.0 then → AppendsSome now new (did.0 ++ last_text then)
+        → WritesBeginning flags had old new
+    by rest all parts (On q) is w =
+        let o = some_output flags true q (n + 1) (place + length (whole line)) (lines_of rest) in
+        let here : IsOutput flags true p n place (lines_of (whole line ++ rest)) (did.0 ++ o.0) o.1.0 = rw parts (inr (took.fits, (did.0, (On q, (o.0, (is, refl, o.1.1)))))) in
+        all_at flags had left old now new before p n place (whole line ++ rest) _ _ (λ b. absurd cc) here all (some_front now new did.0 o.0 (subst (λ (t : Text). AppendsSome now new t) (append-nil did.0) w)) go
+    by rest all parts (Over text status) is w =
+        let here : IsOutput flags true p n place (lines_of (whole line ++ rest)) (did.0 ++ text) (Ended status) = rw parts (inr (took.fits, (did.0, (Over text status, (text, (is, refl, (refl, refl))))))) in
+        all_at flags had left old now new before p n place (whole line ++ rest) _ _ (λ b. absurd cc) here all w go
 
 -- before a line
 pub fault_before : (flags : Flags) (had left has old now : Option Text) (ahead : Text) (over : Bool) (p : Phase) (n place : ℕ) → Keeps left (prepend_known ahead has) → (over ≡ true → IsAtEnd left)

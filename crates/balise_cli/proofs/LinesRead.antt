@@ -4,13 +4,14 @@ use Rattle.std.proofs.lemmas.List.Elements.{All-nil}
 use Rattle.std.specs.Io.KnownBytes.{Appends, Consumes, IsAtEnd, Keeps, prepend_known}
 use Rattle.std.proofs.KnownBytes.{Appends-trans, Consumes-trans, Keeps-refl}
 use Rattle.balise_lines.specs.Lines.{HasNoEnd, Line, lines_of, whole}
+use Rattle.balise_lines.specs.Writing.{AppendsPart, IsPartOf}
 use Rattle.balise_lines.proofs.FirstLines.{lines_of-open}
 use Rattle.balise_lines.proofs.InputsLeft.{ahead_read, ahead_such}
 use Rattle.balise_lines.proofs.JoinedLines.{lines_make_input}
 use Rattle.balise_arguments.specs.declared.options.Flags.{Flags}
 use Rattle.balise_text.specs.Texts.{Text}
-use Rattle.balise_cli.specs.Ends.{ComesToEnd, DidLines, NoneComplete, RunsOutOfMemory}
-use Rattle.balise_cli.specs.Phases.{DidStep, WrittenOfEnd, WrittenOfLine, WroteSuch}
+use Rattle.balise_cli.specs.Ends.{ComesToEnd, DidLines, FailsToWrite, NoneComplete, RunsOutOfMemory}
+use Rattle.balise_cli.specs.Phases.{DidPart, DidStep, WrittenOfEnd, WrittenOfLine, WroteSuch, last_text}
 use Rattle.balise_cli.specs.Progress.{Progress}
 use Rattle.balise_cli.specs.Output.{IsStep, Over, Phase, at_end}
 use Rattle.balise_cli.specs.declared.status.Status.{Status}
@@ -97,9 +98,9 @@ end_ran_out flags had left has old now new ahead over p n place k end all wants 
 
 -- memory ran out in a line
 pub line_ran_out : (flags : Flags) (had left has old now new : Option Text) (ahead : Text) (before over : Bool) (p : Phase) (n place : ℕ) (line : Line) → before ≡ false → TookIt left (prepend_known ahead has) over place line
-    → (over ≡ true → IsAtEnd (prepend_known ahead has)) → WroteSuch (WrittenOfLine flags p n line.bytes) now new → Progress flags had left old now before p n place → DidLines flags had has old new (RunsOutOfMemory flags has)
-line_ran_out flags had left has old now new ahead before over p n place line first took end wants go =
-    let (rest, (ate, none)) = ahead_read (prepend_known ahead has) has ahead over (Keeps-refl (prepend_known ahead has)) end in
+    → length ahead ≤ 4097 → (over ≡ true → IsAtEnd (prepend_known ahead has)) → WroteSuch (WrittenOfLine flags p n line.bytes) now new → Progress flags had left old now before p n place → DidLines flags had has old new (RunsOutOfMemory flags has)
+line_ran_out flags had left has old now new ahead before over p n place line first took few end wants go =
+    let (rest, (ate, none, short)) = ahead_such (λ xs. length xs ≤ 4097) (prepend_known ahead has) has ahead over (Keeps-refl (prepend_known ahead has)) end (omega arith) few in
     let all : Consumes left has (whole line ++ rest) = Consumes-trans left (prepend_known ahead has) has _ _ took.consumed ate in record {
       read = go.read ++ (whole line ++ rest);
       consumed = Consumes-trans had left has _ _ go.consumed all;
@@ -110,6 +111,47 @@ line_ran_out flags had left has old now new ahead before over p n place line fir
       phase = p;
       steps = go.steps;
       last = wants.0;
-      ends = subst (λ (m : ℕ). WrittenOfLine flags p m line.bytes wants.0) go.numbered wants.1.0;
+      ends = (subst (λ (r : Text). length r ≤ 4097) (sym (lines_make_input rest).0) short, subst (λ (m : ℕ). WrittenOfLine flags p m line.bytes wants.0) go.numbered wants.1.0);
       appended = Appends-trans old now new _ _ go.appended wants.1.1;
+    }
+
+-- the writer failed in what the input's end prints
+pub end_unwritten : (flags : Flags) (had left has old now new : Option Text) (ahead : Text) (over : Bool) (p : Phase) (n place : ℕ) → Keeps left (prepend_known ahead has) → IsAtEnd left → IsAtEnd has
+    → AppendsPart now new (last_text (at_end flags p n)) → Progress flags had left old now over p n place → DidLines flags had has old new (FailsToWrite flags has)
+end_unwritten flags had left has old now new ahead over p n place k end all wrote go =
+    let (rest, (took, none)) = ahead_read left has ahead true k (λ _. end) in
+    let gone : Consumes left has [] = subst (λ (r : Text). Consumes left has r) (none refl) took in record {
+      read = go.read ++ [];
+      consumed = Consumes-trans had left has _ _ go.consumed gone;
+      done = go.lines;
+      behind = [];
+      cut = go.cut [] (λ _. refl);
+      out = go.written;
+      phase = p;
+      steps = go.steps;
+      last = wrote.0.done;
+      ends = (all, subst (λ (m : ℕ). IsPartOf wrote.0.done (last_text (at_end flags p m))) go.numbered (wrote.0.begins.0, (wrote.0.begins.1, wrote.1)));
+      appended = Appends-trans old now new _ _ go.appended wrote.0.appended;
+    }
+
+-- it failed in what a line prints
+pub line_unwritten : (flags : Flags) (had left has old now new : Option Text) (ahead : Text) (before over : Bool) (p : Phase) (n place : ℕ) (line : Line) → before ≡ false → TookIt left (prepend_known ahead has) over place line
+    → length ahead ≤ 4097 → (over ≡ true → IsAtEnd (prepend_known ahead has)) → DidPart flags p n line.bytes now new → Progress flags had left old now before p n place → DidLines flags had has old new (FailsToWrite flags has)
+line_unwritten flags had left has old now new ahead before over p n place line first took few end (printed, (next, (is, (wrote, some)))) go =
+    let (rest, (ate, none, short)) = ahead_such (λ xs. length xs ≤ 4097) (prepend_known ahead has) has ahead over (Keeps-refl (prepend_known ahead has)) end (omega arith) few in
+    let all : Consumes left has (whole line ++ rest) = Consumes-trans left (prepend_known ahead has) has _ _ took.consumed ate in record {
+      read = go.read ++ (whole line ++ rest);
+      consumed = Consumes-trans had left has _ _ go.consumed all;
+      done = go.lines;
+      behind = line ∷ lines_of rest;
+      cut = line_cut flags had left (prepend_known ahead has) old now before over p n place line first took go rest none;
+      out = go.written;
+      phase = p;
+      steps = go.steps;
+      last = wrote.done;
+      ends = (
+        subst (λ (r : Text). length r ≤ 4097) (sym (lines_make_input rest).0) short,
+        (printed, (next, (subst (λ (m : ℕ). IsStep flags true p m line.bytes printed next) go.numbered is, (wrote.begins.0, (wrote.begins.1, some))))),
+      );
+      appended = Appends-trans old now new _ _ go.appended wrote.appended;
     }

@@ -4,17 +4,19 @@ use Rattle.std.specs.Io.KnownBytes.{Appends}
 use Rattle.std.proofs.KnownBytes.{Appends-nil, Appends-trans}
 use Rattle.balise_rules.specs.Plan.{Plan}
 use Rattle.balise_rules.specs.Session.{State}
-use Rattle.balise_lines.specs.Writing.{AppendsSome}
-use Rattle.balise_lines.proofs.WrittenTexts.{some_after, some_front, some_nothing}
+use Rattle.balise_lines.specs.Writing.{AppendsPart}
+use Rattle.balise_lines.proofs.WrittenTexts.{part_after, part_front, some_nothing}
 use Rattle.balise_arguments.specs.declared.options.Flags.{Flags}
 use Rattle.balise_text.specs.Answers.{reply_of}
 use Rattle.balise_text.specs.Replies.{is_refused}
+use Rattle.balise_text.specs.PlanLines.{plan_line_of}
 use Rattle.balise_text.specs.Texts.{Text}
+use Rattle.balise_cli.specs.Faults.{IsCause}
 use Rattle.balise_cli.specs.Output.{Commands, IsStep, Next, On, Over, Phase, after_command, after_read, read_line, reply_text}
 use Rattle.balise_cli.specs.Output as phase
 use Rattle.balise_cli.specs.PlanTexts.{end_text}
 use Rattle.balise_cli.specs.Private.{DidAnswer, answer_text}
-use Rattle.balise_cli.specs.Phases.{DidSome, DidStep, IsInGroup, WrittenOfEnd, WrittenOfLine, WroteSuch, last_text, phase_at}
+use Rattle.balise_cli.specs.Phases.{DidPart, DidSome, DidStep, EndMayRunOut, LineMayRunOut, WrittenOfEnd, WrittenOfLine, WroteSuch, is_telegram, last_text, phase_at}
 use Rattle.balise_cli.specs.declared.answers.Answer.{Answer}
 use Rattle.balise_cli.specs.declared.plan_reader.Place.{Place}
 use Rattle.balise_cli.specs.declared.plan_reader.Place.TheVariants.{Between, First, InGroup}
@@ -41,20 +43,20 @@ module _ (flags : Flags) (s t : State) (refused : Bool) (n : ℕ) (line : Text) 
       → DidStep flags (Commands s refused) n line old new q (Some SomeRefused)
   command_over old now new q e w v = (answer_text flags.quiet a, (end_text flags t, (is_step _ (stops e), Appends-trans old now new _ _ w v)))
 
-  -- a beginning of its answer was written
-  pub command_some : (old new : Option Text) → AppendsSome old new (answer_text flags.quiet a) → DidSome flags (Commands s refused) n line old new
-  command_some old new w = (answer_text flags.quiet a, (after_command flags (reply_of a.reply) t refused, (is_step _ refl, some_front old new (answer_text flags.quiet a) _ w)))
+  -- not all of its answer was written
+  pub command_part : (old new : Option Text) → AppendsPart old new (answer_text flags.quiet a) → DidPart flags (Commands s refused) n line old new
+  command_part old new w = (answer_text flags.quiet a, (after_command flags (reply_of a.reply) t refused, (is_step _ refl, part_front old new (answer_text flags.quiet a) _ w)))
 
-  -- its answer was, and a beginning of the end
-  pub command_end_some : (old now new : Option Text) → (flags.stop && is_refused (reply_of a.reply)) ≡ true → Appends old now (answer_text flags.quiet a) → AppendsSome now new (end_text flags t)
-      → DidSome flags (Commands s refused) n line old new
-  command_end_some old now new e w v = (answer_text flags.quiet a, (Over (end_text flags t) SomeRefused, (is_step _ (stops e), some_after old now new (answer_text flags.quiet a) (end_text flags t) w v)))
+  -- its answer was, and not all of the end
+  pub command_end_part : (old now new : Option Text) → (flags.stop && is_refused (reply_of a.reply)) ≡ true → Appends old now (answer_text flags.quiet a) → AppendsPart now new (end_text flags t)
+      → DidPart flags (Commands s refused) n line old new
+  command_end_part old now new e w v = (answer_text flags.quiet a, (Over (end_text flags t) SomeRefused, (is_step _ (stops e), part_after old now new (answer_text flags.quiet a) (end_text flags t) w v)))
 
   -- memory ran out for the rest of the end
-  pub command_ran_out : (old now new : Option Text) → (flags.stop && is_refused (reply_of a.reply)) ≡ true → Appends old now (answer_text flags.quiet a) → AppendsSome now new (end_text flags t)
+  pub command_ran_out : (old now new : Option Text) → (flags.stop && is_refused (reply_of a.reply)) ≡ true → Appends old now (answer_text flags.quiet a) → AppendsPart now new (end_text flags t)
       → WroteSuch (WrittenOfLine flags (Commands s refused) n line) old new
   command_ran_out old now new e w v =
-      (answer_text flags.quiet a ++ v.done, ((answer_text flags.quiet a, (end_text flags t, (v.done, (is_step _ (stops e), v.begins, refl)))), Appends-trans old now new _ _ w v.appended))
+      (answer_text flags.quiet a ++ v.0.done, ((answer_text flags.quiet a, (end_text flags t, (v.0.done, (is_step _ (stops e), (v.0.begins.0, (v.0.begins.1, v.1)), refl)))), Appends-trans old now new _ _ w v.0.appended))
 
 -- where memory ran out for the rest of the end, a beginning of what the line gives was written
 some_of_line : (flags : Flags) (s : State) (refused : Bool) (n : ℕ) (line : Text) (old new : Option Text) → WroteSuch (WrittenOfLine flags (Commands s refused) n line) old new → DidSome flags (Commands s refused) n line old new
@@ -72,19 +74,24 @@ some_of_line flags s refused n line old new w =
           parts.0,
           record {
             done = w.0;
-            begins = (rest, ap (λ (l : Text). l ++ rest) parts.2 ∙ append_assoc now begun rest ∙ ap (λ (l : Text). now ++ l) parts.1.1);
+            begins = (rest, ap (λ (l : Text). l ++ rest) parts.2 ∙ append_assoc now begun rest ∙ ap (λ (l : Text). now ++ l) parts.1.1.0);
             appended = w.1.1;
           },
         ),
       ),
     )
 
+-- where not all of it was written, a beginning was
+some_of_part : (flags : Flags) (p : Phase) (n : ℕ) (line : Text) (old new : Option Text) → DidPart flags p n line old new → DidSome flags p n line old new
+some_of_part flags p n line old new (out, (next, (is, w))) = (out, (next, (is, w.0)))
+
 -- whatever the fault is
-pub did_some : (flags : Flags) (s : State) (refused : Bool) (n : ℕ) (line : Text) (old new : Option Text) (e : RunFault) → ((e ≡ OutOfMemory → ⊥) → DidSome flags (Commands s refused) n line old new) → (e ≡ OutOfMemory → WroteSuch (WrittenOfLine flags (Commands s refused) n line) old new) → DidSome flags (Commands s refused) n line old new
-did_some flags s refused n line old new OutOfMemory f m = some_of_line flags s refused n line old new (m refl)
-did_some flags s refused n line old new InputTooLong f m = f (λ e. cc)
-did_some flags s refused n line old new ReadFault f m = f (λ e. cc)
-did_some flags s refused n line old new WriteFault f m = f (λ e. cc)
+pub did_some : (flags : Flags) (s : State) (refused : Bool) (n : ℕ) (line : Text) (old new : Option Text) (before after : ℕ) (e : RunFault) → IsCause before after e
+    → (e ≡ WriteFault → DidPart flags (Commands s refused) n line old new) → (e ≡ OutOfMemory → WroteSuch (WrittenOfLine flags (Commands s refused) n line) old new) → DidSome flags (Commands s refused) n line old new
+did_some flags s refused n line old new before after OutOfMemory w f m = some_of_line flags s refused n line old new (m refl)
+did_some flags s refused n line old new before after WriteFault w f m = some_of_part flags (Commands s refused) n line old new (f refl)
+did_some flags s refused n line old new before after InputTooLong w f m = absurd w
+did_some flags s refused n line old new before after ReadFault w f m = absurd w
 
 -- A line of the plan or the journal.
 
@@ -108,15 +115,15 @@ read_step flags (Commands s refused) n line h = absurd h
 pub none_read : (flags : Flags) (p : Phase) (n : ℕ) (line : Text) (old : Option Text) → IsReading p → DidSome flags p n line old old
 none_read flags p n line old h = ([], (after_read (read_line p n line), (read_step flags p n line h, some_nothing old (last_text (after_read (read_line p n line))))))
 
-pub none_of_line : (flags : Flags) (p : Phase) (n : ℕ) (line : Text) (old : Option Text) → IsInGroup p → WroteSuch (WrittenOfLine flags p n line) old old
-none_of_line flags (phase.InGroup plan g ys) n line old h = ([], (refl, Appends-nil old))
+pub none_of_line : (flags : Flags) (p : Phase) (n : ℕ) (line : Text) (old : Option Text) → LineMayRunOut p (is_telegram (plan_line_of line)) → WroteSuch (WrittenOfLine flags p n line) old old
+none_of_line flags (phase.InGroup plan g ys) n line old h = ([], ((h, refl), Appends-nil old))
 none_of_line flags phase.Header n line old h = absurd h
 none_of_line flags (phase.Between plan) n line old h = absurd h
 none_of_line flags (phase.InJournal part s) n line old h = absurd h
 none_of_line flags (Commands s refused) n line old h = absurd h
 
-pub none_of_end : (flags : Flags) (p : Phase) (old : Option Text) → IsInGroup p → WroteSuch (WrittenOfEnd flags p) old old
-none_of_end flags (phase.InGroup plan g ys) old h = ([], (refl, Appends-nil old))
+pub none_of_end : (flags : Flags) (p : Phase) (old : Option Text) → EndMayRunOut p → WroteSuch (WrittenOfEnd flags p) old old
+none_of_end flags (phase.InGroup plan g ys) old h = ([], ((h, refl), Appends-nil old))
 none_of_end flags phase.Header old h = absurd h
 none_of_end flags (phase.Between plan) old h = absurd h
 none_of_end flags (phase.InJournal part s) old h = absurd h

@@ -4,12 +4,12 @@ use Rattle.std.specs.Io.KnownBytes.{Appends, Consumes, IsAtEnd}
 use Rattle.balise_lines.specs.Laws.{joined}
 use Rattle.balise_lines.specs.Lines.{Fits, Line, lines_of, whole}
 use Rattle.balise_lines.specs.Reading.{IsInput}
-use Rattle.balise_lines.specs.Writing.{AppendsSome}
+use Rattle.balise_lines.specs.Writing.{AppendsSome, IsPartOf}
 use Rattle.balise_arguments.specs.declared.options.Flags.{Flags}
 use Rattle.balise_text.specs.Texts.{Text}
 use Rattle.balise_cli.specs.Laws.{PrintsStanding}
-use Rattle.balise_cli.specs.Phases.{WrittenOfEnd, WrittenOfLine}
-use Rattle.balise_cli.specs.Output.{Ending, Header, IsOutput, IsStep, On, Over, Phase, at_end}
+use Rattle.balise_cli.specs.Phases.{WrittenOfEnd, WrittenOfLine, last_text}
+use Rattle.balise_cli.specs.Output.{Ending, Header, IsOutput, IsStep, Next, On, Over, Phase, at_end}
 use Rattle.balise_cli.specs.declared.status.Status.{Status}
 
 -- this input may have this output, and the run end so
@@ -39,6 +39,15 @@ pub record WritesSome (flags : Flags) (had has old new : Option Text) : Type 0 w
   pub out : Text
   pub e : Ending
   pub is_output : IsOutputOf flags read out e
+  pub written : AppendsSome old new out
+
+-- a beginning of an output of all that the reader had was written
+pub record WritesBeginning (flags : Flags) (had old new : Option Text) : Type 0 where
+  pub input : Text
+  pub is_input : IsInput had input
+  pub out : Text
+  pub e : Ending
+  pub is_output : IsOutputOf flags input out e
   pub written : AppendsSome old new out
 
 -- From this phase, where line n comes next and begins at this place of the input, these lines are done one after another: they print this, and the run goes on in the phase q.
@@ -71,7 +80,13 @@ ComesToEnd flags has status p n (line ∷ behind) last =
 abbrev pub NoneComplete : Phase → ℕ → List Line → Text → Type 0
 NoneComplete p n behind last = All (λ (line : Line). line.is_ended ≡ false) behind × (last ≡ [])
 
--- Memory ran out in a group or in the journal, or after the last command, where the end is printed. It never ends a run between two commands.
+-- Memory ran out in a group or in the journal, or after the last command, where the end is printed. It never ends a run between two commands. After the line that it ran out in at most 4,097 bytes were read.
 abbrev pub RunsOutOfMemory : Flags → Option Text → Phase → ℕ → List Line → Text → Type 0
 RunsOutOfMemory flags has p n [] last = IsAtEnd has × WrittenOfEnd flags p last
-RunsOutOfMemory flags has p n (line ∷ behind) last = WrittenOfLine flags p n line.bytes last
+RunsOutOfMemory flags has p n (line ∷ behind) last = (length (joined behind) ≤ 4097) × WrittenOfLine flags p n line.bytes last
+
+-- The writer failed in what the end or the next line prints, and of that a beginning was written, and not all. After that line at most 4,097 bytes were read.
+abbrev pub FailsToWrite : Flags → Option Text → Phase → ℕ → List Line → Text → Type 0
+FailsToWrite flags has p n [] last = IsAtEnd has × IsPartOf last (last_text (at_end flags p n))
+FailsToWrite flags has p n (line ∷ behind) last =
+    (length (joined behind) ≤ 4097) × ((now : Text) × ((next : Next) × (IsStep flags true p n line.bytes now next × IsPartOf last (now ++ last_text next))))

@@ -1,17 +1,18 @@
 -- Laws of what a run prints.
-use Rattle.std.specs.Prelude.{◌≡◌, ◌⊎◌, ◌+◌, ◌≤◌, ◌&&◌, ℕ, Bool, false, IsFalse, IsTrue, List, [], ◌∷◌, ◌++◌, codes, Ok}
+use Rattle.std.specs.Prelude.{◌≡◌, ◌⊎◌, ◌+◌, ◌≤◌, ◌&&◌, ℕ, Bool, true, false, IsFalse, IsTrue, List, [], ◌∷◌, ◌++◌, codes, Ok}
 use Rattle.std.specs.List.{list_any}
 use Rattle.balise_rules.specs.declared.refusal.Refusal.{Refusal}
+use Rattle.balise_rules.specs.declared.refusal.Refusal.TheVariants.{OutOfMemory}
 use Rattle.balise_rules.specs.Opening.{most_serial}
 use Rattle.balise_rules.specs.Plan.{Plan}
-use Rattle.balise_rules.specs.Session.{State, Reply}
+use Rattle.balise_rules.specs.Session.{State, Reply, Refused}
 use Rattle.balise_strike_laws.specs.Headline.{Promised}
 use Rattle.balise_strike_laws.specs.Redoing.{counted}
 use Rattle.balise_lines.specs.Lines.{Line, lines_of}
 use Rattle.balise_plan.specs.GroupReading.{with_read}
 use Rattle.balise_arguments.specs.declared.options.Flags.{Flags}
 use Rattle.balise_text.specs.Commands.{call_of}
-use Rattle.balise_text.specs.Replies.{bad_line, is_refused}
+use Rattle.balise_text.specs.Replies.{bad_line, is_refused, reply_line}
 use Rattle.balise_text.specs.Texts.{Text}
 use Rattle.balise_cli.specs.Output.{Phase, Header, Between, InGroup, Commands, Read, Good, Bad, Ending, Ended, IsOutput, MayAnswer, after_read, at_end, read_line, reply_text, reviewed}
 use Rattle.balise_cli.specs.PlanTexts.{end_text, journal_text}
@@ -112,3 +113,20 @@ PrintsStandingEdits = (flags : Flags) → (scarce : Bool) → (input out : Text)
 -- where memory runs out at no command, only one output of an input is so, and only with one status
 abbrev pub OneStanding : Type 0
 OneStanding = (flags : Flags) → (input out other : Text) → (status ends : Status) → PrintsStanding flags false input out status → PrintsStanding flags false input other ends → (other ≡ out) × (ends ≡ status)
+
+-- nowhere does the text have the reply of a command that is out of memory
+abbrev pub SaysNoShortage : Text → Type 0
+SaysNoShortage out = (before after : Text) → out ≡ before ++ (reply_line (Refused OutOfMemory) ++ after) → ⊥
+
+-- an output that has no such reply is one where memory runs out at no command
+abbrev pub ShortageShows : Type 0
+ShortageShows = (flags : Flags) → (input out : Text) → (e : Ending) → IsOutput flags true Header 1 0 (lines_of input) out e → SaysNoShortage out → IsOutput flags false Header 1 0 (lines_of input) out e
+
+-- and all that is promised of it is so
+abbrev pub PromisedWithout : Type 0
+PromisedWithout = (flags : Flags) → (input out : Text) → (status : Status) → PrintsStanding flags true input out status → SaysNoShortage out → PrintsStanding flags false input out status
+
+-- so an input has at most one output without such a reply, and the run one ending
+abbrev pub OneWithout : Type 0
+OneWithout = (flags : Flags) → (input out other : Text) → (e f : Ending) → IsOutput flags true Header 1 0 (lines_of input) out e → SaysNoShortage out
+    → IsOutput flags true Header 1 0 (lines_of input) other f → SaysNoShortage other → (other ≡ out) × (f ≡ e)

@@ -1,5 +1,5 @@
 -- What a run prints for the lines of its input, and how it ends.
-use Rattle.std.specs.Prelude.{◌≡◌, ◌⊎◌, ◌||◌, ◌&&◌, ◌+◌, ℕ, nat_lt, not, cond, Bool, true, false, IsTrue, List, [], ◌∷◌, ◌++◌, length, map, Option, Some, None, Result, Ok, Err}
+use Rattle.std.specs.Prelude.{◌≡◌, ◌⊎◌, ◌||◌, ◌&&◌, ◌+◌, ◌<◌, ℕ, not, cond, Bool, true, false, IsTrue, List, [], ◌∷◌, ◌++◌, length, map, Option, Some, None, Result, Ok, Err}
 use Rattle.balise_rules.specs.declared.refusal.Refusal.{Refusal}
 use Rattle.balise_rules.specs.declared.refusal.Refusal.TheVariants.{BadLine, JournalMismatch, OutOfMemory}
 use Rattle.balise_rules.specs.declared.review.ReviewLine.{ReviewLine}
@@ -8,9 +8,10 @@ use Rattle.balise_rules.specs.Addresses.{AskTurn}
 use Rattle.balise_rules.specs.Opening.{opened_at, with_entry, with_undone}
 use Rattle.balise_rules.specs.Plan.{Group, Plan, group_named}
 use Rattle.balise_rules.specs.Review.{review}
-use Rattle.balise_rules.specs.Session.{State, Call, Ask, Reply, Done, Refused, answer, opened, held, most_commands, takes_memory}
+use Rattle.balise_rules.specs.Session.{State, Call, Ask, Strike, Reply, Done, Refused, answer, opened, held, most_commands, takes_memory}
 use Rattle.balise_lines.specs.Lines.{Line, Fits, whole}
 use Rattle.balise_plan.specs.GroupReading.{with_read}
+use Rattle.balise_history.specs.Tests.{StrikeMayRunOut}
 use Rattle.balise_arguments.specs.declared.options.Flags.{Flags}
 use Rattle.balise_text.specs.Commands.{call_of, reads_digits}
 use Rattle.balise_text.specs.Heads.{read_head}
@@ -109,20 +110,21 @@ abbrev pub answer_line : Result Call Refusal → State → Reply × State
 answer_line (Err r) s = (Refused r, s)
 answer_line (Ok c) s = answer c s
 
--- whether a command takes memory to be done
-abbrev pub does_take_memory : Result Call Refusal → State → Bool
-does_take_memory (Err r) s = false
-does_take_memory (Ok c) s = takes_memory c s
+-- A command takes memory to be done. A strike does only where the edit is one that stands, and before a later edit that depends on it is met.
+abbrev pub TakesMemory : Result Call Refusal → State → Type 0
+TakesMemory (Err r) s = ⊥
+TakesMemory (Ok (Strike serial)) s = IsTrue (takes_memory (Strike serial) s) × StrikeMayRunOut serial s.base s.standing
+TakesMemory (Ok c) s = IsTrue (takes_memory c s)
 
--- whether the line of a command may run out of memory, as it is read or done; at the limit of a session none does
-abbrev pub may_run_out : Text → State → Bool
-may_run_out line s = nat_lt s.count most_commands && (reads_digits line || does_take_memory (call_of line) s)
+-- The line of a command may run out of memory, as it is read or done. At the limit of a session none does.
+abbrev pub MayRunOut : Text → State → Type 0
+MayRunOut line s = (s.count < most_commands) × (IsTrue (reads_digits line) ⊎ TakesMemory (call_of line) s)
 
 -- A command has its reply; where memory is scarce, one that may run out of it may be refused so and leave the state as it was.
 abbrev pub MayAnswer : Bool → Text → State → Reply → State → Type 0
 MayAnswer scarce line s r s' =
     (◌≡◌ {A = Reply × State} (r, s') (answer_line (call_of line) s))
-    ⊎ ((scarce ≡ true) × IsTrue (may_run_out line s) × (r ≡ Refused OutOfMemory) × (s' ≡ s))
+    ⊎ ((scarce ≡ true) × MayRunOut line s × (r ≡ Refused OutOfMemory) × (s' ≡ s))
 
 -- the review of a turn of the group of an identity, on the plan before it
 abbrev pub group_review : Option (Tag × Group) → Plan → List ReviewLine

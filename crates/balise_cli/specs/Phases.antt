@@ -1,23 +1,27 @@
 -- The phases as the code has them, and what one line or the end does in each.
-use Rattle.std.specs.Prelude.{◌≡◌, ℕ, Bool, true, false, [], ◌++◌, Option, Some, None, Result, Ok, Err}
+use Rattle.std.specs.Prelude.{◌≡◌, ◌⊎◌, ◌<◌, ℕ, Bool, true, false, IsOk, IsTrue, [], ◌++◌, length, Option, Some, None, Result, Ok, Err}
 use Rattle.std.specs.Io.KnownBytes.{Appends}
 use Rattle.balise_rules.specs.declared.refusal.Refusal.{Refusal}
 use Rattle.balise_rules.specs.declared.refusal.Refusal.TheVariants.{JournalMismatch}
 use Rattle.balise_rules.specs.Opening.{opened_at}
 use Rattle.balise_rules.specs.Plan.{Plan}
-use Rattle.balise_rules.specs.Session.{opened}
-use Rattle.balise_lines.specs.Writing.{AppendsSome, IsPrefixOf}
+use Rattle.balise_rules.specs.Session.{State, opened}
+use Rattle.balise_history.specs.Openings.{MayComeNext}
+use Rattle.balise_history.specs.Tests.{StrikeMayRunOut}
+use Rattle.balise_lines.specs.Writing.{AppendsPart, AppendsSome, IsPartOf}
+use Rattle.balise_plan.specs.GroupReading.{most_telegrams, with_read}
 use Rattle.balise_arguments.specs.declared.options.Flags.{Flags}
+use Rattle.balise_text.specs.JournalLines.{JournalLine, EntryLine, UndoneLine, journal_line_of, line_reads_digits}
+use Rattle.balise_text.specs.PlanLines.{plan_line_of}
 use Rattle.balise_text.specs.Texts.{Text}
 use Rattle.balise_text.specs.declared.head.Head.{Head}
+use Rattle.balise_text.specs.declared.section.Section.{Section}
 use Rattle.balise_text.specs.declared.section.Section.TheVariants.{Entries}
 use Rattle.balise_text.specs.declared.plan_line.PlanLine.{PlanLine}
 use Rattle.balise_text.specs.declared.plan_line.PlanLine.TheVariants.{FirstLine, TelegramLine}
 use Rattle.balise_cli.specs.Output.{Phase, Header, Between, InGroup, InJournal, Commands, Read, Good, Bad, Next, On, Over, IsStep, journal_begun}
 use Rattle.balise_cli.specs.PlanTexts.{end_text}
 use Rattle.balise_cli.specs.declared.commands.Commands as code
-use Rattle.balise_cli.specs.declared.fault.RunFault.{RunFault}
-use Rattle.balise_cli.specs.declared.fault.RunFault.TheVariants.{OutOfMemory}
 use Rattle.balise_cli.specs.declared.journal_reader.JournalEnd.{JournalEnd}
 use Rattle.balise_cli.specs.declared.journal_reader.JournalEnd.TheVariants as journal
 use Rattle.balise_cli.specs.declared.journal_reader.JournalReader.{JournalReader}
@@ -79,14 +83,16 @@ abbrev pub Begins : Plan → Head → Result JournalReader Refusal → Type 0
 Begins p head (Ok r) = (opened_at p head.next ≡ Some r.opening.state) × (r.section ≡ Entries head.version)
 Begins p head (Err r) = (opened_at p head.next ≡ None) × (r ≡ JournalMismatch)
 
--- The run is in a group.
-abbrev pub IsInGroup : Phase → Type 0
-IsInGroup (InGroup p g ys) = Unit {0}
-IsInGroup _ = ⊥
+-- Memory may run out at a line of the plan in a group alone: for a telegram, which isn't a ninth; or for the group where it ends there, if it has no fault.
+abbrev pub LineMayRunOut : Phase → Bool → Type 0
+LineMayRunOut (InGroup p g ys) true = length ys < most_telegrams
+LineMayRunOut (InGroup p g ys) false = IsOk (with_read p ys)
+LineMayRunOut _ b = ⊥
 
--- memory ran out, in a group
-abbrev pub FailsInGroup : Phase → RunFault → Type 0
-FailsInGroup p e = (e ≡ OutOfMemory) × IsInGroup p
+-- the same where the input ends
+abbrev pub EndMayRunOut : Phase → Type 0
+EndMayRunOut (InGroup p g ys) = IsOk (with_read p ys)
+EndMayRunOut _ = ⊥
 
 -- What one line or the end does.
 
@@ -103,18 +109,32 @@ DidStep flags p n line old new q (Some status) = (out : Text) × ((text : Text) 
 abbrev pub DidSome : Flags → Phase → ℕ → Text → Option Text → Option Text → Type 0
 DidSome flags p n line old new = (out : Text) × ((next : Next) × (IsStep flags true p n line out next × AppendsSome old new (out ++ last_text next)))
 
--- What was written of a line that memory ran out in: of one in a group or in the journal nothing; of a command that stops the run its answer, and a beginning of the end. No other line ends a run so.
+-- the same, and not all of what it gives
+abbrev pub DidPart : Flags → Phase → ℕ → Text → Option Text → Option Text → Type 0
+DidPart flags p n line old new = (out : Text) × ((next : Next) × (IsStep flags true p n line out next × AppendsPart old new (out ++ last_text next)))
+
+-- Memory may run out for what a line of the journal asks: for an edit that may come next, or for a strike as for the command.
+abbrev pub DoingMayRunOut : Result JournalLine Refusal → State → Type 0
+DoingMayRunOut (Ok (EntryLine l)) s = MayComeNext s l.serial
+DoingMayRunOut (Ok (UndoneLine serial)) s = StrikeMayRunOut serial s.base s.standing
+DoingMayRunOut r s = ⊥
+
+-- A line of the journal may run out of memory: it is of the grammar, and has digits to be read, or what it asks may.
+abbrev pub MayRunOutAt : Section → State → Text → Type 0
+MayRunOutAt section s line = IsTrue (line_reads_digits section line) ⊎ DoingMayRunOut (journal_line_of section line) s
+
+-- What was written of a line that memory ran out in, where it may: in a group or in the journal nothing; of a command that stops the run its answer, and a beginning of the end, not all of it. No other line ends a run so.
 abbrev pub WrittenOfLine : Flags → Phase → ℕ → Text → Text → Type 0
-WrittenOfLine flags (InGroup p g ys) n line last = last ≡ []
-WrittenOfLine flags (InJournal section s) n line last = last ≡ []
+WrittenOfLine flags (InGroup p g ys) n line last = LineMayRunOut (InGroup p g ys) (is_telegram (plan_line_of line)) × (last ≡ [])
+WrittenOfLine flags (InJournal section s) n line last = MayRunOutAt section s line × (last ≡ [])
 WrittenOfLine flags (Commands s refused) n line last =
-    (now : Text) × ((text : Text) × ((begun : Text) × (IsStep flags true (Commands s refused) n line now (Over text SomeRefused) × IsPrefixOf begun text × (last ≡ now ++ begun))))
+    (now : Text) × ((text : Text) × ((begun : Text) × (IsStep flags true (Commands s refused) n line now (Over text SomeRefused) × IsPartOf begun text × (last ≡ now ++ begun))))
 WrittenOfLine flags _ n line last = ⊥
 
--- what was written of the input's end, where memory ran out in it: in a group nothing; after the commands a beginning of the end
+-- what was written of the input's end, where memory ran out in it: in a group nothing; after the commands a beginning of the end, not all of it
 abbrev pub WrittenOfEnd : Flags → Phase → Text → Type 0
-WrittenOfEnd flags (InGroup p g ys) last = last ≡ []
-WrittenOfEnd flags (Commands s refused) last = IsPrefixOf last (end_text flags s)
+WrittenOfEnd flags (InGroup p g ys) last = EndMayRunOut (InGroup p g ys) × (last ≡ [])
+WrittenOfEnd flags (Commands s refused) last = IsPartOf last (end_text flags s)
 WrittenOfEnd flags _ last = ⊥
 
 -- such a text was written

@@ -1,5 +1,5 @@
 -- A plan read line by line.
-use Rattle.std.specs.Prelude.{◌≡◌, ◌⊎◌, nat_le, cond, Bool, List, length, Result, Ok, Err}
+use Rattle.std.specs.Prelude.{◌≡◌, ◌⊎◌, nat_le, cond, Bool, List, length, Result, Ok, Err, IsOk}
 use Rattle.balise_rules.specs.declared.refusal.Refusal.{Refusal}
 use Rattle.balise_rules.specs.declared.refusal.Refusal.TheVariants.{GroupSize, OutOfMemory}
 use Rattle.balise_rules.specs.Digits.{read_hex}
@@ -17,7 +17,7 @@ with_line ys line = cond (nat_le most_telegrams (length ys)) (Err GroupSize) (an
 abbrev pub WasRead : Plan → Type 0
 WasRead plan = (groups : List (List (List Bool))) × (read_plan groups ≡ Ok plan)
 
--- One group more was read; or its first fault is answered, or out of memory, and all stays.
+-- One group more was read; or its first fault is answered, or, where it has none, out of memory, and all stays.
 abbrev pub Grows : Group → Plan → {A : Type 0} → Result A Refusal → Plan → Type 0
 Grows ys old (Ok u) new = with_read old ys ≡ Ok new
-Grows ys old (Err e) new = ((e ≡ OutOfMemory) ⊎ (with_read old ys ≡ Err e)) × (new ≡ old)
+Grows ys old (Err e) new = (((e ≡ OutOfMemory) × IsOk (with_read old ys)) ⊎ (with_read old ys ≡ Err e)) × (new ≡ old)

@@ -1,22 +1,22 @@
 -- What a command is answered, and the review after it, as this crate has them.
-use Rattle.std.specs.Prelude.{◌≡◌, ◌⊎◌, ◌<◌, Bool, true, IsTrue, Option, Some, None, Result, Ok, Err}
+use Rattle.std.specs.Prelude.{◌≡◌, ◌⊎◌, ◌<◌, Bool, true, Option, Some, None, Result, Ok, Err}
 use Rattle.balise_rules.specs.declared.identity.Id.{Id}
 use Rattle.balise_rules.specs.declared.refusal.Refusal.{Refusal}
 use Rattle.balise_rules.specs.declared.refusal.Refusal.TheVariants.{OutOfMemory, Worn}
 use Rattle.balise_rules.specs.Addresses.{AskTurn}
 use Rattle.balise_rules.specs.Journal.{line_of}
 use Rattle.balise_rules.specs.Paths.{Entry}
-use Rattle.balise_rules.specs.Session.{State, Call, Ask, Reply, Refused, answer, most_commands, takes_memory}
+use Rattle.balise_rules.specs.Session.{State, Call, Ask, Reply, Refused, answer, most_commands}
 use Rattle.balise_text.specs.Answers.{reply_of}
 use Rattle.balise_text.specs.Commands.{call_of}
 use Rattle.balise_text.specs.Texts.{Text}
 use Rattle.balise_cli.specs.PlanTexts as texts
-use Rattle.balise_cli.specs.Output.{MayAnswer, reply_text, reviewed}
+use Rattle.balise_cli.specs.Output.{MayAnswer, TakesMemory, reply_text, reviewed}
 use Rattle.balise_cli.specs.declared.answers.Answer.{Answer}
 
 -- a command has its reply; one that takes memory may be refused for it, but not at the session's limit
 abbrev pub DidDo : Call → State → Reply → State → Type 0
-DidDo c s r t = (◌≡◌ {A = Reply × State} (r, t) (answer c s)) ⊎ (IsTrue (takes_memory c s) × (s.count < most_commands) × (r ≡ Refused OutOfMemory) × (t ≡ s))
+DidDo c s r t = (◌≡◌ {A = Reply × State} (r, t) (answer c s)) ⊎ (TakesMemory (Ok c) s × (s.count < most_commands) × (r ≡ Refused OutOfMemory) × (t ≡ s))
 
 -- the identity of the group that a command turns
 abbrev pub turned_by : Call → Option Id

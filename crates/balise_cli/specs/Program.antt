@@ -30,6 +30,8 @@ pub record Runs (flags : Flags) (had has old new : Option Text) (ended : Result 
   pub long : IsErrOf ended fault.InputTooLong → ends.WritesOutput flags had old new TooLong
   pub memory : IsErrOf ended fault.OutOfMemory → ends.DidLines flags had has old new (ends.RunsOutOfMemory flags has)
   pub complete : IsErrOf ended fault.ReadFault → ends.DidLines flags had has old new ends.NoneComplete
+  pub full : IsErrOf ended fault.WriteFault → ends.DidLines flags had has old new (ends.FailsToWrite flags has)
+  pub begun : OnErr ended (ends.WritesBeginning flags had old new)
   pub some : OnErr ended (ends.WritesSome flags had has old new)
 
 -- the same of the counts of failed calls

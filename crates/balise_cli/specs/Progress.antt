@@ -5,13 +5,13 @@ use Rattle.balise_rules.specs.declared.refusal.Refusal.{Refusal}
 use Rattle.balise_lines.specs.Laws.{joined}
 use Rattle.balise_lines.specs.Lines.{Line, lines_of}
 use Rattle.balise_lines.specs.Reading.{is_over, left, number_of, place_of}
-use Rattle.balise_lines.specs.Writing.{AppendsSome}
+use Rattle.balise_lines.specs.Writing.{AppendsPart, AppendsSome}
 use Rattle.balise_lines.specs.declared.counted.Counted.{Counted}
 use Rattle.balise_lines.specs.declared.lines.Lines.{Lines}
 use Rattle.balise_arguments.specs.declared.options.Flags.{Flags}
 use Rattle.balise_text.specs.Replies.{bad_line}
 use Rattle.balise_text.specs.Texts.{Text}
-use Rattle.balise_cli.specs.Ends.{ComesToEnd, DidLines, NoneComplete, Steps, RunsOutOfMemory, WritesOutput, WritesSome}
+use Rattle.balise_cli.specs.Ends.{ComesToEnd, DidLines, FailsToWrite, NoneComplete, Steps, RunsOutOfMemory, WritesBeginning, WritesOutput, WritesSome}
 use Rattle.balise_cli.specs.Faults.{IsFault}
 use Rattle.balise_cli.specs.Output.{Ended, Header, Phase, Read, Good, Bad, TooLong}
 use Rattle.balise_cli.specs.declared.fault.RunFault.{RunFault}
@@ -49,6 +49,8 @@ pub record RanToFault (flags : Flags) (had has old new : Option Text) (read read
   pub long : e ≡ fault.InputTooLong → WritesOutput flags had old new TooLong
   pub memory : e ≡ fault.OutOfMemory → DidLines flags had has old new (RunsOutOfMemory flags has)
   pub complete : e ≡ fault.ReadFault → DidLines flags had has old new NoneComplete
+  pub full : e ≡ fault.WriteFault → DidLines flags had has old new (FailsToWrite flags has)
+  pub begun : WritesBeginning flags had old new
 
 -- all that is said of how a run ended, by what the reader had and has, what was written before and since, and how many calls had failed and have
 abbrev pub Ran : Flags → (had has old new : Option Text) → (read reads written writes : ℕ) → Result Status RunFault → Type 0
@@ -74,6 +76,8 @@ pub record IsRefused (flags : Flags) (had has old now : Option Text) (n : ℕ) (
   pub output : (new : Option Text) → Appends now new (bad_line n r) → WritesOutput flags had old new (Ended BadInput)
   pub lines : (new : Option Text) → Appends now new (bad_line n r) → DidLines flags had has old new (ComesToEnd flags has BadInput)
   pub some : (new : Option Text) → AppendsSome now new (bad_line n r) → WritesSome flags had has old new
+  pub full : (new : Option Text) → AppendsPart now new (bad_line n r) → DidLines flags had has old new (FailsToWrite flags has)
+  pub begun : (new : Option Text) → AppendsSome now new (bad_line n r) → WritesBeginning flags had old new
 
 -- the last line was read so: the run has come to a further phase, or is refused
 abbrev pub IsReadAs : Flags → Option Text → Option Text → Lines → Option Text → Option Text → Read → Type 0

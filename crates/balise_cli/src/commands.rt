@@ -1,10 +1,10 @@
 //! The commands, one after another.
 
-ghost use Rattle.std.specs.Prelude.{◌≡◌, ◌≢◌, IfErr, IfOk, IsErrOf, OnOk, false};
+ghost use Rattle.std.specs.Prelude.{◌≡◌, IfErr, IfOk, IsErrOf, OnOk, false};
 ghost use Rattle.balise_cli.specs.Faults.{IsCause, Prints};
 ghost use Rattle.balise_cli.specs.Output as output;
 ghost use Rattle.balise_cli.specs.PlanTexts.{end_text};
-ghost use Rattle.balise_cli.specs.Phases.{DidSome, DidStep, WrittenOfLine, WroteSuch, commands_phase};
+ghost use Rattle.balise_cli.specs.Phases.{DidPart, DidStep, WrittenOfLine, WroteSuch, commands_phase};
 ghost use Rattle.balise_cli.specs.Statuses.{status_of};
 
 use crate::answers::{answer_line, put_answer};
@@ -47,7 +47,7 @@ impl Commands {
         ensures ok { IfOk result (DidStep flags (commands_phase self.old) 0 line.now (W.contents writer.old.inner) (W.contents writer.new.inner) (commands_phase self.new)) }
         ensures unfailed { OnOk result (writer.new.failed ≡ writer.old.failed) }
         ensures cause { IfErr result (IsCause writer.old.failed writer.new.failed) }
-        ensures written { IfErr result (λ e. e ≢ RunFault.OutOfMemory → DidSome flags (commands_phase self.old) 0 line.now (W.contents writer.old.inner) (W.contents writer.new.inner)) }
+        ensures written { IsErrOf result RunFault.WriteFault → DidPart flags (commands_phase self.old) 0 line.now (W.contents writer.old.inner) (W.contents writer.new.inner) }
         ensures memory { IsErrOf result RunFault.OutOfMemory → WroteSuch (WrittenOfLine flags (commands_phase self.old) 0 line.now) (W.contents writer.old.inner) (W.contents writer.new.inner) }
     {
         let answer = answer_line(alloc, &mut self.session, line);

@@ -1,8 +1,8 @@
 //! The lines of the journal.
 
-ghost use Rattle.std.specs.Prelude.{◌≡◌, IfErr, IfOk};
+ghost use Rattle.std.specs.Prelude.{◌≡◌, IfErr, IfOk, OnErr};
 ghost use Rattle.balise_cli.specs.Output.{InJournal, read_line};
-ghost use Rattle.balise_cli.specs.Phases.{journal_phase, journal_step};
+ghost use Rattle.balise_cli.specs.Phases.{MayRunOutAt, journal_phase, journal_step};
 ghost use Rattle.balise_text.specs.declared.section.Section.TheVariants.{Entries};
 
 use crate::fault::RunFault;
@@ -51,6 +51,7 @@ impl JournalReader {
     ) -> Result<JournalStep, RunFault>
         ensures ok { IfOk result (λ step. read_line (journal_phase self) number line.now ≡ journal_step step) }
         ensures fault { IfErr result (λ e. e ≡ RunFault.OutOfMemory) }
+        ensures takes { OnErr result (MayRunOutAt self.section self.opening.state line.now) }
     {
         let JournalReader { section, opening } = self;
         match read_journal_line(alloc, section, line) {

@@ -1,6 +1,6 @@
 //! Laws of what a run prints, each the contract of a function that does nothing.
 
-ghost use Rattle.balise_cli.specs.Laws.{OneOutput, OneStanding, PrintsStandingEdits};
+ghost use Rattle.balise_cli.specs.Laws.{OneOutput, OneStanding, OneWithout, PrintsStandingEdits, PromisedWithout, ShortageShows};
 
 /// Where memory runs out at no command, an input has one output, and the run one ending.
 pub fn one_output()
@@ -20,4 +20,12 @@ pub fn prints_standing_edits()
 /// status for an input.
 pub fn one_standing()
     ensures { OneStanding }
+{}
+
+/// Memory that runs out at a command is seen: an output that nowhere has the line `refused 30 OutOfMemory` is one where
+/// memory runs out at no command. So all that is promised above holds of it, and an input has at most one such output.
+pub fn shortage_shows()
+    ensures output { ShortageShows }
+    ensures promised { PromisedWithout }
+    ensures one { OneWithout }
 {}

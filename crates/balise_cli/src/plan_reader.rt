@@ -1,12 +1,14 @@
 //! The lines of the plan.
 
-ghost use Rattle.std.specs.Prelude.{ℕ, ◌≡◌, ◌≢◌, IfErr, IfOk, Ok, Err, OnOk};
+ghost use Rattle.std.specs.Prelude.{ℕ, ◌≡◌, ◌⊎◌, ◌<◌, length, IfErr, IfOk, Ok, Err, OnErr, OnOk, true};
 ghost use Rattle.balise_arguments.specs.declared.options.Flags.{Flags};
 ghost use Rattle.balise_cli.specs.Output.{Bad, Header, InGroup, after_read, at_end, between, first_line, read_line, telegram};
-ghost use Rattle.balise_cli.specs.Phases.{Begins, FailsInGroup, is_telegram, plan_phase, plan_read, plan_read_as};
+ghost use Rattle.balise_cli.specs.Phases.{Begins, EndMayRunOut, LineMayRunOut, is_telegram, plan_phase, plan_read, plan_read_as};
 ghost use Rattle.balise_cli.specs.PlanRead.{with_line};
+ghost use Rattle.balise_plan.specs.GroupReading.{most_telegrams};
 ghost use Rattle.balise_rules.specs.Plan.{Plan};
 ghost use Rattle.balise_rules.specs.Session.{opened};
+ghost use Rattle.balise_text.specs.PlanLines.{plan_line_of};
 
 use crate::base_plan::BasePlan;
 use crate::fault::RunFault;
@@ -43,7 +45,7 @@ pub(crate) struct PlanReader {
 // Adds the telegram of a line. A ninth line isn't looked at.
 fn add_telegram(alloc: Global, group: &mut GroupReader, line: &[u8]) -> Result<(), Refusal>
     ensures ok { OnOk result (with_line group.old line.now ≡ Ok group.new) }
-    ensures fault { IfErr result (λ r. r ≢ Refusal.OutOfMemory → with_line group.old line.now ≡ Err r) }
+    ensures fault { IfErr result (λ r. ((r ≡ Refusal.OutOfMemory) × (length group.old < most_telegrams)) ⊎ (with_line group.old line.now ≡ Err r)) }
 {
     if group.count() >= 8 {
         return Err(Refusal::GroupSize);
@@ -65,6 +67,7 @@ fn read_telegram(
 ) -> Result<Option<PlanEnd>, RunFault>
     ensures ok { IfOk result (λ end. (plan : Plan) (g : ℕ) → telegram plan g group.old number line.now ≡ plan_read_as (InGroup plan g group.new) plan end) }
     ensures fault { IfErr result (λ e. e ≡ RunFault.OutOfMemory) }
+    ensures few { OnErr result (length group.old < most_telegrams) }
 {
     match add_telegram(alloc, group, line) {
         Ok(()) => Ok(None),
@@ -80,6 +83,16 @@ fn is_telegram(kind: PlanLine) -> bool
     match kind {
         PlanLine::FirstLine => true,
         PlanLine::TelegramLine => true,
+        _ => false,
+    }
+}
+
+// Whether the line begins a group.
+fn begins_group(kind: PlanLine) -> bool
+    ensures { result ≡ true → kind ≡ PlanLine.GroupLine }
+{
+    match kind {
+        PlanLine::GroupLine => true,
         _ => false,
     }
 }
@@ -133,7 +146,8 @@ impl PlanReader {
         }
     }
 
-    /// Reads the line of this number: the plan goes on after it, or ends there. Memory can run out in a group alone.
+    /// Reads the line of this number: the plan goes on after it, or ends there. Memory can run out in a group alone: for
+    /// a telegram that isn't a ninth, or for a group that has no fault and ends there.
     pub(crate) fn read(
         &mut self,
         alloc: Global,
@@ -141,7 +155,8 @@ impl PlanReader {
         line: &[u8],
     ) -> Result<Option<PlanEnd>, RunFault>
         ensures ok { IfOk result (λ end. read_line (plan_phase self.old) number line.now ≡ plan_read self.new end) }
-        ensures fault { IfErr result (FailsInGroup (plan_phase self.old)) }
+        ensures fault { IfErr result (λ e. e ≡ RunFault.OutOfMemory) }
+        ensures takes { OnErr result (LineMayRunOut (plan_phase self.old) (is_telegram (plan_line_of line.now))) }
     {
         let kind = read_plan_line(line);
         match &mut self.place {
@@ -152,7 +167,13 @@ impl PlanReader {
                     return read_telegram(alloc, group, number, line);
                 }
                 match self.plan.push(mem::replace(group, GroupReader::new(alloc))) {
-                    Ok(()) => Ok(self.read_between(alloc, number, kind, line)),
+                    Ok(()) => {
+                        if begins_group(kind) {
+                            *group_number = number;
+                            return Ok(None);
+                        }
+                        Ok(self.read_between(alloc, number, kind, line))
+                    }
                     Err(Refusal::OutOfMemory) => Err(RunFault::OutOfMemory),
                     Err(refusal) => Ok(Some(PlanEnd::Bad(*group_number, refusal))),
                 }
@@ -160,10 +181,12 @@ impl PlanReader {
         }
     }
 
-    /// The input ends here, before the commands: which line is named, and as what. Memory can run out in a group alone.
+    /// The input ends here, before the commands: which line is named, and as what. Memory can run out in a group
+    /// alone, for one that has no fault.
     pub(crate) fn end(&mut self, alloc: Global, number: u64) -> Result<(u64, Refusal), RunFault>
         ensures ok { IfOk result (λ bad. (flags : Flags) → at_end flags (plan_phase self.old) number ≡ after_read (Bad bad.0 bad.1)) }
-        ensures fault { IfErr result (FailsInGroup (plan_phase self.old)) }
+        ensures fault { IfErr result (λ e. e ≡ RunFault.OutOfMemory) }
+        ensures takes { OnErr result (EndMayRunOut (plan_phase self.old)) }
     {
         match &mut self.place {
             Place::First => Ok((number, Refusal::BadLine)),

@@ -1,7 +1,7 @@
 //! The run over all of an input: the plan, perhaps its journal, and the commands.
 
 ghost use Rattle.std.specs.Prelude.{◌≡◌, IfErr, IfOk, IsErrOf, OnErr, OnOk, false};
-ghost use Rattle.balise_cli.specs.Ends.{ComesToEnd, DidLines, NoneComplete, RunsOutOfMemory, WritesOutput, WritesSome, WritesStanding};
+ghost use Rattle.balise_cli.specs.Ends.{ComesToEnd, DidLines, FailsToWrite, NoneComplete, RunsOutOfMemory, WritesBeginning, WritesOutput, WritesSome, WritesStanding};
 ghost use Rattle.balise_cli.specs.Faults.{IsFault, Prints};
 ghost use Rattle.balise_cli.specs.Output.{Commands as AtCommands, Ended, Phase, TooLong};
 ghost use Rattle.balise_cli.specs.Phases.{journal_phase, plan_phase};
@@ -53,6 +53,8 @@ pub fn run<R: Read, W: Write>(
     ensures fault { IfErr result (IsFault reader.old.failed reader.new.failed writer.old.failed writer.new.failed) }
     ensures memory { IsErrOf result RunFault.OutOfMemory → DidLines flags (R.remaining reader.old.inner) (R.remaining reader.new.inner) (W.contents writer.old.inner) (W.contents writer.new.inner) (RunsOutOfMemory flags (R.remaining reader.new.inner)) }
     ensures complete { IsErrOf result RunFault.ReadFault → DidLines flags (R.remaining reader.old.inner) (R.remaining reader.new.inner) (W.contents writer.old.inner) (W.contents writer.new.inner) NoneComplete }
+    ensures full { IsErrOf result RunFault.WriteFault → DidLines flags (R.remaining reader.old.inner) (R.remaining reader.new.inner) (W.contents writer.old.inner) (W.contents writer.new.inner) (FailsToWrite flags (R.remaining reader.new.inner)) }
+    ensures begun { OnErr result (WritesBeginning flags (R.remaining reader.old.inner) (W.contents writer.old.inner) (W.contents writer.new.inner)) }
     ensures some { OnErr result (WritesSome flags (R.remaining reader.old.inner) (R.remaining reader.new.inner) (W.contents writer.old.inner) (W.contents writer.new.inner)) }
 {
     run_lines(alloc, flags, AtEnd::GiveBack, reader, writer)

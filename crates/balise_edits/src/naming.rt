@@ -12,7 +12,6 @@ ghost use Rattle.balise_telegram.specs.Packed.{links_at};
 ghost use Rattle.balise_edits.specs.Notes.{names_in as names_held};
 
 use crate::note::Names;
-use balise_layout::Elements;
 use balise_plan::{Group, PacketRef, Plan, Telegram};
 use balise_rules::{Id, NO_GROUP, Refusal, Tag, Var};
 use std::alloc::{AllocError, Global};
@@ -55,14 +54,25 @@ pub(crate) fn add_packet(
     if !packet.has_elements() {
         return Ok(());
     }
-    add_real(names, &packet.elements(country))
+    match packet.few_elements(country) {
+        Some(few) => add_real(names, few.as_slice()),
+        None => add_many(names, packet, country),
+    }
 }
 
-// Adds those of these that are of a group.
-fn add_real(names: &mut Vec<Id>, elements: &Elements) -> Result<(), AllocError>
-    ensures { OnOk result (names.new.items ≡ names.old.items ++ filter is_real elements.now) }
+// Adds the identities of a packet of any number of elements. Out of line, since `Elements` takes much of the stack.
+#[inline(never)]
+fn add_many(names: &mut Vec<Id>, packet: &PacketRef, country: u32) -> Result<(), AllocError>
+    ensures { OnOk result (names.new.items ≡ names.old.items ++ names_of country packet.now) }
 {
-    let identities = elements.as_slice();
+    let elements = packet.elements(country);
+    add_real(names, elements.as_slice())
+}
+
+// Adds those that are of a group: all but 16383.
+fn add_real(names: &mut Vec<Id>, identities: &[Id]) -> Result<(), AllocError>
+    ensures { OnOk result (names.new.items ≡ names.old.items ++ filter is_real identities.now) }
+{
     for k in 0..identities.len() {
         let id = identities[k];
         if id.number == NO_GROUP {

@@ -290,14 +290,14 @@ strike-wants p h next n serial e q k r o g s w t =
     (inl (t.0, subst (λ (x : Option Item). IsTrue (not (needs_no_memory x))) (sym f) (may-want (needs_no_memory (Some e.0)) w)), same-view p q h k next t.1 t.2)
 
 -- memory ran out before a later entry that depends on it was met
-pub strike-may-run-out : (p : Plan) (h : History) (next n serial : ℕ) (e : Entry) → HeldIn p h next → slice_get h.standing n ≡ Some e → e.0.0 ≡ serial → MayRunOut e (drop (suc n) h.standing) →
+pub strike-may-run-out : (p : Plan) (h : History) (next n serial : ℕ) (e : Entry) → HeldIn p h next → slice_get h.standing n ≡ Some e → e.0.0 ≡ serial → (needs_no_memory (Some e.0) ≡ true → false ≡ true) → MayRunOut e (drop (suc n) h.standing) →
     StrikeMayRunOut serial (back_along h.standing p.groups) (items_of h.standing)
-strike-may-run-out p h next n serial e o g s m =
+strike-may-run-out p h next n serial e o g s takes m =
     let base = back_along h.standing p.groups in
     let es = entries base (items_of h.standing) in
     let w = there base p.groups h.standing h.stack next n e o g in
     let q : later serial es ≡ drop (suc n) h.standing = ap (λ (k : ℕ). later k es) (sym s) ∙ w.later_are in
-    (e, (found-in p h next n serial e o g s, subst (MayRunOut e) (sym q) m))
+    (e, (found-in p h next n serial e o g s, may-want (needs_no_memory (Some e.0)) takes, subst (MayRunOut e) (sym q) m))
 
 -- the only refusal that is out of memory
 pub out-of-memory : {A : Type 0} (x : Refusal) → ◌≡◌ {A = Result A Refusal} (Err x) (Err OutOfMemory) → x ≡ OutOfMemory

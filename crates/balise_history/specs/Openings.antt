@@ -1,5 +1,5 @@
 -- What reading a journal answers.
-use Rattle.std.specs.Prelude.{◌≡◌, ◌⊎◌, ◌+◌, ◌<◌, ◌≤◌, ◌^◌, ◌&&◌, ℕ, nat_lt, Bool, List, length, map, take, Option, Some, None, is_none, Result, Ok, Err}
+use Rattle.std.specs.Prelude.{◌≡◌, ◌⊎◌, ◌+◌, ◌<◌, ◌≤◌, ◌^◌, ◌&&◌, ℕ, nat_lt, Bool, IsTrue, List, ◌∷◌, length, map, drop, take, Option, Some, None, is_none, Result, Ok, Err}
 use Rattle.balise_rules.specs.declared.refusal.Refusal.{Refusal}
 use Rattle.balise_rules.specs.declared.refusal.Refusal.TheVariants.{JournalMismatch, OutOfMemory}
 use Rattle.balise_rules.specs.Journal.{Line, Noted}
@@ -42,6 +42,10 @@ abbrev pub Enters : {A : Type 0} → Line → Edited → Result A Refusal → Ed
 Enters l s (Ok u) t = EntersOne l s t
 Enters l s (Err r) t = Mismatches r (with_entry (state_at 0 s) l) × ((t ≡ s) ⊎ ((r ≡ JournalMismatch) × ((n : Noted) × EntersOne (record l { noted = n }) s t)))
 
+-- an edit of this serial may come next in the session of a journal: nothing was struck, and it is above the last one and below the next
+abbrev pub MayComeNext : State → ℕ → Type 0
+MayComeNext s serial = IsTrue (is_none (top s.stack) && (nat_lt (last_serial s.standing) serial && nat_lt serial s.serial))
+
 -- what a session that is read from a journal stays within
 pub record IsOpening (e : Edited) : Type 0 where
   pub serials : e.serial ≤ 4000000000
@@ -63,8 +67,9 @@ abbrev pub ReadsUndone : ℕ → Seen → Result Seen Refusal → Type 0
 ReadsUndone serial s (Ok t) = FitsOne (with_undone s.state serial) s t
 ReadsUndone serial s (Err r) = Mismatches r (with_undone s.state serial)
 
--- it fails at this place; or memory ran out at a line, and those before it fit
+-- it fails at this place; or memory ran out at a line whose edit may come next, and those before it fit
 abbrev pub FailsAt : rules.Plan → ℕ → List Line → JournalFault → Type 0
 FailsAt plan next ls f =
-    ((f.refusal ≡ OutOfMemory) × ((n : ℕ) × ((s : State) × ((f.at ≡ Some n) × (n < length ls) × (◌≡◌ {A = Result State (Option ℕ)} (from_entries plan next (take n ls)) (Ok s))))))
+    ((f.refusal ≡ OutOfMemory) × ((n : ℕ) × ((s : State) × ((l : Line) × ((rest : List Line) × ((f.at ≡ Some n) × (drop n ls ≡ l ∷ rest) × MayComeNext s l.serial
+    × (◌≡◌ {A = Result State (Option ℕ)} (from_entries plan next (take n ls)) (Ok s))))))))
     ⊎ ((f.refusal ≡ JournalMismatch) × (◌≡◌ {A = Result State (Option ℕ)} (from_entries plan next ls) (Err f.at)))

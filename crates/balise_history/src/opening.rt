@@ -1,8 +1,9 @@
 //! A session read from a journal, line by line.
 
-ghost use Rattle.std.specs.Prelude.{◌≡◌, ◌<◌, ◌^◌, ℕ, None, Some, MatchResult};
+ghost use Rattle.std.specs.Prelude.{◌≡◌, ◌<◌, ◌^◌, ℕ, IsErrOf, None, Some, MatchResult};
 ghost use Rattle.balise_commands.specs.Lines.{line_in};
-ghost use Rattle.balise_history.specs.Openings.{ReadsEntry, ReadsUndone};
+ghost use Rattle.balise_history.specs.Openings.{MayComeNext, ReadsEntry, ReadsUndone};
+ghost use Rattle.balise_history.specs.Tests.{StrikeMayRunOut};
 ghost use Rattle.balise_rules.specs.Accepting.{Unused};
 ghost use Rattle.balise_rules.specs.Opening.{opened_at};
 ghost use Rattle.balise_rules.specs.Plan.{IsSound};
@@ -54,10 +55,12 @@ impl Opening {
     }
 
     /// With the edit of a line done, where it fits. Refused as `JournalMismatch` or `OutOfMemory`, and then it is
-    /// dropped: it may have done an edit that its journal doesn't describe.
+    /// dropped: it may have done an edit that its journal doesn't describe. Memory may run out only where the line's serial
+    /// may come next.
     #[inline]
     pub fn entry(mut self, line: Line) -> Result<Opening, Refusal>
-        ensures { ReadsEntry (line_in line) self result }
+        ensures reads { ReadsEntry (line_in line) self result }
+        ensures memory { IsErrOf result Refusal.OutOfMemory → MayComeNext self.state line.serial }
     {
         match self.edited.entry(line) {
             Ok(()) => Ok(self),
@@ -66,10 +69,11 @@ impl Opening {
     }
 
     /// With the edit of a serial struck, where all later ones are independent of it. Refused as `JournalMismatch` or
-    /// `OutOfMemory`, and then it is dropped.
+    /// `OutOfMemory`, and then it is dropped. Memory may run out as in `Session::strike`.
     #[inline]
     pub fn undone(mut self, serial: u32) -> Result<Opening, Refusal>
-        ensures { ReadsUndone serial self result }
+        ensures reads { ReadsUndone serial self result }
+        ensures memory { IsErrOf result Refusal.OutOfMemory → StrikeMayRunOut serial self.state.base self.state.standing }
     {
         match self.edited.strike(serial) {
             Ok(_) => Ok(self),

@@ -4,10 +4,11 @@ ghost use Rattle.std.specs.Prelude.{◌≡◌, ◌≢◌, ◌+◌, ◌<◌, ◌�
 ghost use Rattle.balise_commands.specs.Lines.{line_in};
 ghost use Rattle.balise_commands.specs.Commands.{command_of};
 ghost use Rattle.balise_history.specs.Openings.{FailsAt};
+ghost use Rattle.balise_history.specs.Returned.{bare};
 ghost use Rattle.balise_history.specs.Sessions.{reply_of, ChangesOnce, IsWorn};
 ghost use Rattle.balise_history.specs.Tests.{StrikeMayRunOut};
 ghost use Rattle.balise_rules.specs.Accepting.{Unused};
-ghost use Rattle.balise_rules.specs.Journal.{line_of, lines, undone};
+ghost use Rattle.balise_rules.specs.Journal.{all_back, line_of, lines, undone};
 ghost use Rattle.balise_rules.specs.Opening.{from_entries};
 ghost use Rattle.balise_rules.specs.Plan.{IsSound};
 ghost use Rattle.balise_rules.specs.Session.{entries, held, later, most_commands, opened, Answers};
@@ -226,8 +227,10 @@ impl Session {
     }
 
     /// The edits that its journal says: those that would stand if all that was undone or struck were done again, with
-    /// the anchors and notes that they would have; of a note, as much as its line says. Refused only as `OutOfMemory`.
+    /// the anchors and notes that they would have, but for the content that they would take out. Refused only as
+    /// `OutOfMemory`.
     pub fn all_back(&self) -> Result<Vec<Entry>, Refusal>
+        ensures entries { IfOk result (λ v. map bare v.items ≡ map bare (entries self.now.state.base (all_back self.now.state.stack self.now.state.standing))) }
         ensures ok { IfOk result (λ v. map line_of v.items ≡ lines self.now.state) }
         ensures fault { IsOkUnless result Refusal.OutOfMemory }
     {

@@ -1,6 +1,7 @@
 pub mod Added
 pub mod Equal
 pub mod PutIn
+pub mod Right
 pub mod Slots
 pub mod Taken
 pub mod TakenOut

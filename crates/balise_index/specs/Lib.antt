@@ -1,5 +1,6 @@
 pub mod AtSpot
 pub mod Blocks
+pub mod Cells
 pub mod Identities
 pub mod IdentityMap
 pub mod InOrder

@@ -1,6 +1,7 @@
 -- Identities in four bytes, each beside its value.
-use Rattle.std.specs.Prelude.{List, [], ◌∷◌}
+use Rattle.std.specs.Prelude.{ℕ, Bool, false, cond, List, [], ◌∷◌, Option, None, Some, slice_get}
 use Rattle.balise_rules.specs.declared.identity.Id.{Id}
+use Rattle.balise_rules.specs.Tags.{same_id}
 use Rattle.balise_index.specs.declared.identity_map.narrow.Narrow.{Narrow}
 
 -- the identity that a narrow one stands for
@@ -12,3 +13,13 @@ abbrev pub slots_of : {V : Type 0} → List Narrow → List V → List (Id × V)
 slots_of [] vs = []
 slots_of (n ∷ ns) [] = []
 slots_of (n ∷ ns) (v ∷ vs) = (wide n, v) ∷ slots_of ns vs
+
+-- whether this is an identity
+abbrev pub is_wide : Option Narrow → Id → Bool
+is_wide None q = false
+is_wide (Some n) q = same_id (wide n) q
+
+-- what a cell says of an identity, if the slot that it names has it
+abbrev pub right_cell : List Narrow → Option ℕ → Id → Option ℕ
+right_cell ns None q = None
+right_cell ns (Some i) q = cond (is_wide (slice_get ns i) q) (Some i) None

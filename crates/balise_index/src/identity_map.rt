@@ -1,5 +1,6 @@
 //! Values under identities.
 
+mod cells;
 mod narrow;
 mod rows;
 
@@ -13,8 +14,8 @@ ghost use Rattle.balise_index.specs.IdentityMap.{IsPlaced};
 ghost use Rattle.balise_index.specs.LentValue.{lends_value};
 
 use balise_rules::Id;
-use narrow::Narrow;
-use rows::{cell, make_cell, set_cell};
+use cells::Cells;
+use narrow::{Narrow, right_cell};
 use std::alloc::{AllocError, Global};
 use std::marker::Model;
 
@@ -25,11 +26,12 @@ pub struct IdentityMap<V> {
     // The identity of each slot, and its value. As two lists they need no padding.
     ids: Vec<Narrow>,
     values: Vec<V>,
-    rows: Vec<Vec<u32>>,
+    cells: Cells,
 }
 
 impl<V> Model for IdentityMap<V> {
     ghost use Rattle.std.specs.Prelude.{◌≡◌, length};
+    ghost use Rattle.balise_index.specs.Cells.{cell_of};
     ghost use Rattle.balise_index.specs.IdentityMap.{IsPlaced};
     ghost use Rattle.balise_index.specs.Identities.{IndexOf};
     ghost use Rattle.balise_index.specs.Narrow.{slots_of};
@@ -38,7 +40,7 @@ impl<V> Model for IdentityMap<V> {
 
     ghost view = { λ m. slots_of m.ids.items m.values.items };
 
-    ghost invariant = { λ m. (length m.ids.items ≡ length m.values.items) × IsPlaced (slots_of m.ids.items m.values.items) m.rows.items };
+    ghost invariant = { λ m. (length m.ids.items ≡ length m.values.items) × IsPlaced (slots_of m.ids.items m.values.items) (cell_of m.cells) };
 }
 
 impl<V> IdentityMap<V> {
@@ -49,7 +51,7 @@ impl<V> IdentityMap<V> {
         IdentityMap {
             ids: Vec::new(alloc),
             values: Vec::new(alloc),
-            rows: Vec::new(alloc),
+            cells: Cells::new(alloc),
         }
     }
 
@@ -73,23 +75,20 @@ impl<V> IdentityMap<V> {
     fn place(&self, id: Id) -> usize
         ensures { slice_get self.now result ≡ option_map (λ v. (id, v)) (indexed self.now id) }
     {
-        let Some(i) = cell(&self.rows, id) else {
-            return self.ids.len();
-        };
-        let Some(held) = self.ids.get(i as usize) else {
-            return self.ids.len();
-        };
-        if held.wide() == id {
-            i as usize
-        } else {
-            self.ids.len()
+        if let Some(i) = right_cell(&self.ids, self.cells.near(id), id) {
+            return i as usize;
+        }
+        match right_cell(&self.ids, self.cells.far(id), id) {
+            Some(i) => i as usize,
+            None => self.ids.len(),
         }
     }
 }
 
 impl<V: Drop> IdentityMap<V> {
-    /// Puts a value in under an identity that has none. Leaves all as before if an allocation fails, and if the country or
-    /// the number is above 65,535. No telegram has such an identity: the standard has 10 and 14 bits for them.
+    /// Puts a value in under an identity that has none. Leaves all as before if an allocation fails, if the country or the
+    /// number is above 65,535, and at 4,294,967,295 identities. No telegram has such an identity, and no plan so many: the
+    /// standard has 10 and 14 bits for them.
     pub fn insert(&mut self, id: Id, value: V) -> Result<(), AllocError>
         requires { indexed self.old id ≡ None }
         ensures updates { OnOk result (Updates self.old self.new id (Some value)) }
@@ -104,8 +103,7 @@ impl<V: Drop> IdentityMap<V> {
         }
         self.ids.reserve(1)?;
         self.values.reserve(1)?;
-        make_cell(&mut self.rows, id)?;
-        set_cell(&mut self.rows, id, i as u32);
+        self.cells.note(id, i as u32)?;
         let _ = self.ids.push(narrow);
         let _ = self.values.push(value);
         Ok(())
@@ -120,10 +118,11 @@ impl<V: Drop> IdentityMap<V> {
         if i >= self.ids.len() {
             return None;
         }
+        self.cells.forget(id);
         let _ = self.ids.swap_remove(i);
         let value = self.values.swap_remove(i);
         if i < self.ids.len() {
-            set_cell(&mut self.rows, self.ids[i].wide(), i as u32);
+            self.cells.set(self.ids[i].wide(), i as u32);
         }
         Some(value)
     }

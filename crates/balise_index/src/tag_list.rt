@@ -78,7 +78,7 @@ impl TagList {
         Some(block.tags[i - block.start])
     }
 
-    /// Takes memory for one more.
+    /// Takes memory for one more. At 2^62 tags it fails and asks for none.
     pub(crate) fn reserve(&mut self) -> Result<(), AllocError>
         ensures items { self.new.items ≡ self.old.items }
         ensures room { OnOk result (1 ≤ self.new.room) }

@@ -1,6 +1,7 @@
 //! The tests, by topic.
 
 mod blocks;
+mod far_identities;
 mod identities;
 mod link_orders;
 mod links;

@@ -1,5 +1,6 @@
 -- The identities found along the fields of a packet are those of its elements.
-use Rattle.std.proofs.Common.{◌≡◌, ℕ, suc, ◌+◌, ◌-◌, ◌≤◌, Bool, true, false, cond, List, [], ◌∷◌, ◌++◌, length, take, refl, sym, ap, subst, ◌∙◌, append_assoc, length-append, arith}
+use Rattle.std.proofs.Common.{◌≡◌, ◌⊎◌, inl, inr, ℕ, suc, ◌+◌, ◌-◌, ◌<◌, ◌≤◌, Bool, true, false, cond, not, ◌||◌, ltb, List, [], ◌∷◌, ◌++◌, length, take, refl, sym, ap, subst, ◌∙◌, append_assoc, length-append, arith}
+use Rattle.std.proofs.lemmas.Bool.{ltb-false}
 use Rattle.std.proofs.lemmas.List.{append-nil}
 use Rattle.balise_rules.specs.declared.variable.Var.{Var}
 use Rattle.balise_rules.specs.declared.variable.Var.TheVariants.{NidC, NidBg}
@@ -12,7 +13,7 @@ use Rattle.balise_rules.specs.Names.{country_at, links_among, links_of}
 use Rattle.balise_rules.proofs.Tests.{test-sym, var_test, key_test, equal_yes}
 use Rattle.balise_rules.proofs.Keys.{count-more, count_grows}
 use Rattle.balise_layout.specs.Walks.{kept}
-use Rattle.balise_layout.specs.Linked.{link, most_elements}
+use Rattle.balise_layout.specs.Linked.{few, link, link_few, most_elements}
 use Rattle.std.proofs.lemmas.List.{take_all}
 
 -- the step without a limit
@@ -134,3 +135,85 @@ kept_all s n (f ∷ fs) h = at (same_var f.0.0 NidC) (same_var f.0.0 NidBg) refl
 -- along a whole packet
 pub links_found : (c n : ℕ) (p : Packet) → Numbered p.fields → count_of NidBg p.fields ≤ most_elements → (kept link (c, []) n p.fields).1 ≡ links_of c p
 links_found c n p m few = ap (λ (x : ℕ × List Id). x.1) (kept_all (c, []) n p.fields (omega (arith, few))) ∙ links_from c n [] p.fields [] m (λ k h. tt)
+
+-- ---- the first few
+
+-- where there were no more than a few, they are all
+few_all : (s : ℕ × List Id × Bool) (n : ℕ) (fs : Fields) → (kept link_few s n fs).2 ≡ false → (s.2 ≡ false) × ((kept link_few s n fs).1 ≡ (kept link_all (s.0, s.1) n fs).1)
+few_all s n [] h = (h, refl)
+few_all s n (f ∷ fs) h = at (same_var f.0.0 NidC) (same_var f.0.0 NidBg) (λ (x : ℕ × List Id × Bool). few_all x (n - width_of f.0.0) fs) h
+  where
+    more : List Id
+    more = s.1 ++ record { country = s.0; number = f.1 } ∷ []
+
+    or_no : (b : Bool) → (b || false) ≡ false → b ≡ false
+    or_no true e = e
+    or_no false e = refl
+
+    or_yes : (b : Bool) → (b || true) ≡ false → ⊥
+    or_yes true e = cc
+    or_yes false e = cc
+
+    two : (l : Bool) → ((x : ℕ × List Id × Bool) → (kept link_few x (n - width_of f.0.0) fs).2 ≡ false → (x.2 ≡ false) × ((kept link_few x (n - width_of f.0.0) fs).1 ≡ (kept link_all (x.0, x.1) (n - width_of f.0.0) fs).1))
+        → (kept link_few (s.0, cond l more s.1, s.2 || not l) (n - width_of f.0.0) fs).2 ≡ false → (s.2 ≡ false) × ((kept link_few (s.0, cond l more s.1, s.2 || not l) (n - width_of f.0.0) fs).1 ≡ (kept link_all (s.0, more) (n - width_of f.0.0) fs).1)
+    two true rest e = let r = rest (s.0, more, s.2 || false) e in (or_no s.2 r.0, r.1)
+    two false rest e = let r = rest (s.0, s.1, s.2 || true) e in absurd (or_yes s.2 r.0)
+
+    at : (a b : Bool) → ((x : ℕ × List Id × Bool) → (kept link_few x (n - width_of f.0.0) fs).2 ≡ false → (x.2 ≡ false) × ((kept link_few x (n - width_of f.0.0) fs).1 ≡ (kept link_all (x.0, x.1) (n - width_of f.0.0) fs).1))
+        → (kept link_few (cond a (f.1, s.1, s.2) (cond b (s.0, cond (ltb (length s.1) few) more s.1, s.2 || not (ltb (length s.1) few)) s)) (n - width_of f.0.0) fs).2 ≡ false
+        → (s.2 ≡ false) × ((kept link_few (cond a (f.1, s.1, s.2) (cond b (s.0, cond (ltb (length s.1) few) more s.1, s.2 || not (ltb (length s.1) few)) s)) (n - width_of f.0.0) fs).1 ≡ (kept link_all (cond a (f.1, s.1) (cond b (s.0, more) (s.0, s.1))) (n - width_of f.0.0) fs).1)
+    at true b rest e = rest (f.1, s.1, s.2) e
+    at false true rest e = two (ltb (length s.1) few) rest e
+    at false false rest e = rest s e
+
+-- what was found stays
+found_stays : (s : ℕ × List Id) (n : ℕ) (fs : Fields) → length s.1 ≤ length (kept link_all s n fs).1
+found_stays s n [] = omega arith
+found_stays s n (f ∷ fs) = at (same_var f.0.0 NidC) (same_var f.0.0 NidBg) (λ (x : ℕ × List Id). found_stays x (n - width_of f.0.0) fs)
+  where
+    more : List Id
+    more = s.1 ++ record { country = s.0; number = f.1 } ∷ []
+
+    at : (a b : Bool) → ((x : ℕ × List Id) → length x.1 ≤ length (kept link_all x (n - width_of f.0.0) fs).1) → length s.1 ≤ length (kept link_all (cond a (f.1, s.1) (cond b (s.0, more) s)) (n - width_of f.0.0) fs).1
+    at true b rest = rest (f.1, s.1)
+    at false true rest = let r : length more ≤ _ = rest (s.0, more) in let size : length more ≡ length s.1 + 1 = length-append s.1 (record { country = s.0; number = f.1 } ∷ []) in omega (arith, r, size)
+    at false false rest = rest s
+
+-- where there were more than a few, they are more
+more_all : (s : ℕ × List Id × Bool) (n : ℕ) (fs : Fields) → (kept link_few s n fs).2 ≡ true → (s.2 ≡ true) ⊎ (few < length (kept link_all (s.0, s.1) n fs).1)
+more_all s n [] h = inl h
+more_all s n (f ∷ fs) h = at (same_var f.0.0 NidC) (same_var f.0.0 NidBg) (λ (x : ℕ × List Id × Bool). more_all x (n - width_of f.0.0) fs) h
+  where
+    more : List Id
+    more = s.1 ++ record { country = s.0; number = f.1 } ∷ []
+
+    or_yes : (b : Bool) → (b || false) ≡ true → b ≡ true
+    or_yes true e = refl
+    or_yes false e = e
+
+    two : (l : Bool) → ltb (length s.1) few ≡ l → ((x : ℕ × List Id × Bool) → (kept link_few x (n - width_of f.0.0) fs).2 ≡ true → (x.2 ≡ true) ⊎ (few < length (kept link_all (x.0, x.1) (n - width_of f.0.0) fs).1))
+        → (kept link_few (s.0, cond l more s.1, s.2 || not l) (n - width_of f.0.0) fs).2 ≡ true → (s.2 ≡ true) ⊎ (few < length (kept link_all (s.0, more) (n - width_of f.0.0) fs).1)
+    two true room rest e = elim (rest (s.0, more, s.2 || false) e) [
+      | inl o ↦ inl (or_yes s.2 o)
+      | inr m ↦ inr m
+    ]
+    two false room rest e =
+        let full : few ≤ length s.1 = ltb-false _ _ room in
+        let size : length more ≡ length s.1 + 1 = length-append s.1 (record { country = s.0; number = f.1 } ∷ []) in
+        inr (omega (arith, full, size, found_stays (s.0, more) (n - width_of f.0.0) fs))
+
+    at : (a b : Bool) → ((x : ℕ × List Id × Bool) → (kept link_few x (n - width_of f.0.0) fs).2 ≡ true → (x.2 ≡ true) ⊎ (few < length (kept link_all (x.0, x.1) (n - width_of f.0.0) fs).1))
+        → (kept link_few (cond a (f.1, s.1, s.2) (cond b (s.0, cond (ltb (length s.1) few) more s.1, s.2 || not (ltb (length s.1) few)) s)) (n - width_of f.0.0) fs).2 ≡ true
+        → (s.2 ≡ true) ⊎ (few < length (kept link_all (cond a (f.1, s.1) (cond b (s.0, more) (s.0, s.1))) (n - width_of f.0.0) fs).1)
+    at true b rest e = rest (f.1, s.1, s.2) e
+    at false true rest e = two (ltb (length s.1) few) refl rest e
+    at false false rest e = rest s e
+
+pub few_found : (c n : ℕ) (p : Packet) → Numbered p.fields → (kept link_few (c, [], false) n p.fields).2 ≡ false → (kept link_few (c, [], false) n p.fields).1 ≡ links_of c p
+few_found c n p m e = (few_all (c, [], false) n p.fields e).1 ∙ links_from c n [] p.fields [] m (λ k h. tt)
+
+pub more_found : (c n : ℕ) (p : Packet) → Numbered p.fields → (kept link_few (c, [], false) n p.fields).2 ≡ true → few < length (links_of c p)
+more_found c n p m e = elim (more_all (c, [], false) n p.fields e) [
+  | inl none ↦ absurd cc
+  | inr more ↦ subst (λ (l : List Id). few < length l) (links_from c n [] p.fields [] m (λ k h. tt)) more
+]

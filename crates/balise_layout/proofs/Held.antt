@@ -33,9 +33,9 @@ pub held_read : (next : ℕ → Form) (b : List Bool) (p : Packet) → IsHeld ne
 held_read next b p h e = read_holds next b (held next b) h ∙ ap (λ (q : Packet). Some (q.fields, q.rest)) (sym e)
 
 -- bits that could not be gone over are no packet
-pub walked_none : {A : Type 0} (step : A → ℕ → Var → ℕ → A) (form : Form) (a : A) (b : List Bool) (e : LayoutFault) → walk step form (a, b) ≡ Err e → (e ≡ LayoutMismatch) × (read_form form [] b ≡ None)
-walked_none step form a b e h =
-    (walk_fault step form a b e h, read_form_is form [] b ∙ ap found_or_none (walk_fails step collect form a [] b e h))
+pub walked_none : {A : Type 0} (step : A → ℕ → Var → ℕ → A) (form : Form) (a : A) (b : List Bool) (e : LayoutFault) (y : A × List Bool) → walk step form (a, b) ≡ Err (e, y) → (e ≡ LayoutMismatch) × (read_form form [] b ≡ None)
+walked_none step form a b e y h =
+    (walk_fault step form a b e y h, read_form_is form [] b ∙ ap found_or_none (walk_fails step collect form a [] b e y h).1)
 
 -- ---- going over a packet
 
@@ -48,10 +48,10 @@ pub visited : {A : Type 0} (step : A → ℕ → Var → ℕ → A) (next : ℕ 
 visited {A = A} step next a b p old after h start e =
     ap (λ (x : A × List Bool). x.0) (unok (sym e ∙ walk_is step next a b p old h start))
 
-pub not_stuck : {A : Type 0} (step : A → ℕ → Var → ℕ → A) (next : ℕ → Form) (a : A) (b : List Bool) (p : Packet) (old : A × List Bool) (e : LayoutFault) → Holds next b p → old ≡ (a, b) → walk step (headed next) old ≡ Err e → ⊥
-not_stuck {A = A} step next a b p old e h start is = differ (kept step a (width p) p.fields, p.rest) e (sym (walk_is step next a b p old h start) ∙ is)
+pub not_stuck : {A : Type 0} (step : A → ℕ → Var → ℕ → A) (next : ℕ → Form) (a : A) (b : List Bool) (p : Packet) (old : A × List Bool) (e : LayoutFault) (y : A × List Bool) → Holds next b p → old ≡ (a, b) → walk step (headed next) old ≡ Err (e, y) → ⊥
+not_stuck {A = A} step next a b p old e y h start is = differ (kept step a (width p) p.fields, p.rest) (e, y) (sym (walk_is step next a b p old h start) ∙ is)
   where
-    differ : (x : A × List Bool) (e : LayoutFault) → good x ≡ Err e → ⊥
+    differ : (x : A × List Bool) (e : LayoutFault × (A × List Bool)) → good x ≡ Err e → ⊥
     differ x e k = cc
 
 -- ---- putting a value

@@ -13,7 +13,7 @@ use Rattle.balise_layout.specs.declared.fault.LayoutFault.{LayoutFault}
 use Rattle.balise_layout.specs.declared.fault.LayoutFault.TheVariants.{LayoutMismatch}
 use Rattle.balise_layout.specs.Walks.{walk, kept, collect}
 
-abbrev pub good : {X : Type 0} → X → Result X LayoutFault
+abbrev pub good : {X : Type 0} → X → Result X (LayoutFault × X)
 good s = Ok s
 
 -- a value fits as a number and as a test
@@ -81,35 +81,46 @@ walk_found {A = A} before step (valued v next) a b after e =
       numbered = (refl, more.numbered);
     }
 
--- a fault does not hang on what is kept
-pub walk_fails : {A B : Type 0} (s : A → ℕ → Var → ℕ → A) (t : B → ℕ → Var → ℕ → B) (form : Form) (a : A) (x : B) (b : List Bool) (e : LayoutFault) → walk s form (a, b) ≡ Err e → walk t form (x, b) ≡ Err e
-unfolding walk
-walk_fails {A = A} {B = B} s t done a x b e h = absurd cc
-walk_fails {A = A} {B = B} s t shut a x [] e h = absurd cc
-walk_fails {A = A} {B = B} s t shut a x (b ∷ bs) e h = cc
-walk_fails {A = A} {B = B} s t never a x b e h = cc
-walk_fails {A = A} {B = B} s t (valued v next) a x b e h =
-    let n = num (take (width_of v) b) in
-    both (ltb (length b) (width_of v)) _ _ h (walk_fails s t (next n) (s a (length b) v n) (t x (length b) v n) (drop (width_of v) b) e)
+-- the fault of a walk that fails
+fault_is : {A : Type 0} (d e : LayoutFault) (x y : A) → ◌≡◌ {A = Result A (LayoutFault × A)} (Err (d, x)) (Err (e, y)) → d ≡ e
+fault_is {A = A} d e x y h = ap fault_of h
   where
-    both : (g : Bool) (y : Result (A × List Bool) LayoutFault) (z : Result (B × List Bool) LayoutFault) → cond g (Err LayoutMismatch) y ≡ Err e → (y ≡ Err e → z ≡ Err e) → cond g (Err LayoutMismatch) z ≡ Err e
-    both true y z h k = cc
-    both false y z h k = k h
+    fault_of : Result A (LayoutFault × A) → LayoutFault
+    fault_of (Ok r) = d
+    fault_of (Err r) = r.0
+
+fails_so : {B : Type 0} (d e : LayoutFault) (z : B) → d ≡ e → ◌≡◌ {A = Result B (LayoutFault × B)} (Err (d, z)) (Err (e, z))
+fails_so {B = B} d e z h = ap (λ (f : LayoutFault). Err (f, z)) h
+
+-- a fault does not hang on what is kept
+pub walk_fails : {A B : Type 0} (s : A → ℕ → Var → ℕ → A) (t : B → ℕ → Var → ℕ → B) (form : Form) (a : A) (x : B) (b : List Bool) (e : LayoutFault) (y : A × List Bool) → walk s form (a, b) ≡ Err (e, y) → (z : B × List Bool) × (walk t form (x, b) ≡ Err (e, z))
+unfolding walk
+walk_fails {A = A} {B = B} s t done a x b e y h = absurd cc
+walk_fails {A = A} {B = B} s t shut a x [] e y h = absurd cc
+walk_fails {A = A} {B = B} s t shut a x (b ∷ bs) e y h = ((x, b ∷ bs), fails_so LayoutMismatch e (x, b ∷ bs) (fault_is LayoutMismatch e (a, b ∷ bs) y h))
+walk_fails {A = A} {B = B} s t never a x b e y h = ((x, b), fails_so LayoutMismatch e (x, b) (fault_is LayoutMismatch e (a, b) y h))
+walk_fails {A = A} {B = B} s t (valued v next) a x b e y h =
+    let n = num (take (width_of v) b) in
+    both (ltb (length b) (width_of v)) _ _ h (walk_fails s t (next n) (s a (length b) v n) (t x (length b) v n) (drop (width_of v) b) e y)
+  where
+    both : (g : Bool) (r : Result (A × List Bool) (LayoutFault × (A × List Bool))) (q : Result (B × List Bool) (LayoutFault × (B × List Bool))) → cond g (Err (LayoutMismatch, (a, b))) r ≡ Err (e, y) → (r ≡ Err (e, y) → (z : B × List Bool) × (q ≡ Err (e, z))) → (z : B × List Bool) × (cond g (Err (LayoutMismatch, (x, b))) q ≡ Err (e, z))
+    both true r q h k = ((x, b), fails_so LayoutMismatch e (x, b) (fault_is LayoutMismatch e (a, b) y h))
+    both false r q h k = k h
 
 -- the one fault of a walk
-pub walk_fault : {A : Type 0} (step : A → ℕ → Var → ℕ → A) (form : Form) (a : A) (b : List Bool) (e : LayoutFault) → walk step form (a, b) ≡ Err e → e ≡ LayoutMismatch
+pub walk_fault : {A : Type 0} (step : A → ℕ → Var → ℕ → A) (form : Form) (a : A) (b : List Bool) (e : LayoutFault) (y : A × List Bool) → walk step form (a, b) ≡ Err (e, y) → e ≡ LayoutMismatch
 unfolding walk
-walk_fault {A = A} step done a b e h = absurd cc
-walk_fault {A = A} step shut a [] e h = absurd cc
-walk_fault {A = A} step shut a (b ∷ bs) e h = cc
-walk_fault {A = A} step never a b e h = cc
-walk_fault {A = A} step (valued v next) a b e h =
+walk_fault {A = A} step done a b e y h = absurd cc
+walk_fault {A = A} step shut a [] e y h = absurd cc
+walk_fault {A = A} step shut a (b ∷ bs) e y h = sym (fault_is LayoutMismatch e (a, b ∷ bs) y h)
+walk_fault {A = A} step never a b e y h = sym (fault_is LayoutMismatch e (a, b) y h)
+walk_fault {A = A} step (valued v next) a b e y h =
     let n = num (take (width_of v) b) in
-    one (ltb (length b) (width_of v)) _ h (walk_fault step (next n) (step a (length b) v n) (drop (width_of v) b) e)
+    one (ltb (length b) (width_of v)) _ h (walk_fault step (next n) (step a (length b) v n) (drop (width_of v) b) e y)
   where
-    one : (g : Bool) (y : Result (A × List Bool) LayoutFault) → cond g (Err LayoutMismatch) y ≡ Err e → (y ≡ Err e → e ≡ LayoutMismatch) → e ≡ LayoutMismatch
-    one true y h k = cc
-    one false y h k = k h
+    one : (g : Bool) (r : Result (A × List Bool) (LayoutFault × (A × List Bool))) → cond g (Err (LayoutMismatch, (a, b))) r ≡ Err (e, y) → (r ≡ Err (e, y) → e ≡ LayoutMismatch) → e ≡ LayoutMismatch
+    one true r h k = sym (fault_is LayoutMismatch e (a, b) y h)
+    one false r h k = k h
 
 -- what was collected is the fields
 pub kept_collect : (fs gs : Fields) (n : ℕ) → NumberedFrom fs gs → kept collect fs n gs ≡ fs ++ gs
@@ -120,7 +131,7 @@ kept_collect fs (g ∷ gs) n m =
 
 -- ---- reading, as the definitions say it
 
-abbrev pub found_or_none : Result (Fields × List Bool) LayoutFault → Option (Fields × List Bool)
+abbrev pub found_or_none : Result (Fields × List Bool) (LayoutFault × (Fields × List Bool)) → Option (Fields × List Bool)
 found_or_none (Ok r) = Some r
 found_or_none (Err e) = None
 
@@ -134,7 +145,7 @@ read_form_is (valued v next) fs b =
     let n = num (take (width_of v) b) in
     same (ltb (length b) (width_of v)) _ _ (read_form_is (next n) (fs ++ ((v, count_of v fs), n) ∷ []) (drop (width_of v) b))
   where
-    same : (g : Bool) (x : Option (Fields × List Bool)) (y : Result (Fields × List Bool) LayoutFault) → x ≡ found_or_none y → cond g None x ≡ found_or_none (cond g (Err LayoutMismatch) y)
+    same : (g : Bool) (x : Option (Fields × List Bool)) (y : Result (Fields × List Bool) (LayoutFault × (Fields × List Bool))) → x ≡ found_or_none y → cond g None x ≡ found_or_none (cond g (Err (LayoutMismatch, (fs, b))) y)
     same true x y e = refl
     same false x y e = e
 
@@ -152,11 +163,11 @@ walk_step step v next a b bs at end w n wide within long value new =
     let back : drop w whole ≡ take (end - (at + w)) (drop (at + w) bs) = ap (λ (k : ℕ). drop w (take k (drop at bs))) parts ∙ drop-take w (end - (at + w)) (drop at bs) ∙ ap (λ (l : List Bool). take (end - (at + w)) l) (drop-drop w at bs) in
     rw (size, enough, ← wide, front, back, ← value, ← new) refl
 
-pub walk_short : {A : Type 0} (step : A → ℕ → Var → ℕ → A) (v : Var) (next : ℕ → Form) (s : A × List Bool) → length s.1 < width_of v → walk step (valued v next) s ≡ Err LayoutMismatch
+pub walk_short : {A : Type 0} (step : A → ℕ → Var → ℕ → A) (v : Var) (next : ℕ → Form) (s : A × List Bool) → length s.1 < width_of v → walk step (valued v next) s ≡ Err (LayoutMismatch, s)
 unfolding walk
 walk_short step v next s h = let short : ltb (length s.1) (width_of v) ≡ true = grind (arith) in rw short refl
 
-pub walk_never : {A : Type 0} (step : A → ℕ → Var → ℕ → A) (s : A × List Bool) → walk step never s ≡ Err LayoutMismatch
+pub walk_never : {A : Type 0} (step : A → ℕ → Var → ℕ → A) (s : A × List Bool) → walk step never s ≡ Err (LayoutMismatch, s)
 unfolding walk
 walk_never step s = refl
 
@@ -165,7 +176,7 @@ unfolding walk
 walk_shut step a [] e = refl
 walk_shut step a (b ∷ bs) e = absurd cc
 
-pub walk_open : {A : Type 0} (step : A → ℕ → Var → ℕ → A) (a : A) (b : List Bool) → 0 < length b → walk step shut (a, b) ≡ Err LayoutMismatch
+pub walk_open : {A : Type 0} (step : A → ℕ → Var → ℕ → A) (a : A) (b : List Bool) → 0 < length b → walk step shut (a, b) ≡ Err (LayoutMismatch, (a, b))
 unfolding walk
 walk_open step a [] e = absurd (omega arith)
 walk_open step a (b ∷ bs) e = refl

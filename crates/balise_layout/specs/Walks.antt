@@ -7,14 +7,14 @@ use Rattle.balise_rules.specs.Forms.{Form, done, shut, never, valued, Fields, co
 use Rattle.balise_layout.specs.declared.fault.LayoutFault.{LayoutFault}
 use Rattle.balise_layout.specs.declared.fault.LayoutFault.TheVariants.{LayoutMismatch}
 
--- what was kept so far and the bits that are left go on to those at the end of the form
-unfoldable pub walk : {A : Type 0} → (A → ℕ → Var → ℕ → A) → Form → A × List Bool → Result (A × List Bool) LayoutFault
+-- what was kept so far and the bits that are left go on to those at the end of the form, or to those at the first fault
+unfoldable pub walk : {A : Type 0} → (A → ℕ → Var → ℕ → A) → Form → A × List Bool → Result (A × List Bool) (LayoutFault × (A × List Bool))
 walk step done s = Ok s
 walk step shut (a, []) = Ok (a, [])
-walk step shut (a, b ∷ bs) = Err LayoutMismatch
-walk step never s = Err LayoutMismatch
+walk step shut (a, b ∷ bs) = Err (LayoutMismatch, (a, b ∷ bs))
+walk step never s = Err (LayoutMismatch, s)
 walk step (valued v next) s =
-    if nat_lt (length s.1) (width_of v) then Err LayoutMismatch
+    if nat_lt (length s.1) (width_of v) then Err (LayoutMismatch, s)
     else walk step (next (num (take (width_of v) s.1))) (step s.0 (length s.1) v (num (take (width_of v) s.1)), drop (width_of v) s.1)
 
 -- what is kept of fields, where `left` bits stand from the first of them on

@@ -10,6 +10,7 @@ use crate::fault::LayoutFault;
 use balise_bits::Bits;
 
 /// The packet's number and the place after it, or the first fault that its first 23 bits show.
+#[inline(always)]
 pub fn bounds(bits: &Bits, at: usize) -> Result<(u32, usize), LayoutFault>
     ensures { MatchResult result (λ r. (at ≤ r.1) × (r.1 ≤ length bits.now) × Bounded (drop at bits.now) r.0 (r.1 - at)) (λ e. (e ≢ OutOfMemory) × ((version : ℕ) → read_first version (drop at bits.now) ≡ Err (refusal_of e))) }
 {

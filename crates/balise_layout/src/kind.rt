@@ -1,6 +1,6 @@
 //! The kinds of packets: the known ones, and those that are kept bit for bit.
 
-ghost use Rattle.std.specs.Prelude.{◌≡◌, false, is_some};
+ghost use Rattle.std.specs.Prelude.{◌≡◌, ◌⊎◌, Some, false, is_some, true};
 ghost use Rattle.balise_rules.specs.Packets.{is_known};
 ghost use Rattle.balise_layout.specs.Reading.{Ends};
 ghost use Rattle.balise_layout.specs.Held.{headed};
@@ -13,8 +13,7 @@ use crate::tables::{
     GradientProfile, InfillLocation, LevelTransition, Linking, Opaque, Revocation, SpeedProfile,
     SpeedRestriction,
 };
-use crate::visit::Visit;
-use crate::walker::Walker;
+use crate::walk::Walk;
 
 /// A kind of packets.
 #[derive(Clone, Copy, Debug, PartialEq, Eq)]
@@ -66,14 +65,32 @@ impl PacketKind {
     /// Whether its packets have elements, which name identities: those of packets 5 and 136 do.
     #[tactic(auto, using(crate::proofs::Nameless::nameless_21, crate::proofs::Nameless::nameless_27, crate::proofs::Nameless::nameless_41, crate::proofs::Nameless::nameless_65, crate::proofs::Nameless::nameless_66, crate::proofs::Nameless::nameless_kept))]
     pub(crate) fn has_elements(self) -> bool
-        ensures { result ≡ false → Nameless (form_of (number_of self)) }
+        ensures none { result ≡ false → Nameless (form_of (number_of self)) }
+        ensures some { result ≡ true → (number_of self ≡ Some 5) ⊎ (number_of self ≡ Some 136) }
     {
         matches!(self, PacketKind::Linking | PacketKind::InfillLocation)
     }
 
+    /// Goes over what follows the first three fields of a packet of this kind.
+    #[inline(always)]
+    pub(crate) fn walk_rest<W: Walk>(self, walker: &mut W) -> Result<(), LayoutFault>
+        ensures { Ends W.allocates W.run (form_of (number_of self)) walker.old result walker.new }
+    {
+        match self {
+            PacketKind::Linking => Linking::walk_rest(walker),
+            PacketKind::GradientProfile => GradientProfile::walk_rest(walker),
+            PacketKind::SpeedProfile => SpeedProfile::walk_rest(walker),
+            PacketKind::LevelTransition => LevelTransition::walk_rest(walker),
+            PacketKind::SpeedRestriction => SpeedRestriction::walk_rest(walker),
+            PacketKind::Revocation => Revocation::walk_rest(walker),
+            PacketKind::InfillLocation => InfillLocation::walk_rest(walker),
+            PacketKind::Opaque => Opaque::walk_rest(walker),
+        }
+    }
+
     /// Goes over a whole packet of this kind.
-    pub(crate) fn walk<V: Visit + Drop>(self, walker: &mut Walker<V>) -> Result<(), LayoutFault>
-        ensures { Ends V.allocates V.step (headed (next_of (number_of self))) walker.old result walker.new }
+    pub fn walk<W: Walk>(self, walker: &mut W) -> Result<(), LayoutFault>
+        ensures { Ends W.allocates W.run (headed (next_of (number_of self))) walker.old result walker.new }
     {
         match self {
             PacketKind::Linking => Linking::walk_whole(walker),

@@ -9,8 +9,7 @@ ghost use Rattle.balise_layout.specs.Laws.{HasOneSpelling, IsAsLongAsSaid, Writt
 ghost use Rattle.balise_layout.specs.LayoutLaws.{long_as_said, reads_written, spelt_once};
 
 use crate::fault::LayoutFault;
-use crate::visit::Visit;
-use crate::walker::Walker;
+use crate::walk::Walk;
 use balise_rules::Var;
 
 /// The layout of the packets of one number, or of those that are kept bit for bit.
@@ -24,8 +23,8 @@ pub trait Layout {
     ghost form: { Form };
 
     /// Goes over what follows the first three fields.
-    fn walk<V: Visit + Drop>(walker: &mut Walker<V>) -> Result<(), LayoutFault>
-        ensures { Ends V.allocates V.step form walker.old result walker.new };
+    fn walk<W: Walk>(walker: &mut W) -> Result<(), LayoutFault>
+        ensures { Ends W.allocates W.run form walker.old result walker.new };
 
     // It is the form that the rules have for the number.
     ghost ruled: { form_of NUMBER ≡ form };
@@ -50,16 +49,23 @@ pub trait Layout {
         }
     }
 
+    /// Goes over what follows the first three fields, as `walk` does.
+    final fn walk_rest<W: Walk>(walker: &mut W) -> Result<(), LayoutFault>
+        ensures { Ends W.allocates W.run (form_of NUMBER) walker.old result walker.new }
+    {
+        Self::walk(walker)
+    }
+
     /// Goes over a whole packet.
-    #[tactic(auto, using(crate::proofs::Layouts::next_own, crate::proofs::Layouts::next_other, crate::proofs::Walks::walk_never))]
-    final fn walk_whole<V: Visit + Drop>(walker: &mut Walker<V>) -> Result<(), LayoutFault>
-        ensures { Ends V.allocates V.step (headed (next_of NUMBER)) walker.old result walker.new }
+    #[tactic(auto, using(crate::proofs::Layouts::next_own, crate::proofs::Layouts::next_other))]
+    final fn walk_whole<W: Walk>(walker: &mut W) -> Result<(), LayoutFault>
+        ensures { Ends W.allocates W.run (headed (next_of NUMBER)) walker.old result walker.new }
     {
         let number = walker.take(Var::NidPacket)?;
         walker.take(Var::QDir)?;
         walker.take(Var::LPacket)?;
         if !Self::takes(number) {
-            return Err(LayoutFault::LayoutMismatch);
+            return Err(walker.spare());
         }
         Self::walk(walker)
     }

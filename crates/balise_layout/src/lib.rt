@@ -6,6 +6,7 @@ mod bounds;
 mod collect;
 mod elements;
 mod fault;
+mod few;
 mod kind;
 pub mod laws;
 mod layout;
@@ -15,12 +16,15 @@ mod parts;
 mod search;
 mod tables;
 mod visit;
+mod walk;
 mod walker;
 
 pub use balise_bits::{Bits, BitsFault};
 pub use balise_rules::{Id, NO_GROUP, Refusal, Tag, Var};
+pub use collect::Collect;
 pub use elements::{Elements, MOST_ELEMENTS};
 pub use fault::LayoutFault;
+pub use few::FewIdentities;
 pub use kind::{PacketKind, is_known};
 pub use layout::Layout;
 pub use packet::Packet;
@@ -30,4 +34,5 @@ pub use tables::{
     SpeedRestriction,
 };
 pub use visit::Visit;
+pub use walk::Walk;
 pub use walker::Walker;

@@ -73,6 +73,7 @@ impl Packet {
     }
 
     /// The place after the packet that `read` would read, or the first fault. Takes no memory.
+    #[inline(always)]
     pub fn check(bits: &Bits, at: usize, version: u32) -> Result<usize, LayoutFault>
         ensures stands { StandsAt version bits.now at result }
         ensures fault { IfErr result (λ e. e ≢ LayoutFault.OutOfMemory) }
@@ -82,14 +83,16 @@ impl Packet {
     }
 
     // The kind of the packet at a place and the place after it, or the first fault. Takes no memory.
+    #[inline(always)]
     fn find(bits: &Bits, at: usize, version: u32) -> Result<(PacketKind, usize), LayoutFault>
         ensures found { Finds version bits.now at result }
         ensures fault { IfErr result (λ e. e ≢ LayoutFault.OutOfMemory) }
     {
         let (number, end) = bounds(bits, at)?;
         let kind = PacketKind::of(version, number);
-        let mut walker = Walker::new(Nothing, bits, at, end);
-        kind.walk(&mut walker)?;
+        // `bounds` has read the first three fields.
+        let mut walker = Walker::new(Nothing, bits, at + 23, end);
+        kind.walk_rest(&mut walker)?;
         Ok((kind, end))
     }
 

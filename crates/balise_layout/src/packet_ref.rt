@@ -1,6 +1,6 @@
 //! A packet that is lent.
 
-ghost use Rattle.std.specs.Prelude.{◌≡◌, ◌≤◌, ◌↔◌, ℕ, List, Bool, false, [], Ok, drop, IfOk, IsOkUnless, IsTrue, MatchResult};
+ghost use Rattle.std.specs.Prelude.{◌≡◌, ◌<◌, ◌≤◌, ◌↔◌, ◌⊎◌, ℕ, List, Bool, false, true, [], Ok, drop, length, IfNone, IfOk, IfSome, IsOkUnless, IsTrue, MatchResult};
 ghost use Rattle.balise_rules.specs.declared.variable.Var.TheVariants.{NidBg, NidPacket, QDir};
 ghost use Rattle.balise_rules.specs.Forms.{count_of, Numbered};
 ghost use Rattle.balise_rules.specs.Names.{links_of};
@@ -11,11 +11,12 @@ ghost use Rattle.balise_layout.specs.Collected.{all_keyed};
 ghost use Rattle.balise_layout.specs.Held.{before, held, Holds, IsHeld};
 ghost use Rattle.balise_layout.specs.Layouts.{next_of};
 ghost use Rattle.balise_layout.specs.Kinds.{number_of};
-ghost use Rattle.balise_layout.specs.Linked.{most_elements};
+ghost use Rattle.balise_layout.specs.Linked.{few, most_elements};
 
 use crate::collect::Collect;
 use crate::elements::{Elements, FindElements};
 use crate::fault::LayoutFault;
+use crate::few::{FewIdentities, FindFew};
 use crate::kind::{PacketKind, is_known};
 use crate::packet::Packet;
 use crate::search::Search;
@@ -140,9 +141,10 @@ impl<'a> PacketRef<'a> {
         Ok(Vec::from_slice(alloc, elements.as_slice())?)
     }
 
-    /// Whether it may have elements: packets 5 and 136 do.
+    /// Whether it may have elements: only packets 5 and 136 do.
     pub fn has_elements(&self) -> bool
-        ensures { result ≡ false → (country : ℕ) → links_of country self.now ≡ [] }
+        ensures none { result ≡ false → (country : ℕ) → links_of country self.now ≡ [] }
+        ensures some { result ≡ true → (value NidPacket 0 self.now.fields ≡ 5) ⊎ (value NidPacket 0 self.now.fields ≡ 136) }
     {
         let kind = self.kind();
         kind.has_elements()
@@ -157,6 +159,23 @@ impl<'a> PacketRef<'a> {
             return Elements::none();
         };
         walker.into_visitor().into_elements()
+    }
+
+    /// The identities that its elements name, as in `elements`, if there are at most four. Takes no memory.
+    pub fn few_elements(&self, country: u32) -> Option<FewIdentities>
+        ensures some { IfSome result (λ elements. elements ≡ links_of country self.now) }
+        ensures none { IfNone result (few < length (links_of country self.now)) }
+    {
+        let _len = self.bits.len();
+        // The first three fields name nothing.
+        let mut walker = Walker::new(FindFew::new(country), self.bits, self.at + 23, self.end);
+        let Ok(()) = self.kind.walk_rest(&mut walker) else {
+            return None;
+        };
+        let Some(elements) = walker.into_visitor().into_few() else {
+            return None;
+        };
+        Some(elements)
     }
 
     /// The value of the occurrence `k`, from 0, of a variable.

@@ -7,8 +7,7 @@ ghost use Rattle.balise_rules.specs.Packets.{counted};
 ghost use Rattle.balise_layout.specs.Reading.{Reads};
 
 use crate::fault::LayoutFault;
-use crate::visit::Visit;
-use crate::walker::Walker;
+use crate::walk::Walk;
 use balise_rules::Var;
 
 /// A part of a packet that may stand several times.
@@ -17,16 +16,14 @@ pub(crate) trait Repeated {
     ghost form: { Form → Form };
 
     /// Goes over one.
-    fn walk<V: Visit + Drop>(walker: &mut Walker<V>) -> Result<(), LayoutFault>
-        ensures { Reads V.allocates V.step form walker.old result walker.new };
+    fn walk<W: Walk>(walker: &mut W) -> Result<(), LayoutFault>
+        ensures { Reads W.allocates W.run form walker.old result walker.new };
 }
 
 /// N_ITER and as many parts.
 #[tactic(auto, unfolding(balise_rules::specs::Packets::counted), using(crate::proofs::Walks::repeat_next, crate::proofs::Walks::repeat_last))]
-pub(crate) fn walk_counted<P: Repeated, V: Visit + Drop>(
-    walker: &mut Walker<V>,
-) -> Result<(), LayoutFault>
-    ensures { Reads V.allocates V.step (counted P.form) walker.old result walker.new }
+pub(crate) fn walk_counted<P: Repeated, W: Walk>(walker: &mut W) -> Result<(), LayoutFault>
+    ensures { Reads W.allocates W.run (counted P.form) walker.old result walker.new }
 {
     let more = walker.take(Var::NIter)?;
     for _ in 0..more {
@@ -44,7 +41,7 @@ impl Repeated for Link {
     ghost form = { link };
 
     #[tactic(auto, unfolding(balise_rules::specs::Packets::link))]
-    fn walk<V: Visit + Drop>(walker: &mut Walker<V>) -> Result<(), LayoutFault> {
+    fn walk<W: Walk>(walker: &mut W) -> Result<(), LayoutFault> {
         walker.take(Var::DLink)?;
         let new_country = walker.take(Var::QNewcountry)?;
         if new_country == 1 {
@@ -67,7 +64,7 @@ impl Repeated for Gradient {
     ghost form = { gradient };
 
     #[tactic(auto, unfolding(balise_rules::specs::Packets::gradient))]
-    fn walk<V: Visit + Drop>(walker: &mut Walker<V>) -> Result<(), LayoutFault> {
+    fn walk<W: Walk>(walker: &mut W) -> Result<(), LayoutFault> {
         walker.take(Var::DGradient)?;
         walker.take(Var::QGdir)?;
         walker.take(Var::GA)?;
@@ -83,13 +80,13 @@ impl Repeated for Difference {
 
     ghost form = { difference };
 
-    #[tactic(auto, unfolding(balise_rules::specs::Packets::difference), using(crate::proofs::Walks::walk_never))]
-    fn walk<V: Visit + Drop>(walker: &mut Walker<V>) -> Result<(), LayoutFault> {
+    #[tactic(auto, unfolding(balise_rules::specs::Packets::difference))]
+    fn walk<W: Walk>(walker: &mut W) -> Result<(), LayoutFault> {
         match walker.take(Var::QDiff)? {
             0 => {
                 walker.take(Var::NcCddiff)?;
             }
-            3 => return Err(LayoutFault::LayoutMismatch),
+            3 => return Err(walker.spare()),
             _ => {
                 walker.take(Var::NcDiff)?;
             }
@@ -108,11 +105,11 @@ impl Repeated for Section {
     ghost form = { section };
 
     #[tactic(auto, unfolding(balise_rules::specs::Packets::section))]
-    fn walk<V: Visit + Drop>(walker: &mut Walker<V>) -> Result<(), LayoutFault> {
+    fn walk<W: Walk>(walker: &mut W) -> Result<(), LayoutFault> {
         walker.take(Var::DStatic)?;
         walker.take(Var::VStatic)?;
         walker.take(Var::QFront)?;
-        walk_counted::<Difference, V>(walker)?;
+        walk_counted::<Difference, W>(walker)?;
         Ok(())
     }
 }
@@ -126,7 +123,7 @@ impl Repeated for Level {
     ghost form = { level };
 
     #[tactic(auto, unfolding(balise_rules::specs::Packets::level))]
-    fn walk<V: Visit + Drop>(walker: &mut Walker<V>) -> Result<(), LayoutFault> {
+    fn walk<W: Walk>(walker: &mut W) -> Result<(), LayoutFault> {
         let level = walker.take(Var::MLeveltr)?;
         if level == 1 {
             walker.take(Var::NidNtc)?;

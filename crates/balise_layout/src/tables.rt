@@ -3,8 +3,7 @@
 use crate::fault::LayoutFault;
 use crate::layout::Layout;
 use crate::parts::{Difference, Gradient, Level, Link, Repeated, Section, walk_counted};
-use crate::visit::Visit;
-use crate::walker::Walker;
+use crate::walk::Walk;
 use balise_rules::Var;
 
 /// Packet 5, linking: the balise groups that follow on the line.
@@ -23,10 +22,10 @@ impl Layout for Linking {
     ghost form = { linking shut };
 
     #[tactic(auto, unfolding(balise_rules::specs::Packets::linking))]
-    fn walk<V: Visit + Drop>(walker: &mut Walker<V>) -> Result<(), LayoutFault> {
+    fn walk<W: Walk>(walker: &mut W) -> Result<(), LayoutFault> {
         walker.take(Var::QScale)?;
         Link::walk(walker)?;
-        walk_counted::<Link, V>(walker)?;
+        walk_counted::<Link, W>(walker)?;
         walker.end()
     }
 
@@ -49,10 +48,10 @@ impl Layout for GradientProfile {
     ghost form = { gradients shut };
 
     #[tactic(auto, unfolding(balise_rules::specs::Packets::gradients))]
-    fn walk<V: Visit + Drop>(walker: &mut Walker<V>) -> Result<(), LayoutFault> {
+    fn walk<W: Walk>(walker: &mut W) -> Result<(), LayoutFault> {
         walker.take(Var::QScale)?;
         Gradient::walk(walker)?;
-        walk_counted::<Gradient, V>(walker)?;
+        walk_counted::<Gradient, W>(walker)?;
         walker.end()
     }
 
@@ -75,10 +74,10 @@ impl Layout for SpeedProfile {
     ghost form = { speeds shut };
 
     #[tactic(auto, unfolding(balise_rules::specs::Packets::speeds))]
-    fn walk<V: Visit + Drop>(walker: &mut Walker<V>) -> Result<(), LayoutFault> {
+    fn walk<W: Walk>(walker: &mut W) -> Result<(), LayoutFault> {
         walker.take(Var::QScale)?;
         Section::walk(walker)?;
-        walk_counted::<Section, V>(walker)?;
+        walk_counted::<Section, W>(walker)?;
         walker.end()
     }
 
@@ -101,11 +100,11 @@ impl Layout for LevelTransition {
     ghost form = { levels shut };
 
     #[tactic(auto, unfolding(balise_rules::specs::Packets::levels))]
-    fn walk<V: Visit + Drop>(walker: &mut Walker<V>) -> Result<(), LayoutFault> {
+    fn walk<W: Walk>(walker: &mut W) -> Result<(), LayoutFault> {
         walker.take(Var::QScale)?;
         walker.take(Var::DLeveltr)?;
         Level::walk(walker)?;
-        walk_counted::<Level, V>(walker)?;
+        walk_counted::<Level, W>(walker)?;
         walker.end()
     }
 
@@ -128,7 +127,7 @@ impl Layout for SpeedRestriction {
     ghost form = { restriction shut };
 
     #[tactic(auto, unfolding(balise_rules::specs::Packets::restriction))]
-    fn walk<V: Visit + Drop>(walker: &mut Walker<V>) -> Result<(), LayoutFault> {
+    fn walk<W: Walk>(walker: &mut W) -> Result<(), LayoutFault> {
         walker.take(Var::QScale)?;
         walker.take(Var::NidTsr)?;
         walker.take(Var::DTsr)?;
@@ -157,7 +156,7 @@ impl Layout for Revocation {
     ghost form = { revocation shut };
 
     #[tactic(auto, unfolding(balise_rules::specs::Packets::revocation))]
-    fn walk<V: Visit + Drop>(walker: &mut Walker<V>) -> Result<(), LayoutFault> {
+    fn walk<W: Walk>(walker: &mut W) -> Result<(), LayoutFault> {
         walker.take(Var::NidTsr)?;
         walker.end()
     }
@@ -181,7 +180,7 @@ impl Layout for InfillLocation {
     ghost form = { infill shut };
 
     #[tactic(auto, unfolding(balise_rules::specs::Packets::infill))]
-    fn walk<V: Visit + Drop>(walker: &mut Walker<V>) -> Result<(), LayoutFault> {
+    fn walk<W: Walk>(walker: &mut W) -> Result<(), LayoutFault> {
         if walker.take(Var::QNewcountry)? == 1 {
             walker.take(Var::NidC)?;
         }
@@ -206,9 +205,8 @@ impl Layout for Opaque {
 
     ghost form = { done };
 
-    #[tactic(auto, using(crate::proofs::Walks::walk_done))]
-    fn walk<V: Visit + Drop>(_walker: &mut Walker<V>) -> Result<(), LayoutFault> {
-        Ok(())
+    fn walk<W: Walk>(walker: &mut W) -> Result<(), LayoutFault> {
+        walker.leave()
     }
 
     ghost ruled = { unfold form_of in refl };

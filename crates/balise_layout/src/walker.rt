@@ -1,11 +1,10 @@
 //! Going over the fields of a packet's bits.
 
-ghost use Rattle.std.specs.Prelude.{◌≡◌, ◌≤◌, ◌-◌, ℕ, Bool, true, false, take, drop, length};
-ghost use Rattle.balise_rules.specs.Forms.{shut};
-ghost use Rattle.balise_layout.specs.Reading.{Ends, Takes};
+ghost use Rattle.std.specs.Prelude.{◌≡◌, ◌≤◌, ◌-◌, take, drop, length};
 
 use crate::fault::LayoutFault;
 use crate::visit::Visit;
+use crate::walk::Walk;
 use balise_bits::{BitSlice, Bits};
 use balise_rules::Var;
 use std::marker::Model;
@@ -44,32 +43,6 @@ impl<'a, V: Visit + Drop> Walker<'a, V> {
         }
     }
 
-    /// Goes over one field and returns its value.
-    #[inline(always)]
-    pub fn take(&mut self, var: Var) -> Result<u32, LayoutFault>
-        ensures { Takes V.allocates V.step var self.old result self.new }
-    {
-        let width = var.width();
-        let left = self.end - self.at;
-        if left < width as usize {
-            return Err(LayoutFault::LayoutMismatch);
-        }
-        let value = self.bits.number(self.at, width);
-        self.visitor.see(left, var, value)?;
-        self.at += width as usize;
-        Ok(value)
-    }
-
-    /// Sees that no bit is left.
-    pub fn end(&mut self) -> Result<(), LayoutFault>
-        ensures { Ends V.allocates V.step shut self.old result self.new }
-    {
-        if self.at < self.end {
-            return Err(LayoutFault::LayoutMismatch);
-        }
-        Ok(())
-    }
-
     /// What the visitor kept.
     pub fn into_visitor(self) -> V
         ensures { result ≡ self.entry.0 }
@@ -81,5 +54,43 @@ impl<'a, V: Visit + Drop> Walker<'a, V> {
             visitor,
         } = self;
         visitor
+    }
+}
+
+impl<'a, V: Visit + Drop> Walk for Walker<'a, V> {
+    ghost use Rattle.balise_layout.specs.Walks.{walk};
+
+    ghost allocates = { V.allocates };
+
+    ghost run = { walk V.step };
+
+    #[inline(always)]
+    fn take(&mut self, var: Var) -> Result<u32, LayoutFault> {
+        let width = var.width();
+        let left = self.end - self.at;
+        if left < width as usize {
+            return Err(LayoutFault::LayoutMismatch);
+        }
+        let value = self.bits.number(self.at, width);
+        self.visitor.see(left, var, value)?;
+        self.at += width as usize;
+        Ok(value)
+    }
+
+    fn end(&mut self) -> Result<(), LayoutFault> {
+        if self.at < self.end {
+            return Err(LayoutFault::LayoutMismatch);
+        }
+        Ok(())
+    }
+
+    #[tactic(auto, using(crate::proofs::Walks::walk_done))]
+    fn leave(&mut self) -> Result<(), LayoutFault> {
+        Ok(())
+    }
+
+    #[tactic(auto, using(crate::proofs::Walks::walk_never))]
+    fn spare(&mut self) -> LayoutFault {
+        LayoutFault::LayoutMismatch
     }
 }

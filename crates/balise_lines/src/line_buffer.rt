@@ -35,6 +35,7 @@ pub(crate) struct LineBuffer {
 }
 
 /// The place of the first line end, where none stands among the first `searched` bytes.
+#[inline(always)]
 fn find_end(bytes: &[u8], searched: usize) -> Option<usize>
     requires within { searched ≤ length bytes.now }
     requires none { HasNoEnd (take searched bytes.now) }
@@ -110,7 +111,26 @@ impl LineBuffer {
     }
 
     /// Reads on until it shows what stands at the front, and reads nothing where what is held shows it.
+    #[inline(always)]
     pub(crate) fn look<R: Read>(&mut self, reader: &mut Counted<R>) -> Result<Look, LineFault>
+        ensures bytes { Keeps (prepend_known (held self.old) (R.remaining reader.old.inner))
+            (prepend_known (held self.new) (R.remaining reader.new.inner)) }
+        ensures sees { IfOk result (λ look. Sees look (held self.new) (R.remaining reader.new.inner)) }
+        ensures needed { NeedsMore (held self.old) ⊎ (reader.new ≡ reader.old) }
+        ensures unfailed { OnOk result (reader.new.failed ≡ reader.old.failed) }
+        ensures fault { IfErr result (λ e. e ≡ LineFault.Read) }
+        ensures cause { OnErr result (reader.new.failed ≡ one_more reader.old.failed) }
+        ensures short { OnErr result (NeedsMore (held self.old) × NeedsMore (held self.new)) }
+    {
+        if let Some(len) = find_end(self.as_slice(), 0) {
+            return Ok(Look::Line(len));
+        }
+        self.look_on(reader)
+    }
+
+    // Looks at what is held first, and reads on until it shows what stands at the front.
+    #[inline(never)]
+    fn look_on<R: Read>(&mut self, reader: &mut Counted<R>) -> Result<Look, LineFault>
         ensures bytes { Keeps (prepend_known (held self.old) (R.remaining reader.old.inner))
             (prepend_known (held self.new) (R.remaining reader.new.inner)) }
         ensures sees { IfOk result (λ look. Sees look (held self.new) (R.remaining reader.new.inner)) }

@@ -1,5 +1,5 @@
 -- A group whose telegrams are read one after another, and a plan to which it is added.
-use Rattle.std.specs.Prelude.{◌≡◌, ◌⊎◌, ◌≤◌, ℕ, nat_le, cond, Bool, List, [], ◌∷◌, ◌++◌, length, Result, Ok, Err}
+use Rattle.std.specs.Prelude.{◌≡◌, ◌⊎◌, ◌<◌, ◌≤◌, ℕ, nat_le, cond, Bool, List, [], ◌∷◌, ◌++◌, length, Result, Ok, Err, IsOk}
 use Rattle.balise_rules.specs.declared.refusal.Refusal.{Refusal}
 use Rattle.balise_rules.specs.declared.refusal.Refusal.TheVariants.{GroupSize, OutOfMemory}
 use Rattle.balise_rules.specs.Refusals.{and_then}
@@ -29,17 +29,17 @@ with_read plan ys = with_group plan (group_of ys)
 abbrev pub WereRead : Group → Type 0
 WereRead ys = (bs : List (List Bool)) × (length bs ≤ most_telegrams) × (read_telegrams 0 bs ≡ Ok ys)
 
--- One telegram more stands at the end; or it is refused, or it is out of memory, and all stays.
+-- One telegram more stands at the end; or it is refused, or, where it isn't a ninth, it is out of memory, and all stays.
 abbrev pub ReadsOn : List Bool → Group → {A : Type 0} → Result A Refusal → Group → Type 0
 ReadsOn b old (Ok u) new = with_telegram old b ≡ Ok new
-ReadsOn b old (Err e) new = ((e ≡ OutOfMemory) ⊎ (with_telegram old b ≡ Err e)) × (new ≡ old)
+ReadsOn b old (Err e) new = (((e ≡ OutOfMemory) × (length old < most_telegrams)) ⊎ (with_telegram old b ≡ Err e)) × (new ≡ old)
 
--- One group more stands at the end, and no change is counted; or its first fault is answered, or out of memory, and all stays.
+-- One group more stands at the end, and no change is counted; or its first fault is answered, or, where it has none, out of memory, and all stays.
 abbrev pub PushesRead : Group → Plan → {A : Type 0} → Result A Refusal → Plan → Type 0
 PushesRead ys old (Ok u) new = (with_read old.groups ys ≡ Ok new.groups) × (new.changes ≡ old.changes)
-PushesRead ys old (Err e) new = ((e ≡ OutOfMemory) ⊎ (with_read old.groups ys ≡ Err e)) × (new ≡ old)
+PushesRead ys old (Err e) new = (((e ≡ OutOfMemory) × IsOk (with_read old.groups ys)) ⊎ (with_read old.groups ys ≡ Err e)) × (new ≡ old)
 
--- One group more stands at the end, under the tag of its place; or a group has its identity, or it is out of memory, and all stays.
+-- One group more stands at the end, under the tag of its place; or a group has its identity, or, where none has, it is out of memory, and all stays.
 abbrev pub PushesGroup : Group → Plan → {A : Type 0} → Result A Refusal → Plan → Type 0
 PushesGroup ys old (Ok u) new = (with_group old.groups (Ok ys) ≡ Ok new.groups) × (new.changes ≡ old.changes)
-PushesGroup ys old (Err e) new = ((e ≡ OutOfMemory) ⊎ (with_group old.groups (Ok ys) ≡ Err e)) × (new ≡ old)
+PushesGroup ys old (Err e) new = (((e ≡ OutOfMemory) × IsOk (with_group old.groups (Ok ys))) ⊎ (with_group old.groups (Ok ys) ≡ Err e)) × (new ≡ old)

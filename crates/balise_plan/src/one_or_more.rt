@@ -88,7 +88,8 @@ impl<T: Drop> OneOrMore<T> {
         ensures err { OnErr result (self.new ≡ self.old) }
     {
         if self.len() == 0 {
-            self.held = Held::One(item);
+            // No item is ever taken out, so an empty list is that of `new`, which has no memory to give back.
+            mem::forget(mem::replace(&mut self.held, Held::One(item)));
             return Ok(());
         }
         self.push_next(item)

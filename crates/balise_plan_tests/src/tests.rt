@@ -14,4 +14,5 @@ mod reading;
 mod refused;
 mod resolving;
 mod steps;
+mod taken;
 mod walking;

@@ -4,10 +4,12 @@ ghost use Rattle.std.specs.Prelude.{◌≡◌};
 ghost use Rattle.balise_rules.specs.Refusals.{name_of, number_of};
 
 use std::alloc::{AllocError, AllocFailed};
-use std::{error, fmt};
+use std::fmt;
+use thiserror::Error;
 
 /// Why something is refused. It is shown as its name, as in `DependsOn`.
-#[derive(Clone, Copy, PartialEq, Eq)]
+#[derive(Clone, Copy, Error, PartialEq, Eq)]
+#[error("{}", self.name())]
 pub enum Refusal {
     /// 1: a line isn't of its grammar, or the input ends too early.
     BadLine,
@@ -164,14 +166,6 @@ impl fmt::Debug for Refusal {
         f.write_str(self.name())
     }
 }
-
-impl fmt::Display for Refusal {
-    fn fmt<W: fmt::Write>(&self, f: &mut fmt::Formatter<W>) -> fmt::Result {
-        f.write_str(self.name())
-    }
-}
-
-impl error::Error for Refusal {}
 
 impl From<AllocError> for Refusal {
     ghost use Rattle.balise_rules.specs.declared.refusal.Refusal.TheVariants.{OutOfMemory};

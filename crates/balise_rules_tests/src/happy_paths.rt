@@ -1,7 +1,7 @@
 //! Each function once on its happy path, with values of the standard's tables.
 
 use balise_rules::{Refusal, Var};
-use std::alloc::AllocError;
+use std::alloc::{AllocError, Global};
 use std::process::Abort;
 
 /// That the variable with this name is this one, as wide as this, and steers or not.
@@ -23,12 +23,58 @@ fn knows_the_variables(rt: HostRuntime) {
     assert!(rt; Var::from_bytes(b"D_LINK") == Some(Var::DLink));
 }
 
+/// Each refusal, in the order of their numbers, and its name.
+const NAMES: &[(Refusal, &str)] = &[
+    (Refusal::BadLine, "BadLine"),
+    (Refusal::BadHex, "BadHex"),
+    (Refusal::BadLength, "BadLength"),
+    (Refusal::SpareBits, "SpareBits"),
+    (Refusal::NotABalise, "NotABalise"),
+    (Refusal::NoEnd, "NoEnd"),
+    (Refusal::PacketCut, "PacketCut"),
+    (Refusal::LayoutMismatch, "LayoutMismatch"),
+    (Refusal::PacketZero, "PacketZero"),
+    (Refusal::GroupSize, "GroupSize"),
+    (Refusal::HeaderDisagrees, "HeaderDisagrees"),
+    (Refusal::NumberReserved, "NumberReserved"),
+    (Refusal::GroupTwice, "GroupTwice"),
+    (Refusal::NoSuchGroup, "NoSuchGroup"),
+    (Refusal::NoSuchTelegram, "NoSuchTelegram"),
+    (Refusal::NoSuchPacket, "NoSuchPacket"),
+    (Refusal::NoSuchVariable, "NoSuchVariable"),
+    (Refusal::Steering, "Steering"),
+    (Refusal::ValueTooWide, "ValueTooWide"),
+    (Refusal::NoRoom, "NoRoom"),
+    (Refusal::NumberTaken, "NumberTaken"),
+    (Refusal::SamePlace, "SamePlace"),
+    (Refusal::NothingToUndo, "NothingToUndo"),
+    (Refusal::NothingToRedo, "NothingToRedo"),
+    (Refusal::NoSuchEdit, "NoSuchEdit"),
+    (Refusal::DependsOn(2), "DependsOn"),
+    (Refusal::JournalMismatch, "JournalMismatch"),
+    (Refusal::Worn, "Worn"),
+    (Refusal::InputTooLong, "InputTooLong"),
+    (Refusal::OutOfMemory, "OutOfMemory"),
+    (Refusal::ReadFault, "ReadFault"),
+    (Refusal::WriteFault, "WriteFault"),
+];
+
+/// That the refusal has this number and is shown as this name.
+fn check_name(rt: &impl Abort, alloc: Global, refusal: Refusal, number: u32, name: &str) {
+    assert!(rt; refusal.number() == number);
+    assert!(rt; refusal.name() == name);
+    let shown = refusal.to_string(alloc).expect(rt, "memory");
+    assert!(rt; shown.as_str() == name);
+    let shown = format!(in alloc; "{refusal:?}").expect(rt, "memory");
+    assert!(rt; shown.as_str() == name);
+}
+
 #[test]
-fn numbers_the_refusals(rt: HostRuntime) {
-    assert!(rt; Refusal::DependsOn(2).number() == 26);
-    assert!(rt; Refusal::DependsOn(2).name() == "DependsOn");
-    assert!(rt; Refusal::WriteFault.number() == 32);
-    assert!(rt; Refusal::BadLine.name() == "BadLine");
+fn numbers_and_names_the_refusals(rt: HostRuntime) {
+    assert!(rt; NAMES.len() == 32);
+    for (number, (refusal, name)) in (1..33u32).zip(NAMES.iter()) {
+        check_name(&rt, rt.alloc(), *refusal, number, *name);
+    }
 }
 
 #[test]

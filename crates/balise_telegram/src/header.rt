@@ -73,6 +73,7 @@ impl Header {
     }
 
     /// NID_C and NID_BG of the header in the first 50 of a telegram's bits.
+    #[inline(always)]
     pub(crate) fn identity_in(bits: &Bits) -> Id
         requires { 50 ≤ length bits.now }
         ensures country { result.country ≡ value NidC 0 (read_header bits.now) }

@@ -101,6 +101,7 @@ impl Telegram {
     }
 
     /// The identity of its group, as the header has it.
+    #[inline(always)]
     pub fn identity(&self) -> Id
         ensures { result ≡ identity_in self.now }
     {
@@ -213,6 +214,7 @@ impl Telegram {
     }
 
     // The tag of the packet at a place, where one stands there.
+    #[inline(always)]
     fn tag_at(&self, place: Place) -> Option<PacketTag>
         requires { IsPlace self.now place }
         ensures { result ≡ option_map (λ q. q.0) (slice_get self.now.packets place.index) }

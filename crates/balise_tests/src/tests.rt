@@ -6,6 +6,7 @@ mod devices;
 mod exits;
 mod faults;
 mod flags;
+mod interleaving;
 mod journal_cuts;
 mod large_packets;
 mod largest;

@@ -144,9 +144,12 @@ Usage: baliseplan [OPTIONS]
 Options:
       --quiet    Print no reply to a command that is accepted
       --stop     Do no command after the first that is refused
-      --journal  Print the journal after the plan: the edits that stand, for a later run
+      --journal  Print the journal after the plan: the edits that stand and those undone, for a later run
       --json     Print each group as one line of JSON after the plan
   -h, --help     Print help
+
+Commands, one a line after the line 'edits':
+  set, seth, insert, delete, move, add, drop, renumber, turn, undo, redo, strike
 
 Status:
   0   all commands accepted
@@ -154,6 +157,8 @@ Status:
   2   the plan refused
   3   a line too long, too little memory, or a read or write that failed
   64  an unknown argument, or one given twice
+
+The words of each command, the formats and the refusals: man baliseplan, or docs/FORMATS.md
 ";
 
 const LOUD: &str = "\

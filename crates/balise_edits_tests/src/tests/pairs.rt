@@ -157,6 +157,8 @@ const REMOVALS_AND_NAMES: &[Row] = &[
 
 #[test]
 fn removals_and_names(rt: HostRuntime) {
+    // What the law says of every plan, seen on these.
+    laws::commute();
     check_rows(&rt, rt.alloc(), REMOVALS_AND_NAMES);
 }
 
@@ -190,12 +192,6 @@ const GROUPS_BEHIND: &[Row] = &[(
 
 #[test]
 fn groups_behind(rt: HostRuntime) {
-    check_rows(&rt, rt.alloc(), GROUPS_BEHIND);
-}
-
-// A law has no answer: a caller takes what its contract says.
-#[test]
-fn laws_are_called(_rt: HostRuntime) {
-    laws::commute();
     laws::commute_behind();
+    check_rows(&rt, rt.alloc(), GROUPS_BEHIND);
 }

@@ -1,11 +1,11 @@
 //! A line of a journal done.
 
-ghost use Rattle.std.specs.Prelude.{◌≡◌, ◌<◌, ◌^◌, true, IfErr, IfOk, Some};
+ghost use Rattle.std.specs.Prelude.{◌≡◌, ◌<◌, ◌^◌, true, IfErr, IfOk, IsErrOf, Some};
 ghost use Rattle.balise_edits.specs.Edits.{edit_of};
 ghost use Rattle.balise_commands.specs.Lines.{line_edit_of, line_in, noted_in};
-ghost use Rattle.balise_history.specs.Held.{IsHeld};
+ghost use Rattle.balise_history.specs.Held.{IsHeld, state_at};
 ghost use Rattle.balise_history.specs.Lists.{items_of};
-ghost use Rattle.balise_history.specs.Openings.{comes_next, Enters, EntersIn, Mismatches};
+ghost use Rattle.balise_history.specs.Openings.{comes_next, Enters, EntersIn, MayComeNext, Mismatches};
 ghost use Rattle.balise_rules.specs.Journal.{same_noted};
 ghost use Rattle.balise_rules.specs.Opening.{edit_in, last_serial};
 
@@ -119,10 +119,12 @@ fn enter(plan: &mut Plan, history: &mut History, next: u32, line: Line) -> Resul
 impl EditedPlan {
     /// Does the edit of a line under its own serial, where it fits: nothing was undone or struck, the serial is above
     /// the last one and below the next, the edit is accepted and notes what the line says. Refused as
-    /// `JournalMismatch` or `OutOfMemory`, and then all stays, but that an edit that noted something else is done.
+    /// `JournalMismatch` or `OutOfMemory`, and then all stays, but that an edit that noted something else is done. Memory
+    /// may run out only where the serial may come next.
     pub(crate) fn entry(&mut self, line: Line) -> Result<(), Refusal>
         requires { self.old.changes < 2 ^ 63 }
-        ensures { Enters (line_in line) self.old result self.new }
+        ensures enters { Enters (line_in line) self.old result self.new }
+        ensures memory { IsErrOf result Refusal.OutOfMemory → MayComeNext (state_at 0 self.old) line.serial }
     {
         let EditedPlan {
             plan,

@@ -1,31 +1,55 @@
 //! Undo, redo and strike where one growth of memory is refused: the call answers that, all stays as it was, and the same
-//! call is accepted then. With ample memory no growth is refused; `rt try --test --fail-alloc N` refuses the Nth.
+//! call is accepted then. `scripts/check/test_growths.py` refuses each growth of `each_growth_refused` in turn. With ample
+//! memory nothing is refused.
 
-use crate::tests::sessions::{ABROAD, EMPTY, LINKING, Step, TSR_5, answer_to, ask, session_of};
+use crate::tests::sessions::{ABROAD, EMPTY, LINKING, Step, answer_to, ask, session_of};
 use balise_history::{Bits, Refusal, Session, Var};
 use std::alloc::Global;
 use std::process::Abort;
 
-const OVER: &[&str] = &[EMPTY, LINKING, ABROAD];
+/// 5.103, whose packet 5 names 5.300 three times.
+const NAMING: &str = "a1007f80a033c15049a04b0096630406400966300fa012cc67ffc0";
 
-/// A packet put in, a link that names another group, and a group that gets another number. Each takes memory, also to be
-/// undone and done again.
+/// A packet 5 that names 5.400 three times.
+const NAMES: &str = "054126812c03218c1019003218c03e80643180";
+
+const OVER: &[&str] = &[EMPTY, LINKING, ABROAD, NAMING];
+
+/// A packet put in, a link that names another group, a group that gets another number, and a packet taken out. A third
+/// name of one identity takes memory, each time that the first or the last of these packets is put in.
 const EDITS: &[(Step, u32)] = &[
-    (Step::Insert(100, 0, TSR_5), 1),
+    (Step::Insert(100, 0, NAMES), 1),
     (Step::Set(102, Var::NidBg, 1, 101), 2),
     (Step::Renumber(100, 200), 3),
+    (Step::Delete(103, 0), 4),
 ];
 
 const CALLS: &[(Step, u32)] = &[
+    (Step::Undo, 4),
     (Step::Undo, 3),
     (Step::Undo, 2),
     (Step::Undo, 1),
     (Step::Redo, 1),
     (Step::Redo, 2),
     (Step::Redo, 3),
+    (Step::Redo, 4),
     (Step::Strike(1), 1),
+    (Step::Strike(4), 4),
+    (Step::Redo, 4),
     (Step::Redo, 1),
 ];
+
+/// Whether a growth may be refused in this run.
+#[derive(Clone, Copy, PartialEq, Eq)]
+enum Memory {
+    Ample,
+    OneRefused,
+}
+
+/// That a growth may be refused.
+fn check_short(rt: &impl Abort, memory: Memory) {
+    assert!(rt; memory == Memory::OneRefused);
+}
 
 /// What a session shows; asked for once more where the growth that is refused was met here.
 fn shown(rt: &impl Abort, session: &Session) -> Vec<Vec<Bits>> {
@@ -39,15 +63,22 @@ fn shown(rt: &impl Abort, session: &Session) -> Vec<Vec<Bits>> {
 fn check_same(rt: &impl Abort, session: &Session, groups: &Vec<Vec<Bits>>, standing: usize) {
     assert!(rt; shown(rt, session) == *groups);
     assert!(rt; session.standing().len() == standing);
-    assert!(rt; session.next_serial() == 4);
+    assert!(rt; session.next_serial() == 5);
 }
 
 /// Does a step, which is refused at most once, as out of memory, and changes nothing then.
-fn call(rt: &impl Abort, alloc: Global, session: &mut Session, step: Step, serial: u32) {
+fn call(
+    rt: &impl Abort,
+    alloc: Global,
+    session: &mut Session,
+    (step, serial): (Step, u32),
+    memory: Memory,
+) {
     let groups = shown(rt, session);
     let standing = session.standing().len();
     let answer = answer_to(rt, alloc, session, step);
     if answer == Err(Refusal::OutOfMemory) {
+        check_short(rt, memory);
         check_same(rt, session, &groups, standing);
         ask(rt, alloc, session, step, Ok(serial));
     } else {
@@ -55,7 +86,7 @@ fn call(rt: &impl Abort, alloc: Global, session: &mut Session, step: Step, seria
     }
 }
 
-/// A session of the three groups, with the edits.
+/// A session of these groups, with the edits.
 fn edited(rt: &impl Abort, alloc: Global) -> Session {
     let mut session = session_of(rt, alloc, OVER);
     for (step, serial) in EDITS.iter() {
@@ -65,9 +96,9 @@ fn edited(rt: &impl Abort, alloc: Global) -> Session {
 }
 
 /// Does the calls, of which at most one meets the growth that is refused.
-fn make_calls(rt: &impl Abort, alloc: Global, session: &mut Session) {
+fn make_calls(rt: &impl Abort, alloc: Global, session: &mut Session, memory: Memory) {
     for (step, serial) in CALLS.iter() {
-        call(rt, alloc, session, *step, *serial);
+        call(rt, alloc, session, (*step, *serial), memory);
     }
 }
 
@@ -81,5 +112,11 @@ fn edits_alone(rt: HostRuntime) {
 #[test]
 fn each_growth_refused(rt: HostRuntime) {
     let mut session = edited(&rt, rt.alloc());
-    make_calls(&rt, rt.alloc(), &mut session);
+    make_calls(&rt, rt.alloc(), &mut session, Memory::OneRefused);
+}
+
+#[test]
+fn no_growth_refused(rt: HostRuntime) {
+    let mut session = edited(&rt, rt.alloc());
+    make_calls(&rt, rt.alloc(), &mut session, Memory::Ample);
 }

@@ -191,6 +191,38 @@ fn places_of_faults(rt: HostRuntime) {
     check_fault(&rt, alloc, 0, 2, None);
 }
 
+/// That a fault at this place is shown as this text.
+fn check_text(rt: &impl Abort, alloc: Global, at: Option<usize>, refusal: Refusal, text: &str) {
+    let shown = JournalFault { at, refusal }.to_string(alloc);
+    assert!(rt; shown.expect(rt, "memory").as_str() == text);
+}
+
+#[test]
+fn texts_of_faults(rt: HostRuntime) {
+    let alloc = rt.alloc();
+    check_text(
+        &rt,
+        alloc,
+        None,
+        Refusal::JournalMismatch,
+        "NEXT: JournalMismatch",
+    );
+    check_text(
+        &rt,
+        alloc,
+        Some(0),
+        Refusal::JournalMismatch,
+        "entry 0: JournalMismatch",
+    );
+    check_text(
+        &rt,
+        alloc,
+        Some(12),
+        Refusal::OutOfMemory,
+        "entry 12: OutOfMemory",
+    );
+}
+
 /// The session of a plan with those two settings done by commands.
 fn set_twice(rt: &impl Abort, alloc: Global) -> Session {
     let mut session = session_of(rt, alloc, &[REVOCATION]);

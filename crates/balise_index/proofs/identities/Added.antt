@@ -1,13 +1,12 @@
 -- One slot more at the end.
-use Rattle.std.proofs.Common.{◌≡◌, ◌∙◌, ℕ, zero, suc, ◌<◌, ◌⊎◌, inl, inr, false, cond, List, [], ◌∷◌, ◌++◌, Some, None, length, slice_get, refl, sym, ap, arith, length-append}
-use Rattle.std.specs.declared.vec.Vec.{Vec}
+use Rattle.std.proofs.Common.{◌≡◌, ◌∙◌, ℕ, zero, suc, ◌<◌, ◌⊎◌, inl, inr, false, cond, List, [], ◌∷◌, ◌++◌, Option, Some, None, length, slice_get, refl, sym, ap, arith, length-append}
 use Rattle.std.proofs.lemmas.Bool.{true≢false}
 use Rattle.balise_rules.specs.declared.identity.Id.{Id}
 use Rattle.balise_rules.specs.Tags.{same_id}
 use Rattle.balise_rules.proofs.Cases.{unsome}
 use Rattle.balise_rules.proofs.Tests.{id_test, split_keys}
 use Rattle.balise_index.specs.Identities.{indexed, Updates}
-use Rattle.balise_index.specs.Rows.{cell_of, Grows}
+use Rattle.balise_index.specs.Cells.{KeepsOthers}
 use Rattle.balise_index.specs.IdentityMap.{IsPlaced}
 use Rattle.balise_index.proofs.identities.Slots.{pair, none_some, found, same_under}
 
@@ -30,35 +29,37 @@ push_cases (y ∷ ys) x s (suc j) e = by (push_cases ys x s j e)
     by (inl h) = inl h
     by (inr h) = inr (ap suc h.0, h.1)
 
-pub placed_grown : {V Z : Type 0} (xs : List (Id × V)) (rows grown : List (Vec ℕ Z)) → IsPlaced xs rows → Grows rows grown → IsPlaced xs grown
-placed_grown xs rows grown at g = record { few = at.few; placed = λ i s e. g s.0 i (at.placed i s e) }
+-- cells that say of each other identity what they did
+module _ {V : Type 0} (xs : List (Id × V)) (cells noted : Id → Option ℕ) (at : IsPlaced xs cells) (id : Id) (free : indexed xs id ≡ None) (kept : KeepsOthers cells noted id) where
+  another : (j : ℕ) (s : Id × V) → slice_get xs j ≡ Some s → same_id id s.0 ≡ false
+  another j s e = split_keys id_test id s.0 (λ d k. absurd (none_some free (ap (indexed xs) k ∙ found xs cells at j s e))) (λ d. d)
 
-module _ {V Z : Type 0} (xs : List (Id × V)) (rows cells : List (Vec ℕ Z)) (at : IsPlaced xs rows) (id : Id) (value : V) (free : indexed xs id ≡ None) (room : length xs < 4294967295)
-    (set : (q : Id) → cell_of cells q ≡ cond (same_id id q) (Some (length xs)) (cell_of rows q)) where
+  pub placed_kept : IsPlaced xs noted
+  placed_kept = record { few = at.few; placed = λ j s e. kept s.0 (another j s e) j (at.placed j s e) }
+
+module _ {V : Type 0} (xs : List (Id × V)) (cells noted : Id → Option ℕ) (at : IsPlaced xs cells) (id : Id) (value : V) (free : indexed xs id ≡ None) (room : length xs < 4294967295)
+    (kept : KeepsOthers cells noted id) (set : noted id ≡ Some (length xs)) where
   abbrev put : Id × V
   put = (id, value)
 
   abbrev more : List (Id × V)
   more = xs ++ put ∷ []
 
-  another : (j : ℕ) (s : Id × V) → slice_get xs j ≡ Some s → same_id id s.0 ≡ false
-  another j s e = split_keys id_test id s.0 (λ d k. absurd (none_some free (ap (indexed xs) k ∙ found xs rows at j s e))) (λ d. d)
-
-  pub placed_push : IsPlaced more cells
+  pub placed_push : IsPlaced more noted
   placed_push = record {
     few = omega (arith, room, length-append xs ((id, value) ∷ []));
     placed = λ j s e. by j s (push_cases xs (id, value) s j e);
   }
     where
-      by : (j : ℕ) (s : Id × V) → (slice_get xs j ≡ Some s) ⊎ ((j ≡ length xs) × (put ≡ s)) → cell_of cells s.0 ≡ Some j
-      by j s (inl h) = set s.0 ∙ ap (λ b. cond b (Some (length xs)) (cell_of rows s.0)) (another j s h) ∙ at.placed j s h
-      by j s (inr h) = ap (λ (z : Id × V). cell_of cells z.0) (sym h.1) ∙ set id ∙ ap (λ b. cond b (Some (length xs)) (cell_of rows id)) (id_test.itself id) ∙ ap (λ (k : ℕ). Some k) (sym h.0)
+      by : (j : ℕ) (s : Id × V) → (slice_get xs j ≡ Some s) ⊎ ((j ≡ length xs) × (put ≡ s)) → noted s.0 ≡ Some j
+      by j s (inl h) = (placed_kept xs cells noted at id free kept).placed j s h
+      by j s (inr h) = ap (λ (z : Id × V). noted z.0) (sym h.1) ∙ set ∙ ap (λ (k : ℕ). Some k) (sym h.0)
 
   pub updates_push : Updates xs more id (Some value)
   updates_push q =
       split_keys id_test id q
-      (λ d e. ap (indexed more) (sym e) ∙ found more cells placed_push (length xs) (id, value) (push_new xs (id, value)) ∙ ap (λ b. cond b (Some value) (indexed xs q)) (sym d))
-      (λ d. same_under more xs cells rows placed_push at q
+      (λ d e. ap (indexed more) (sym e) ∙ found more noted placed_push (length xs) (id, value) (push_new xs (id, value)) ∙ ap (λ b. cond b (Some value) (indexed xs q)) (sym d))
+      (λ d. same_under more xs noted cells placed_push at q
       (λ j v e. by d j v (push_cases xs (id, value) (q, v) j e))
       (λ j v e. (j, push_old xs (id, value) (q, v) j e))
       ∙ ap (λ b. cond b (Some value) (indexed xs q)) (sym d))

@@ -1,19 +1,17 @@
 -- One slot more, where the slots are held as two lists.
-use Rattle.std.proofs.Common.{◌≡◌, ◌∙◌, ℕ, ◌<◌, cond, List, [], ◌∷◌, ◌++◌, Some, None, length, length-append, sym, ap, arith, subst}
-use Rattle.std.specs.declared.vec.Vec.{Vec}
+use Rattle.std.proofs.Common.{◌≡◌, ◌∙◌, ℕ, ◌<◌, List, [], ◌∷◌, ◌++◌, Option, Some, None, length, length-append, sym, ap, arith, subst}
 use Rattle.balise_rules.specs.declared.identity.Id.{Id}
-use Rattle.balise_rules.specs.Tags.{same_id}
 use Rattle.balise_index.specs.declared.identity_map.narrow.Narrow.{Narrow}
 use Rattle.balise_index.specs.Identities.{indexed, Updates}
+use Rattle.balise_index.specs.Cells.{KeepsOthers}
 use Rattle.balise_index.specs.IdentityMap.{IsPlaced}
 use Rattle.balise_index.specs.Narrow.{wide, slots_of}
-use Rattle.balise_index.specs.Rows.{cell_of, Grows}
-use Rattle.balise_index.proofs.identities.Added.{placed_grown, placed_push, updates_push}
+use Rattle.balise_index.proofs.identities.Added.{placed_push, updates_push}
 use Rattle.balise_index.proofs.identities.TwoLists.{length_slots, slots_push}
 
-module _ {V Z : Type 0} (ns ms : List Narrow) (vs us : List V) (rows grown cells : List (Vec ℕ Z)) (same : length ns ≡ length vs) (at : IsPlaced (slots_of ns vs) rows) (kept : Grows rows grown)
+module _ {V : Type 0} (ns ms : List Narrow) (vs us : List V) (cells noted : Id → Option ℕ) (same : length ns ≡ length vs) (at : IsPlaced (slots_of ns vs) cells)
     (id : Id) (n : Narrow) (v : V) (narrow : wide n ≡ id) (free : indexed (slots_of ns vs) id ≡ None) (k : ℕ) (count : k ≡ length ns) (few : k < 4294967295)
-    (set : (q : Id) → cell_of cells q ≡ cond (same_id id q) (Some k) (cell_of grown q)) (ids : ms ≡ ns ++ n ∷ []) (values : us ≡ vs ++ v ∷ []) where
+    (kept : KeepsOthers cells noted id) (set : noted id ≡ Some k) (ids : ms ≡ ns ++ n ∷ []) (values : us ≡ vs ++ v ∷ []) where
   abbrev old : List (Id × V)
   old = slots_of ns vs
 
@@ -29,17 +27,14 @@ module _ {V Z : Type 0} (ns ms : List Narrow) (vs us : List V) (rows grown cells
   room : length old < 4294967295
   room = omega (arith, few, last)
 
-  there : IsPlaced old grown
-  there = placed_grown old rows grown at kept
+  set_last : noted id ≡ Some (length old)
+  set_last = set ∙ ap (λ (j : ℕ). Some j) last
 
-  set_last : (q : Id) → cell_of cells q ≡ cond (same_id id q) (Some (length old)) (cell_of grown q)
-  set_last q = set q ∙ ap (λ (j : ℕ). cond (same_id id q) (Some j) (cell_of grown q)) last
-
-  pub placed_put : (length ms ≡ length us) × IsPlaced new cells
+  pub placed_put : (length ms ≡ length us) × IsPlaced new noted
   placed_put = (
     omega (arith, ap length ids, length-append ns (n ∷ []), ap length values, length-append vs (v ∷ []), same),
-    subst (λ l. IsPlaced l cells) (sym both) (placed_push old grown cells there id v free room set_last),
+    subst (λ l. IsPlaced l noted) (sym both) (placed_push old cells noted at id v free room kept set_last),
   )
 
   pub updates_put : Updates old new id (Some v)
-  updates_put q = ap (λ l. indexed l q) both ∙ updates_push old grown cells there id v free room set_last q
+  updates_put q = ap (λ l. indexed l q) both ∙ updates_push old cells noted at id v free room kept set_last q

@@ -1,7 +1,6 @@
 -- Slots, and the cells that say where they are.
 use Rattle.std.proofs.Common.{◌≡◌, ◌∙◌, ℕ, zero, suc, true, false, List, [], ◌∷◌, Option, Some, None, length, option_map, slice_get, refl, sym, ap, arith}
 use Rattle.std.specs.Option.{is_some}
-use Rattle.std.specs.declared.vec.Vec.{Vec}
 use Rattle.std.proofs.lemmas.Bool.{true≢false}
 use Rattle.std.proofs.lemmas.Option.{slice_get_past}
 use Rattle.std.proofs.lemmas.Map.Entries.{place_from_lookup}
@@ -10,7 +9,6 @@ use Rattle.balise_rules.specs.Tags.{same_id}
 use Rattle.balise_rules.proofs.Cases.{unsome}
 use Rattle.balise_rules.proofs.Tests.{id_test, split_on}
 use Rattle.balise_index.specs.Identities.{indexed}
-use Rattle.balise_index.specs.Rows.{cell_of}
 use Rattle.balise_index.specs.IdentityMap.{IsPlaced}
 
 abbrev pub pair : {V : Type 0} → Id → V → Id × V
@@ -29,10 +27,10 @@ is_there [] i s e = cc
 is_there (x ∷ xs) zero s e = let d : same_id s.0 x.0 ≡ true = ap (λ (u : Id × _). same_id s.0 u.0) (unsome e) ∙ id_test.itself s.0 in simp d refl
 is_there (x ∷ xs) (suc i) s e = split_on (same_id s.0 x.0) (λ d. simp d refl) (λ d. simp d (is_there xs i s e))
 
-module _ {V Z : Type 0} (xs : List (Id × V)) (rows : List (Vec ℕ Z)) (at : IsPlaced xs rows) where
+module _ {V : Type 0} (xs : List (Id × V)) (cells : Id → Option ℕ) (at : IsPlaced xs cells) where
   -- each identity stands once
   pub once : (i j : ℕ) (s t : Id × V) → slice_get xs i ≡ Some s → slice_get xs j ≡ Some t → s.0 ≡ t.0 → i ≡ j
-  once i j s t e f d = unsome (sym (at.placed i s e) ∙ ap (cell_of rows) d ∙ at.placed j t f)
+  once i j s t e f d = unsome (sym (at.placed i s e) ∙ ap cells d ∙ at.placed j t f)
 
   pub found : (i : ℕ) (s : Id × V) → slice_get xs i ≡ Some s → indexed xs s.0 ≡ Some s.1
   found i s e =
@@ -60,20 +58,14 @@ module _ {V Z : Type 0} (xs : List (Id × V)) (rows : List (Vec ℕ Z)) (at : Is
   pub place_there : (q : Id) (i : ℕ) (s : Id × V) → slice_get xs i ≡ Some s → s.0 ≡ q → slice_get xs i ≡ option_map (λ (v : V). (q, v)) (indexed xs q)
   place_there q i s e d = e ∙ ap (λ (k : Id). Some (k, s.1)) d ∙ ap (option_map (λ (v : V). (q, v))) (sym (found i s e) ∙ ap (indexed xs) d)
 
-  pub no_cell : (q : Id) → cell_of rows q ≡ None → indexed xs q ≡ None
-  no_cell q n = unplaced q (λ i v e. none_some n (at.placed i (q, v) e))
-
-  pub other_there : (q : Id) (i : ℕ) → cell_of rows q ≡ Some i → ((s : Id × V) → slice_get xs i ≡ Some s → s.0 ≡ q → ⊥) → indexed xs q ≡ None
-  other_there q i c h = unplaced q (λ j v e. let same : j ≡ i = unsome (sym (at.placed j (q, v) e) ∙ c) in h (q, v) (ap (slice_get xs) (sym same) ∙ e) refl)
-
 -- two lists that have the same under an identity
-pub same_under : {V Z Y : Type 0} (xs ys : List (Id × V)) (rows : List (Vec ℕ Z)) (cells : List (Vec ℕ Y)) → IsPlaced xs rows → IsPlaced ys cells → (q : Id) →
+pub same_under : {V : Type 0} (xs ys : List (Id × V)) (cells noted : Id → Option ℕ) → IsPlaced xs cells → IsPlaced ys noted → (q : Id) →
     ((i : ℕ) (v : V) → slice_get xs i ≡ Some (q, v) → (j : ℕ) × (slice_get ys j ≡ Some (q, v))) →
     ((i : ℕ) (v : V) → slice_get ys i ≡ Some (q, v) → (j : ℕ) × (slice_get xs j ≡ Some (q, v))) → indexed xs q ≡ indexed ys q
-same_under xs ys rows cells at to q forth back =
+same_under xs ys cells noted at to q forth back =
     by_option (indexed xs q)
-    (λ n. n ∙ sym (unplaced ys cells to q (λ i v e. let b = back i v e in none_some n (found xs rows at b.0 (q, v) b.1))))
-    (λ v e. let p = standing xs rows at q v e in let f = forth p.0 v p.1 in e ∙ sym (found ys cells to f.0 (q, v) f.1))
+    (λ n. n ∙ sym (unplaced ys noted to q (λ i v e. let b = back i v e in none_some n (found xs cells at b.0 (q, v) b.1))))
+    (λ v e. let p = standing xs cells at q v e in let f = forth p.0 v p.1 in e ∙ sym (found ys noted to f.0 (q, v) f.1))
 
 pub at_place : {V : Type 0} (xs : List (Id × V)) (q : Id) (s : Id × V) → Some s ≡ option_map (λ (v : V). (q, v)) (indexed xs q) → (s.0 ≡ q) × (indexed xs q ≡ Some s.1)
 at_place {V} xs q s e = by (indexed xs q) e

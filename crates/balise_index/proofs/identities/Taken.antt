@@ -1,15 +1,14 @@
 -- One slot less, with the last one in its place.
-use Rattle.std.proofs.Common.{◌≡◌, ◌≢◌, ◌∙◌, ℕ, zero, suc, ◌-◌, ◌<◌, ◌≤◌, ◌⊎◌, inl, inr, cond, eqb, List, [], ◌∷◌, Some, None, length, take, slice_get, slice_set, slice_index_or, refl, sym, ap, arith}
+use Rattle.std.proofs.Common.{◌≡◌, ◌≢◌, ◌∙◌, ℕ, zero, suc, ◌-◌, ◌<◌, ◌≤◌, ◌⊎◌, inl, inr, false, cond, eqb, List, [], ◌∷◌, Option, Some, None, length, take, slice_get, slice_set, slice_index_or, refl, sym, ap, arith}
 use Rattle.std.specs.List.{swap_remove}
-use Rattle.std.specs.declared.vec.Vec.{Vec}
 use Rattle.std.proofs.lemmas.Bool.{true≢false, eqb-true, eqb-false, cases_lt}
 use Rattle.std.proofs.lemmas.Option.{slice_get_within, slice_get-get_or}
 use Rattle.balise_rules.specs.declared.identity.Id.{Id}
 use Rattle.balise_rules.specs.Tags.{same_id}
 use Rattle.balise_rules.proofs.Cases.{unsome}
-use Rattle.balise_rules.proofs.Tests.{id_test, split_on, split_keys}
+use Rattle.balise_rules.proofs.Tests.{id_test, split_on, split_keys, other_no}
 use Rattle.balise_index.specs.Identities.{indexed, Updates}
-use Rattle.balise_index.specs.Rows.{cell_of}
+use Rattle.balise_index.specs.Cells.{KeepsOthers}
 use Rattle.balise_index.specs.IdentityMap.{IsPlaced}
 use Rattle.balise_index.proofs.identities.Slots.{pair, unplaced, once, same_under}
 use Rattle.balise_index.proofs.identities.Written.{set_other, set_it}
@@ -26,7 +25,7 @@ take_front (suc n) [] j h = refl
 take_front (suc n) (y ∷ ys) zero h = refl
 take_front (suc n) (y ∷ ys) (suc j) h = take_front n ys j (omega (arith, h))
 
-module _ {V Z : Type 0} (xs : List (Id × V)) (rows : List (Vec ℕ Z)) (at : IsPlaced xs rows) (i : ℕ) (s : Id × V) (here : slice_get xs i ≡ Some s) where
+module _ {V : Type 0} (xs : List (Id × V)) (cells : Id → Option ℕ) (at : IsPlaced xs cells) (i : ℕ) (s : Id × V) (here : slice_get xs i ≡ Some s) where
   abbrev pub end : ℕ
   end = length xs - 1
 
@@ -42,8 +41,15 @@ module _ {V Z : Type 0} (xs : List (Id × V)) (rows : List (Vec ℕ Z)) (at : Is
   pub moved_here : i < end → slice_get fewer i ≡ Some moved
   moved_here w = take_front end (slice_set xs i moved) i w ∙ set_it xs i moved s here
 
-  pub moved_cell : cell_of rows moved.0 ≡ Some end
-  moved_cell = at.placed end moved last
+  apart : (j : ℕ) (t : Id × V) → slice_get xs j ≡ Some t → i ≢ j → same_id s.0 t.0 ≡ false
+  apart j t e n = other_no id_test s.0 t.0 (λ k. n (once xs cells at i j s t here e k))
+
+  -- the cell of each other slot still says where it is
+  pub left_cell : (left : Id → Option ℕ) → KeepsOthers cells left s.0 → (j : ℕ) (t : Id × V) → slice_get xs j ≡ Some t → i ≢ j → left t.0 ≡ Some j
+  left_cell left forgot j t e n = forgot t.0 (apart j t e n) j (at.placed j t e)
+
+  pub moved_cell : (left : Id → Option ℕ) → KeepsOthers cells left s.0 → i < end → left moved.0 ≡ Some end
+  moved_cell left forgot w = left_cell left forgot end moved last (λ k. omega (arith, w, k))
 
   stays : (j : ℕ) (t : Id × V) → slice_get fewer j ≡ Some t → (j < end) × (((i ≡ j) × (moved ≡ t)) ⊎ ((i ≢ j) × (slice_get xs j ≡ Some t)))
   stays j t e =
@@ -54,8 +60,8 @@ module _ {V Z : Type 0} (xs : List (Id × V)) (rows : List (Vec ℕ Z)) (at : Is
             (λ d. inr (eqb-false i j d, sym (set_other xs i j moved (eqb-false i j d)) ∙ h.1)),
       )
 
-  kept : (j : ℕ) (t : Id × V) → slice_get xs j ≡ Some t → i ≢ j → (k : ℕ) × (slice_get fewer k ≡ Some t)
-  kept j t e n = by (cases_lt j end)
+  stands : (j : ℕ) (t : Id × V) → slice_get xs j ≡ Some t → i ≢ j → (k : ℕ) × (slice_get fewer k ≡ Some t)
+  stands j t e n = by (cases_lt j end)
     where
       by : (j < end) ⊎ (end ≤ j) → (k : ℕ) × (slice_get fewer k ≡ Some t)
       by (inl h) = (j, take_front end (slice_set xs i moved) j h ∙ set_other xs i j moved n ∙ e)
@@ -69,41 +75,41 @@ module _ {V Z : Type 0} (xs : List (Id × V)) (rows : List (Vec ℕ Z)) (at : Is
           by_less : (i ≡ end → ⊥) → i ≤ end → i < end
           by_less n h = split_on (eqb i end) (λ d. absurd (n (eqb-true i end d))) (λ d. let m = eqb-false i end d in omega (arith, m, h))
 
-  pub placed_last : length fewer ≤ length xs → end ≤ i → IsPlaced fewer rows
-  placed_last short past = record {
+  pub placed_last : (left : Id → Option ℕ) → KeepsOthers cells left s.0 → length fewer ≤ length xs → end ≤ i → IsPlaced fewer left
+  placed_last left forgot short past = record {
     few = omega (arith, short, at.few);
     placed = λ j t e. let h = stays j t e in by j t h.0 h.1;
   }
     where
-      by : (j : ℕ) (t : Id × V) → j < end → ((i ≡ j) × (moved ≡ t)) ⊎ ((i ≢ j) × (slice_get xs j ≡ Some t)) → cell_of rows t.0 ≡ Some j
+      by : (j : ℕ) (t : Id × V) → j < end → ((i ≡ j) × (moved ≡ t)) ⊎ ((i ≢ j) × (slice_get xs j ≡ Some t)) → left t.0 ≡ Some j
       by j t w (inl h) = absurd (let k = h.0 in omega (arith, w, past, k))
-      by j t w (inr h) = at.placed j t h.1
+      by j t w (inr h) = left_cell left forgot j t h.1 h.0
 
-  pub placed_moved : (cells : List (Vec ℕ Z)) → length fewer ≤ length xs → ((q : Id) → cell_of cells q ≡ cond (same_id moved.0 q) (Some i) (cell_of rows q)) → IsPlaced fewer cells
-  placed_moved cells short set = record {
+  pub placed_moved : (left noted : Id → Option ℕ) → KeepsOthers cells left s.0 → length fewer ≤ length xs → KeepsOthers left noted moved.0 → noted moved.0 ≡ Some i → IsPlaced fewer noted
+  placed_moved left noted forgot short kept set = record {
     few = omega (arith, short, at.few);
     placed = λ j t e. let h = stays j t e in by j t h.0 h.1;
   }
     where
-      by : (j : ℕ) (t : Id × V) → j < end → ((i ≡ j) × (moved ≡ t)) ⊎ ((i ≢ j) × (slice_get xs j ≡ Some t)) → cell_of cells t.0 ≡ Some j
-      by j t w (inl h) = ap (λ (z : Id × V). cell_of cells z.0) (sym h.1) ∙ set moved.0 ∙ ap (λ b. cond b (Some i) (cell_of rows moved.0)) (id_test.itself moved.0) ∙ ap (λ (k : ℕ). Some k) h.0
+      by : (j : ℕ) (t : Id × V) → j < end → ((i ≡ j) × (moved ≡ t)) ⊎ ((i ≢ j) × (slice_get xs j ≡ Some t)) → noted t.0 ≡ Some j
+      by j t w (inl h) = ap (λ (z : Id × V). noted z.0) (sym h.1) ∙ set ∙ ap (λ (k : ℕ). Some k) h.0
       by j t w (inr h) =
-          split_keys id_test moved.0 t.0
-          (λ d k. absurd (let same = once xs rows at end j moved t last h.1 k in omega (arith, w, same)))
-          (λ d. set t.0 ∙ ap (λ b. cond b (Some i) (cell_of rows t.0)) d ∙ at.placed j t h.1)
+          kept t.0
+          (other_no id_test moved.0 t.0 (λ k. let same = once xs cells at end j moved t last h.1 k in omega (arith, w, same)))
+          j (left_cell left forgot j t h.1 h.0)
 
-  pub updates_out : (cells : List (Vec ℕ Z)) → IsPlaced fewer cells → Updates xs fewer s.0 None
-  updates_out cells to q =
+  pub updates_out : (noted : Id → Option ℕ) → IsPlaced fewer noted → Updates xs fewer s.0 None
+  updates_out noted to q =
       split_keys id_test s.0 q
-      (λ d k. unplaced fewer cells to q (λ j v e. let h = stays j (q, v) e in gone k j v h.0 h.1) ∙ ap (λ b. cond b None (indexed xs q)) (sym d))
-      (λ d. same_under fewer xs cells rows to at q
+      (λ d k. unplaced fewer noted to q (λ j v e. let h = stays j (q, v) e in gone k j v h.0 h.1) ∙ ap (λ b. cond b None (indexed xs q)) (sym d))
+      (λ d. same_under fewer xs noted cells to at q
       (λ j v e. let h = stays j (q, v) e in back j v h.1)
-      (λ j v e. kept j (q, v) e (λ k. let u : s ≡ pair q v = unsome (sym here ∙ ap (slice_get xs) k ∙ e) in true≢false (sym (id_test.itself s.0) ∙ ap (λ (z : Id × V). same_id s.0 z.0) u ∙ d)))
+      (λ j v e. stands j (q, v) e (λ k. let u : s ≡ pair q v = unsome (sym here ∙ ap (slice_get xs) k ∙ e) in true≢false (sym (id_test.itself s.0) ∙ ap (λ (z : Id × V). same_id s.0 z.0) u ∙ d)))
       ∙ ap (λ b. cond b None (indexed xs q)) (sym d))
     where
       gone : s.0 ≡ q → (j : ℕ) (v : V) → j < end → ((i ≡ j) × (moved ≡ pair q v)) ⊎ ((i ≢ j) × (slice_get xs j ≡ Some (pair q v))) → ⊥
-      gone k j v w (inl h) = let same = once xs rows at end i moved s last here (ap (λ (z : Id × V). z.0) h.1 ∙ sym k) in let e = h.0 in omega (arith, w, same, e)
-      gone k j v w (inr h) = h.0 (once xs rows at i j s (pair q v) here h.1 k)
+      gone k j v w (inl h) = let same = once xs cells at end i moved s last here (ap (λ (z : Id × V). z.0) h.1 ∙ sym k) in let e = h.0 in omega (arith, w, same, e)
+      gone k j v w (inr h) = h.0 (once xs cells at i j s (pair q v) here h.1 k)
 
       back : (j : ℕ) (v : V) → ((i ≡ j) × (moved ≡ pair q v)) ⊎ ((i ≢ j) × (slice_get xs j ≡ Some (pair q v))) → (k : ℕ) × (slice_get xs k ≡ Some (q, v))
       back j v (inl h) = (end, last ∙ ap (λ (z : Id × V). Some z) h.1)

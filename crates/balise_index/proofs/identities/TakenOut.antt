@@ -1,20 +1,18 @@
 -- One slot less, where the slots are held as two lists.
-use Rattle.std.proofs.Common.{◌≡◌, ◌∙◌, ℕ, ◌-◌, ◌<◌, ◌≤◌, cond, List, Some, None, length, option_map, slice_get, slice_set, slice_index_or, refl, sym, ap, arith, subst}
+use Rattle.std.proofs.Common.{◌≡◌, ◌∙◌, ℕ, ◌-◌, ◌<◌, ◌≤◌, cond, List, Option, Some, None, length, option_map, slice_get, slice_set, slice_index_or, refl, sym, ap, arith, subst}
 use Rattle.std.specs.List.{swap_remove}
 use Rattle.std.proofs.Math.ListN.{length-set}
 use Rattle.std.proofs.lemmas.List.{length-take-le}
 use Rattle.std.specs.Option.{is_some}
-use Rattle.std.specs.declared.vec.Vec.{Vec}
 use Rattle.std.proofs.lemmas.Option.{slice_get_past, slice_get_read}
 use Rattle.balise_rules.specs.declared.identity.Id.{Id}
-use Rattle.balise_rules.specs.Tags.{same_id}
 use Rattle.balise_rules.proofs.Cases.{unsome}
 use Rattle.balise_rules.proofs.Tests.{id_test, split_keys}
 use Rattle.balise_index.specs.declared.identity_map.narrow.Narrow.{Narrow}
 use Rattle.balise_index.specs.Identities.{indexed, Updates}
+use Rattle.balise_index.specs.Cells.{KeepsOthers}
 use Rattle.balise_index.specs.IdentityMap.{IsPlaced}
 use Rattle.balise_index.specs.Narrow.{wide, slots_of}
-use Rattle.balise_index.specs.Rows.{cell_of}
 use Rattle.balise_index.proofs.identities.Slots.{at_place, no_place}
 use Rattle.balise_index.proofs.identities.Taken.{moved, moved_here, moved_cell, placed_last, placed_moved, updates_out}
 use Rattle.balise_index.proofs.identities.TwoLists.{length_slots, get_slot, slot_value, slots_swap_remove}
@@ -35,8 +33,9 @@ updates_none xs i n q =
     (λ d e. ap (indexed xs) (sym e) ∙ n ∙ ap (λ b. cond b None (indexed xs q)) (sym d))
     (λ d. ap (λ b. cond b None (indexed xs q)) (sym d))
 
-module _ {V Z : Type 0} (ns ms : List Narrow) (vs us : List V) (rows : List (Vec ℕ Z)) (same : length ns ≡ length vs) (at : IsPlaced (slots_of ns vs) rows) (i : ℕ) (n : Narrow) (v : V)
-    (inside : i < length ns) (n_is : n ≡ slice_index_or ns i n) (v_is : v ≡ slice_index_or vs i v) (ids : ms ≡ swap_remove ns i n) (values : us ≡ swap_remove vs i v) where
+module _ {V : Type 0} (ns ms : List Narrow) (vs us : List V) (cells : Id → Option ℕ) (same : length ns ≡ length vs) (at : IsPlaced (slots_of ns vs) cells) (i : ℕ) (n : Narrow) (v : V)
+    (inside : i < length ns) (n_is : n ≡ slice_index_or ns i n) (v_is : v ≡ slice_index_or vs i v) (ids : ms ≡ swap_remove ns i n) (values : us ≡ swap_remove vs i v)
+    (q : Id) (place : slice_get (slots_of ns vs) i ≡ option_map (λ (w : V). (q, w)) (indexed (slots_of ns vs) q)) where
   abbrev old : List (Id × V)
   old = slots_of ns vs
 
@@ -49,8 +48,11 @@ module _ {V Z : Type 0} (ns ms : List Narrow) (vs us : List V) (rows : List (Vec
   here : slice_get old i ≡ Some taken
   here = get_slot ns vs i n v (slice_get_read ns (length ns) i n refl inside n_is) (slice_get_read vs (length ns) i v same inside v_is)
 
-  pub taken_value : (q : Id) → slice_get old i ≡ option_map (λ (w : V). (q, w)) (indexed old q) → (wide n ≡ q) × (indexed old q ≡ Some v)
-  taken_value q p = at_place old q taken (sym here ∙ p)
+  its : (wide n ≡ q) × (indexed old q ≡ Some v)
+  its = at_place old q taken (sym here ∙ place)
+
+  pub taken_value : indexed old q ≡ Some v
+  taken_value = its.1
 
   count : length ms ≡ length ns - 1
   count = ap length ids ∙ length_swap_remove ns i n
@@ -64,31 +66,45 @@ module _ {V Z : Type 0} (ns ms : List Narrow) (vs us : List V) (rows : List (Vec
   less : length (swap_remove old i taken) ≤ length old
   less = omega (arith, count, ap length both, length_slots ms us one_each, length_slots ns vs same)
 
-  pub placed_end : length ns - 1 ≤ i → (length ms ≡ length us) × IsPlaced new rows
-  placed_end past = (one_each, subst (λ l. IsPlaced l rows) (sym both) (placed_last old rows at i taken here less (omega (arith, past, length_slots ns vs same))))
+  out : (noted : Id → Option ℕ) → IsPlaced (swap_remove old i taken) noted → Updates old new q None
+  out noted placed r = ap (λ l. indexed l r) both ∙ subst (λ (k : Id). Updates old (swap_remove old i taken) k None) its.0 (updates_out old cells at i taken here noted placed) r
 
-  pub updates_end : length ns - 1 ≤ i → Updates old new (wide n) None
-  updates_end past q = ap (λ l. indexed l q) both ∙ updates_out old rows at i taken here rows (placed_last old rows at i taken here less (omega (arith, past, length_slots ns vs same))) q
+  -- the cells that are left, once that of the identity is out
+  module _ (left : Id → Option ℕ) (kept : KeepsOthers cells left q) where
+    forgot : KeepsOthers cells left taken.0
+    forgot = subst (KeepsOthers cells left) (sym its.0) kept
 
-  module _ (d : Narrow) (within : i < length ns - 1) (d_is : d ≡ slice_index_or ms i d) where
-    there : slice_get ms i ≡ Some d
-    there = slice_get_read ms (length ms) i d refl (omega (arith, within, count)) d_is
+    -- where the last slot is taken out
+    module _ (past : length ns - 1 ≤ i) where
+      ends : IsPlaced (swap_remove old i taken) left
+      ends = placed_last old cells at i taken here left forgot less (omega (arith, past, length_slots ns vs same))
 
-    moved_id : wide d ≡ (moved old rows at i taken here).0
-    moved_id =
-        let u = slot_value ms us i d one_each there in
-        let e = get_slot ms us i d u.0 there u.1 in
-        ap (λ (z : Id × V). z.0) (unsome (sym e ∙ ap (λ l. slice_get l i) both ∙ moved_here old rows at i taken here (omega (arith, within, length_slots ns vs same))))
+      pub placed_end : (length ms ≡ length us) × IsPlaced new left
+      placed_end = (one_each, subst (λ l. IsPlaced l left) (sym both) ends)
 
-    pub end_cell : cell_of rows (wide d) ≡ Some (length old - 1)
-    end_cell = ap (cell_of rows) moved_id ∙ moved_cell old rows at i taken here
+      pub updates_end : Updates old new q None
+      updates_end = out left ends
 
-    module _ (cells : List (Vec ℕ Z)) (set : (q : Id) → cell_of cells q ≡ cond (same_id (wide d) q) (Some i) (cell_of rows q)) where
-      placed : IsPlaced (swap_remove old i taken) cells
-      placed = placed_moved old rows at i taken here cells less (λ q. set q ∙ ap (λ (z : Id). cond (same_id z q) (Some i) (cell_of rows q)) moved_id)
+    -- where the last slot takes its place
+    module _ (d : Narrow) (within : i < length ns - 1) (d_is : d ≡ slice_index_or ms i d) where
+      there : slice_get ms i ≡ Some d
+      there = slice_get_read ms (length ms) i d refl (omega (arith, within, count)) d_is
 
-      pub placed_within : (length ms ≡ length us) × IsPlaced new cells
-      placed_within = (one_each, subst (λ l. IsPlaced l cells) (sym both) placed)
+      moved_id : wide d ≡ (moved old cells at i taken here).0
+      moved_id =
+          let u = slot_value ms us i d one_each there in
+          let e = get_slot ms us i d u.0 there u.1 in
+          ap (λ (z : Id × V). z.0) (unsome (sym e ∙ ap (λ l. slice_get l i) both ∙ moved_here old cells at i taken here (omega (arith, within, length_slots ns vs same))))
 
-      pub updates_within : Updates old new (wide n) None
-      updates_within q = ap (λ l. indexed l q) both ∙ updates_out old rows at i taken here cells placed q
+      pub end_cell : left (wide d) ≡ Some (length old - 1)
+      end_cell = ap left moved_id ∙ moved_cell old cells at i taken here left forgot (omega (arith, within, length_slots ns vs same))
+
+      module _ (noted : Id → Option ℕ) (others : KeepsOthers left noted (wide d)) (set : noted (wide d) ≡ Some i) where
+        placed : IsPlaced (swap_remove old i taken) noted
+        placed = placed_moved old cells at i taken here left noted forgot less (subst (KeepsOthers left noted) moved_id others) (ap noted (sym moved_id) ∙ set)
+
+        pub placed_within : (length ms ≡ length us) × IsPlaced new noted
+        placed_within = (one_each, subst (λ l. IsPlaced l noted) (sym both) placed)
+
+        pub updates_within : Updates old new q None
+        updates_within = out noted placed

@@ -2,7 +2,6 @@
 use Rattle.std.proofs.Common.{◌≡◌, ◌∙◌, ℕ, zero, suc, ◌-◌, true, ltb, List, [], ◌∷◌, ◌++◌, Option, Some, None, length, take, option_map, slice_get, slice_set, slice_index_or, refl, sym, ap, arith, subst}
 use Rattle.std.specs.List.{swap_remove}
 use Rattle.std.specs.Option.{is_some, IfSome}
-use Rattle.std.specs.declared.vec.Vec.{Vec}
 use Rattle.std.proofs.lemmas.Bool.{true≢false, ltb-true, ltb-false}
 use Rattle.std.proofs.lemmas.Option.{slice_get_past, slice_get_read}
 use Rattle.balise_rules.specs.declared.identity.Id.{Id}
@@ -110,14 +109,14 @@ set_past (y ∷ ys) zero x e = cc
 set_past (y ∷ ys) (suc i) x e = ap (λ l. y ∷ l) (set_past ys i x e)
 
 -- one value written
-module _ {V Z : Type 0} (ns : List Narrow) (vs : List V) (rows : List (Vec ℕ Z)) (same : length ns ≡ length vs) (at : IsPlaced (slots_of ns vs) rows) (i : ℕ) (w : V) where
-  pub placed_written : IsPlaced (slots_of ns (slice_set vs i w)) rows
+module _ {V : Type 0} (ns : List Narrow) (vs : List V) (cells : Id → Option ℕ) (same : length ns ≡ length vs) (at : IsPlaced (slots_of ns vs) cells) (i : ℕ) (w : V) where
+  pub placed_written : IsPlaced (slots_of ns (slice_set vs i w)) cells
   placed_written =
       by_option (slice_get vs i)
-      (λ n. subst (λ l. IsPlaced (slots_of ns l) rows) (sym (set_past vs i w n)) at)
+      (λ n. subst (λ l. IsPlaced (slots_of ns l) cells) (sym (set_past vs i w n)) at)
       (λ v h.
       let k = slot_identity ns vs i v same h in
-      subst (λ l. IsPlaced l rows) (sym (slots_set ns vs i k.0 w k.1)) (placed_set (slots_of ns vs) rows at i (wide k.0, v) (get_slot ns vs i k.0 v k.1 h) w))
+      subst (λ l. IsPlaced l cells) (sym (slots_set ns vs i k.0 w k.1)) (placed_set (slots_of ns vs) cells at i (wide k.0, v) (get_slot ns vs i k.0 v k.1 h) w))
 
   pub updates_written : (q : Id) → slice_get (slots_of ns vs) i ≡ option_map (λ (v : V). (q, v)) (indexed (slots_of ns vs) q) → is_some (indexed (slots_of ns vs) q) ≡ true →
       Updates (slots_of ns vs) (slots_of ns (slice_set vs i w)) q (Some w)
@@ -130,4 +129,4 @@ module _ {V Z : Type 0} (ns : List Narrow) (vs : List V) (rows : List (Vec ℕ Z
       let s = get_slot ns vs i k.0 v k.1 there in
       let a = at_place (slots_of ns vs) q (wide k.0, v) (sym s ∙ p) in
       subst (λ l. Updates (slots_of ns vs) l q (Some w)) (sym (slots_set ns vs i k.0 w k.1))
-      (subst (λ (j : Id). Updates (slots_of ns vs) (slice_set (slots_of ns vs) i (wide k.0, w)) j (Some w)) a.0 (updates_set (slots_of ns vs) rows at i (wide k.0, v) s w)))
+      (subst (λ (j : Id). Updates (slots_of ns vs) (slice_set (slots_of ns vs) i (wide k.0, w)) j (Some w)) a.0 (updates_set (slots_of ns vs) cells at i (wide k.0, v) s w)))

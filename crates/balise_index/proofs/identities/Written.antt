@@ -1,6 +1,5 @@
 -- One value written to its slot.
-use Rattle.std.proofs.Common.{◌≡◌, ◌≢◌, ◌∙◌, ℕ, zero, suc, true, false, cond, eqb, List, [], ◌∷◌, Some, slice_get, slice_set, refl, sym, ap, arith}
-use Rattle.std.specs.declared.vec.Vec.{Vec}
+use Rattle.std.proofs.Common.{◌≡◌, ◌≢◌, ◌∙◌, ℕ, zero, suc, true, false, cond, eqb, List, [], ◌∷◌, Option, Some, slice_get, slice_set, refl, sym, ap, arith}
 use Rattle.std.proofs.lemmas.Bool.{true≢false, eqb-true, eqb-false, eq-eqb}
 use Rattle.std.proofs.Math.ListN.{length-set}
 use Rattle.balise_rules.specs.declared.identity.Id.{Id}
@@ -8,7 +7,6 @@ use Rattle.balise_rules.specs.Tags.{same_id}
 use Rattle.balise_rules.proofs.Cases.{unsome}
 use Rattle.balise_rules.proofs.Tests.{id_test, split_on, split_keys}
 use Rattle.balise_index.specs.Identities.{indexed, Updates}
-use Rattle.balise_index.specs.Rows.{cell_of}
 use Rattle.balise_index.specs.IdentityMap.{IsPlaced}
 use Rattle.balise_index.proofs.identities.Slots.{pair, found, same_under}
 
@@ -24,7 +22,7 @@ set_other (y ∷ ys) zero (suc j) x n = refl
 set_other (y ∷ ys) (suc i) zero x n = refl
 set_other (y ∷ ys) (suc i) (suc j) x n = set_other ys i j x (λ e. n (ap suc e))
 
-module _ {V Z : Type 0} (xs : List (Id × V)) (rows : List (Vec ℕ Z)) (at : IsPlaced xs rows) (i : ℕ) (s : Id × V) (here : slice_get xs i ≡ Some s) (w : V) where
+module _ {V : Type 0} (xs : List (Id × V)) (cells : Id → Option ℕ) (at : IsPlaced xs cells) (i : ℕ) (s : Id × V) (here : slice_get xs i ≡ Some s) (w : V) where
   abbrev written : List (Id × V)
   written = slice_set xs i (s.0, w)
 
@@ -34,19 +32,19 @@ module _ {V Z : Type 0} (xs : List (Id × V)) (rows : List (Vec ℕ Z)) (at : Is
   elsewhere : (j : ℕ) → eqb i j ≡ false → slice_get written j ≡ slice_get xs j
   elsewhere j d = set_other xs i j (s.0, w) (eqb-false i j d)
 
-  pub placed_set : IsPlaced written rows
+  pub placed_set : IsPlaced written cells
   placed_set = record {
     few = omega (arith, at.few, length-set xs i (s.0, w));
     placed = λ j t e. split_on (eqb i j)
-        (λ d. let u : pair s.0 w ≡ t = unsome (sym (at_it j d) ∙ e) in ap (λ (z : Id × V). cell_of rows z.0) (sym u) ∙ at.placed i s here ∙ ap (λ (k : ℕ). Some k) (eqb-true i j d))
+        (λ d. let u : pair s.0 w ≡ t = unsome (sym (at_it j d) ∙ e) in ap (λ (z : Id × V). cells z.0) (sym u) ∙ at.placed i s here ∙ ap (λ (k : ℕ). Some k) (eqb-true i j d))
         (λ d. at.placed j t (sym (elsewhere j d) ∙ e));
   }
 
   pub updates_set : Updates xs written s.0 (Some w)
   updates_set q =
       split_keys id_test s.0 q
-      (λ d e. ap (indexed written) (sym e) ∙ found written rows placed_set i (s.0, w) (at_it i (eq-eqb i i refl)) ∙ ap (λ b. cond b (Some w) (indexed xs q)) (sym d))
-      (λ d. same_under written xs rows rows placed_set at q
+      (λ d e. ap (indexed written) (sym e) ∙ found written cells placed_set i (s.0, w) (at_it i (eq-eqb i i refl)) ∙ ap (λ b. cond b (Some w) (indexed xs q)) (sym d))
+      (λ d. same_under written xs cells cells placed_set at q
       (λ j v e. split_on (eqb i j)
       (λ h. let u : pair s.0 w ≡ pair q v = unsome (sym (at_it j h) ∙ e) in absurd (true≢false (sym (id_test.itself s.0) ∙ ap (λ (z : Id × V). same_id s.0 z.0) u ∙ d)))
       (λ h. (j, sym (elsewhere j h) ∙ e)))

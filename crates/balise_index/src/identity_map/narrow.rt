@@ -1,7 +1,7 @@
 //! An identity in four bytes.
 
 ghost use Rattle.std.specs.Prelude.{◌≡◌, ◌≤◌, ◌^◌, ◌⊎◌, IfNone, IfSome};
-ghost use Rattle.balise_index.specs.Narrow.{wide};
+ghost use Rattle.balise_index.specs.Narrow.{right_cell, wide};
 
 use balise_rules::Id;
 
@@ -36,5 +36,16 @@ impl Narrow {
             country: self.country as u32,
             number: self.number as u32,
         }
+    }
+}
+
+/// What a cell says of an identity, if the slot that it names has it.
+pub(super) fn right_cell(ids: &Vec<Narrow>, cell: Option<u32>, id: Id) -> Option<u32>
+    ensures { result ≡ right_cell ids.now.items cell id }
+{
+    let i = cell?;
+    match ids.get(i as usize) {
+        Some(held) if held.wide() == id => Some(i),
+        _ => None,
     }
 }

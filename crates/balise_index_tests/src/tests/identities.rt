@@ -26,7 +26,7 @@ pub(crate) fn value(map: &IdentityMap<u32>, id: Id) -> Option<u32> {
 }
 
 /// Writes over the value under an identity, if there is one.
-fn write(map: &mut IdentityMap<u32>, id: Id, value: u32) -> bool {
+pub(crate) fn write(map: &mut IdentityMap<u32>, id: Id, value: u32) -> bool {
     let Some(held) = map.get_mut(id) else {
         return false;
     };

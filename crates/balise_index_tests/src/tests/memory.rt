@@ -1,6 +1,7 @@
 //! Growth that may be refused, and then leaves all as before.
 //!
-//! In a plain run each is done. `rt try --test --fail-alloc N` makes the Nth allocation fail.
+//! Each test comes twice: as it is, for a run in which one growth is refused, and with ample memory, where nothing may
+//! be refused. `scripts/check/test_growths.py` refuses each growth of the first in turn.
 
 use crate::tests::identities::{id, put as put_under, value};
 use crate::tests::links::nth;
@@ -9,6 +10,18 @@ use balise_index::{IdentityMap, LinkPlace, Links, OrderedMap};
 use balise_rules::{Id, Tag};
 use std::alloc::Global;
 use std::process::Abort;
+
+/// Whether a growth may be refused in this run.
+#[derive(Clone, Copy, PartialEq, Eq)]
+enum Memory {
+    Ample,
+    OneRefused,
+}
+
+/// That all were put in, or that a growth may be refused.
+fn check_held(rt: &impl Abort, memory: Memory, held: u32, count: u32) {
+    assert!(rt; held == count || memory == Memory::OneRefused);
+}
 
 /// The value that stands at each place is twice the place.
 fn is_doubled(map: &OrderedMap<u32>, count: u32) -> bool {
@@ -33,15 +46,21 @@ fn put_up_to(map: &mut OrderedMap<u32>, count: u32) -> u32 {
 }
 
 /// Fills two blocks one by one. A value is put in, or all stays.
-fn fill_map(rt: &impl Abort, alloc: Global) {
+fn fill_map(rt: &impl Abort, alloc: Global, memory: Memory) {
     let mut map = OrderedMap::new(alloc);
     let held = put_up_to(&mut map, 1025);
     assert!(rt; is_doubled(&map, held));
+    check_held(rt, memory, held, 1025);
 }
 
 #[test]
 fn a_map_takes_a_value_or_stays(rt: HostRuntime) {
-    fill_map(&rt, rt.alloc());
+    fill_map(&rt, rt.alloc(), Memory::OneRefused);
+}
+
+#[test]
+fn a_map_takes_values_with_ample_memory(rt: HostRuntime) {
+    fill_map(&rt, rt.alloc(), Memory::Ample);
     let map: OrderedMap<u32> = OrderedMap::new(rt.alloc());
     assert!(&rt; has(&map, &[]));
 }
@@ -59,29 +78,83 @@ fn has_first(map: &IdentityMap<u32>, ids: &[Id], count: u32) -> bool {
 }
 
 /// Puts values under identities of which each needs a longer row, or one more row.
-fn fill_identities(rt: &impl Abort, alloc: Global) {
+fn fill_identities(rt: &impl Abort, alloc: Global, memory: Memory) {
     let ids = [
         id(0, 0),
         id(0, 16382),
         id(3, 1),
         id(3, 5000),
         id(1023, 16382),
+        id(0, 20),
     ];
     let mut map = IdentityMap::new(alloc);
     let mut n: u32 = 0;
     for id in &ids {
         if !put_under(&mut map, *id, n) {
             assert!(rt; has_first(&map, &ids, n));
+            check_held(rt, memory, n, 6);
             return;
         }
         n = n.saturating_add(1);
     }
-    assert!(rt; has_first(&map, &ids, 5));
+    assert!(rt; has_first(&map, &ids, 6));
 }
 
 #[test]
 fn identities_take_a_value_or_stay(rt: HostRuntime) {
-    fill_identities(&rt, rt.alloc());
+    fill_identities(&rt, rt.alloc(), Memory::OneRefused);
+}
+
+#[test]
+fn identities_take_values_with_ample_memory(rt: HostRuntime) {
+    fill_identities(&rt, rt.alloc(), Memory::Ample);
+}
+
+/// The largest number of a country.
+fn nth_far(n: u32) -> Id {
+    id(n, 16382)
+}
+
+/// Whether exactly so many first identities have twice their serials as values.
+fn has_far(map: &IdentityMap<u32>, held: u32, count: u32) -> bool {
+    let mut same = true;
+    for n in 0..count {
+        let expected = if n < held {
+            Some(n.wrapping_mul(2))
+        } else {
+            None
+        };
+        same &= value(map, nth_far(n)) == expected;
+    }
+    same
+}
+
+/// Puts values in one by one, and returns how many there was memory for.
+fn put_far_up_to(map: &mut IdentityMap<u32>, count: u32) -> u32 {
+    for n in 0..count {
+        if !put_under(map, nth_far(n), n.wrapping_mul(2)) {
+            return n;
+        }
+    }
+    count
+}
+
+/// Puts values in under identities of which all but the first have far cells. A value is put in, or all stays.
+fn fill_far(rt: &impl Abort, alloc: Global, memory: Memory) {
+    let mut map = IdentityMap::new(alloc);
+    let held = put_far_up_to(&mut map, 60);
+    assert!(rt; has_far(&map, held, 60));
+    check_held(rt, memory, held, 60);
+}
+
+#[test]
+fn far_identities_take_a_value_or_stay(rt: HostRuntime) {
+    fill_far(&rt, rt.alloc(), Memory::OneRefused);
+}
+
+#[test]
+fn far_identities_take_values_with_ample_memory(rt: HostRuntime) {
+    fill_far(&rt, rt.alloc(), Memory::Ample);
 }
 
 /// Whether a set has exactly the first places.
@@ -107,13 +180,19 @@ fn insert_up_to(alloc: Global, links: &mut Links, count: u32) -> u32 {
 }
 
 /// Grows a set from one place over a list to a tree. A place is put in, or all stays.
-fn fill_links(rt: &impl Abort, alloc: Global) {
+fn fill_links(rt: &impl Abort, alloc: Global, memory: Memory) {
     let mut links = Links::new();
     let held = insert_up_to(alloc, &mut links, 100);
     assert!(rt; is_first(&links, held));
+    check_held(rt, memory, held, 100);
 }
 
 #[test]
 fn a_set_takes_a_place_or_stays(rt: HostRuntime) {
-    fill_links(&rt, rt.alloc());
+    fill_links(&rt, rt.alloc(), Memory::OneRefused);
+}
+
+#[test]
+fn a_set_takes_places_with_ample_memory(rt: HostRuntime) {
+    fill_links(&rt, rt.alloc(), Memory::Ample);
 }

@@ -207,6 +207,8 @@ fn check_links_in(rt: &impl Abort, bits: &Bits, at: usize, row: &Named) {
     assert!(rt; links.expect(rt, "memory").as_slice() == row.2);
     let lent = PacketRef::new(bits, at, row.1);
     assert!(rt; lent.elements(5).as_slice() == row.2);
+    let few = lent.few_elements(5).expect(rt, "few elements");
+    assert!(rt; few.as_slice() == row.2);
     assert!(rt; lent.has_elements() == (row.2.len() > 0));
 }
 

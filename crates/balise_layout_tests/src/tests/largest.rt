@@ -46,13 +46,14 @@ fn push_element(rt: &impl Abort, bits: &mut Bits, k: u32)
     );
 }
 
-// A packet 5 with N_ITER 31.
-fn linking(rt: &impl Abort, alloc: Global) -> Bits {
+// A packet 5 of so many elements: 1 to 32.
+fn linking(rt: &impl Abort, alloc: Global, count: u32) -> Bits {
+    assert!(rt; (1 <= count) & (count <= 32));
     let mut bits = Bits::new(alloc);
-    push_front(rt, &mut bits, 5, 1278);
+    push_front(rt, &mut bits, 5, 30 + 39 * count);
     push_element(rt, &mut bits, 0);
-    push(rt, &mut bits, &[(Var::NIter, 31)]);
-    for k in 1..32 {
+    push(rt, &mut bits, &[(Var::NIter, count - 1)]);
+    for k in 1..count {
         push_element(rt, &mut bits, k);
     }
     bits
@@ -101,9 +102,27 @@ fn check_large(rt: &impl Abort, bits: &Bits, count: usize) {
     check_lent(rt, bits, 0, 33, digits.as_str());
 }
 
+// That the elements are few where they are at most four, and then are these.
+fn check_few(rt: &impl Abort, packet: &Packet, count: usize) {
+    let elements = packet.elements(7);
+    assert!(rt; elements.len() == count);
+    match packet.lend().few_elements(7) {
+        Some(few) => assert!(rt; (count <= 4) & (few.as_slice() == elements.as_slice())),
+        None => assert!(rt; count > 4),
+    }
+}
+
+#[test]
+fn up_to_four_elements_are_few(rt: HostRuntime) {
+    for count in &[1_u32, 3, 4, 5, 6, 32] {
+        let bits = linking(&rt, rt.alloc(), *count);
+        check_few(&rt, &read(&rt, &bits), *count as usize);
+    }
+}
+
 #[test]
 fn a_packet_5_of_32_elements_is_read(rt: HostRuntime) {
-    let bits = linking(&rt, rt.alloc());
+    let bits = linking(&rt, rt.alloc(), 32);
     check_all_named(&rt, &read(&rt, &bits));
     check_large(&rt, &bits, 197);
 }

@@ -56,10 +56,10 @@ pub(crate) fn check_alike(rt: &impl Abort, packet: &Packet, lent: &PacketRef<'_>
     check_links(rt, packet, lent);
 }
 
-// The same of the packet that stands at a place of bits, and of the packet itself, lent.
+// The same of the packet that stands at a place of bits. Cut out, there and of the packet itself, it has the digits.
 pub(crate) fn check_lent(rt: &impl Abort, bits: &Bits, at: usize, version: u32, digits: &str) {
     let (packet, _) = Packet::read(bits, at, version).expect(rt, "a packet");
-    check_alike(rt, &packet, &packet.lend());
+    check_cut(rt, bits.allocator(), &packet.lend(), digits);
     let lent = PacketRef::new(bits, at, version);
     check_alike(rt, &packet, &lent);
     check_cut(rt, bits.allocator(), &lent, digits);

@@ -1,6 +1,6 @@
 //! The links of one packet in the index of names.
 
-ghost use Rattle.std.specs.Prelude.{◌≡◌, OnOk, OnErr};
+ghost use Rattle.std.specs.Prelude.{◌≡◌, ◌≤◌, OnOk, OnErr, length};
 ghost use Rattle.balise_rules.specs.Names.{links_of};
 ghost use Rattle.balise_plan.specs.GroupLinks.{links_from, AddsAll, ForgetsAll, KeepsOthers};
 ghost use Rattle.balise_plan.specs.Links.{AreFull};
@@ -8,8 +8,8 @@ ghost use Rattle.balise_plan.specs.Links.{AreFull};
 use crate::links::names::{add, forget};
 use crate::packet_place::PacketPlace;
 use balise_index::{IdentityMap, Links};
-use balise_layout::{Elements, PacketRef};
-use balise_rules::NO_GROUP;
+use balise_layout::PacketRef;
+use balise_rules::{Id, NO_GROUP};
 use std::alloc::{AllocError, Global};
 
 /// Notes the links of a packet in a telegram of this country. Where memory runs out, some of them may be noted.
@@ -43,20 +43,41 @@ fn add_linking(
     ensures others { OnErr result (KeepsOthers (links_from place.group place.telegram place.packet 0 (links_of country packet.now)) names.old names.new) }
     ensures full { AreFull names.old → AreFull names.new }
 {
-    add_elements(alloc, names, place, &packet.elements(country))
+    match packet.few_elements(country) {
+        Some(few) => add_elements(alloc, names, place, few.as_slice()),
+        None => add_many(alloc, names, place, country, packet),
+    }
 }
 
+// Notes the links of a packet of any number of elements. Out of line, since `Elements` takes much of the stack.
+#[inline(never)]
+fn add_many(
+    alloc: Global,
+    names: &mut IdentityMap<Links>,
+    place: PacketPlace,
+    country: u32,
+    packet: &PacketRef,
+) -> Result<(), AllocError>
+    ensures added { OnOk result (AddsAll (links_from place.group place.telegram place.packet 0 (links_of country packet.now)) names.old names.new) }
+    ensures others { OnErr result (KeepsOthers (links_from place.group place.telegram place.packet 0 (links_of country packet.now)) names.old names.new) }
+    ensures full { AreFull names.old → AreFull names.new }
+{
+    let elements = packet.elements(country);
+    add_elements(alloc, names, place, elements.as_slice())
+}
+
+#[inline(always)]
 fn add_elements(
     alloc: Global,
     names: &mut IdentityMap<Links>,
     place: PacketPlace,
-    elements: &Elements,
+    identities: &[Id],
 ) -> Result<(), AllocError>
-    ensures added { OnOk result (AddsAll (links_from place.group place.telegram place.packet 0 elements.now) names.old names.new) }
-    ensures others { OnErr result (KeepsOthers (links_from place.group place.telegram place.packet 0 elements.now) names.old names.new) }
+    requires { length identities.now ≤ 32 }
+    ensures added { OnOk result (AddsAll (links_from place.group place.telegram place.packet 0 identities.now) names.old names.new) }
+    ensures others { OnErr result (KeepsOthers (links_from place.group place.telegram place.packet 0 identities.now) names.old names.new) }
     ensures full { AreFull names.old → AreFull names.new }
 {
-    let identities = elements.as_slice();
     for k in 0..identities.len() {
         let id = identities[k];
         if id.number == NO_GROUP {
@@ -93,14 +114,28 @@ fn forget_linking(
     ensures forgotten { ForgetsAll (links_from place.group place.telegram place.packet 0 (links_of country packet.now)) names.old names.new }
     ensures full { AreFull names.old → AreFull names.new }
 {
-    forget_elements(names, place, &packet.elements(country));
+    match packet.few_elements(country) {
+        Some(few) => forget_elements(names, place, few.as_slice()),
+        None => forget_many(names, place, country, packet),
+    }
 }
 
-fn forget_elements(names: &mut IdentityMap<Links>, place: PacketPlace, elements: &Elements)
-    ensures forgotten { ForgetsAll (links_from place.group place.telegram place.packet 0 elements.now) names.old names.new }
+// Forgets the links of a packet of any number of elements. Out of line, since `Elements` takes much of the stack.
+#[inline(never)]
+fn forget_many(names: &mut IdentityMap<Links>, place: PacketPlace, country: u32, packet: &PacketRef)
+    ensures forgotten { ForgetsAll (links_from place.group place.telegram place.packet 0 (links_of country packet.now)) names.old names.new }
     ensures full { AreFull names.old → AreFull names.new }
 {
-    let identities = elements.as_slice();
+    let elements = packet.elements(country);
+    forget_elements(names, place, elements.as_slice());
+}
+
+#[inline(always)]
+fn forget_elements(names: &mut IdentityMap<Links>, place: PacketPlace, identities: &[Id])
+    requires { length identities.now ≤ 32 }
+    ensures forgotten { ForgetsAll (links_from place.group place.telegram place.packet 0 identities.now) names.old names.new }
+    ensures full { AreFull names.old → AreFull names.new }
+{
     for k in 0..identities.len() {
         let id = identities[k];
         if id.number == NO_GROUP {

@@ -6,7 +6,7 @@ ghost use Rattle.balise_rules.specs.Notes.{noted};
 ghost use Rattle.balise_rules.specs.Plan.{IsSoundGroup};
 ghost use Rattle.balise_rules.specs.Tagged.{find};
 ghost use Rattle.balise_rules.specs.Tags.{same_tag};
-ghost use Rattle.balise_plan.specs.Held.{Does, MayChange};
+ghost use Rattle.balise_plan.specs.Held.{DoesAlways, MayChange};
 ghost use Rattle.balise_plan.specs.Spots.{PutsGroup};
 
 use crate::group::Group;
@@ -54,10 +54,10 @@ impl Plan {
 
     /// Takes a group out, and answers it and the tag of its next neighbour. What names the group stays.
     ///
-    /// Refused, and then all stays: `NoSuchGroup`. `OutOfMemory` may stand in place of any answer.
+    /// Refused, and then all stays: `NoSuchGroup`. Takes no memory.
     pub fn take_group(&mut self, g: Tag) -> Result<(Group, Option<Tag>), Refusal>
         requires count { MayChange self.old }
-        ensures does { Does (DropGroup g) self.old result self.new }
+        ensures does { DoesAlways (DropGroup g) self.old result self.new }
         ensures taken { IfOk result (λ r. ((noted (DropGroup g) self.old.groups).group ≡ Some r.0) × ((noted (DropGroup g) self.old.groups).before ≡ r.1)) }
         ensures sound { IfOk result (λ r. IsSoundGroup r.0) }
     {

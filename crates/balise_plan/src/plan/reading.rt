@@ -31,7 +31,8 @@ impl Plan {
     /// Puts the group of these telegrams in at the end, under the tag of its place, which counts as no change.
     ///
     /// Refused as `Group::read` does, then `GroupTwice` where a group has its identity, and then all stays. `OutOfMemory`
-    /// may stand in place of any answer.
+    /// may stand in place of any answer. It is also the answer at 4,294,967,296 groups, which no tag counts; a plan has at
+    /// most 16,776,192, as many as there are identities (1,024 countries of 16,383 numbers).
     pub fn push(&mut self, telegrams: Vec<Bits>) -> Result<(), Refusal>
         requires { self.old.changes ≡ 0 }
         ensures { Pushes telegrams.items self.old result self.new }
@@ -46,8 +47,8 @@ impl Plan {
 
     /// Puts the group of telegrams that were read in at the end, under the tag of its place, which counts as no change.
     ///
-    /// Refused as `GroupReader::done` does, then `GroupTwice` where a group has its identity, and then all stays.
-    /// `OutOfMemory` may stand in place of any answer.
+    /// Refused as `GroupReader::done` does, then `GroupTwice` where a group has its identity, then as `OutOfMemory`; and
+    /// then all stays.
     pub fn push_group(&mut self, group: GroupReader) -> Result<(), Refusal>
         requires { self.old.changes ≡ 0 }
         ensures pushes { PushesRead group self.old result self.new }

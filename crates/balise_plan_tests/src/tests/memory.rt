@@ -1,6 +1,7 @@
 //! Changes of which an allocation may fail: one that is refused leaves the plan, and hands back what was to be put in.
 //!
-//! In a plain run each is done. `rt try --test --fail-alloc N` makes the Nth allocation fail.
+//! Each test comes twice: as it is, for a run in which one growth is refused, and with ample memory, where nothing may
+//! be refused. `scripts/check/test_growths.py` refuses each growth of the first in turn.
 
 use crate::tests::comparing::{same_group, same_groups};
 use crate::tests::digits::{EMPTY, FIRST, INFILL, LINKING, REVOCATIONS, SECOND};
@@ -43,6 +44,18 @@ const CHANGES: &[(Step, Answer)] = &[
     (Step::Rename(FIRST, 200), Answer::Old(100)),
     (Step::Turn(FIRST), Answer::Done),
 ];
+
+/// Whether a growth may be refused in this run.
+#[derive(Clone, Copy, PartialEq, Eq)]
+enum Memory {
+    Ample,
+    OneRefused,
+}
+
+/// That a growth may be refused.
+fn check_short(rt: &impl Abort, memory: Memory) {
+    assert!(rt; memory == Memory::OneRefused);
+}
 
 /// The bits of a telegram, where there is memory for them.
 fn bits_of(alloc: Global, digits: &str) -> Option<Bits> {
@@ -160,15 +173,22 @@ fn is_same(plan: &Plan, other: &Plan) -> bool {
 }
 
 /// That a change was refused as out of memory, and that the plan is as the other.
-fn check_refused(rt: &impl Abort, plan: &Plan, other: &Plan, fault: Refusal) {
+fn check_refused(rt: &impl Abort, plan: &Plan, other: &Plan, fault: Refusal, memory: Memory) {
+    check_short(rt, memory);
     assert!(rt; fault == Refusal::OutOfMemory);
     assert!(rt; is_same(plan, other));
 }
 
 /// That a change was made, or refused.
-fn check_answer(rt: &impl Abort, plan: &Plan, other: &Plan, given: Answer, answer: Answer) {
+fn check_answer(
+    rt: &impl Abort,
+    (plan, other): (&Plan, &Plan),
+    given: Answer,
+    answer: Answer,
+    memory: Memory,
+) {
     match given {
-        Answer::Refused(fault) => check_refused(rt, plan, other, fault),
+        Answer::Refused(fault) => check_refused(rt, plan, other, fault, memory),
         _ => assert!(rt; given == answer),
     }
 }
@@ -178,24 +198,35 @@ fn change(
     alloc: Global,
     plan: &mut Plan,
     other: &Plan,
-    step: Step,
-    answer: Answer,
+    (step, answer): (Step, Answer),
+    memory: Memory,
 ) {
     let given = make(rt, alloc, plan, step);
-    check_answer(rt, plan, other, given, answer);
+    check_answer(rt, (plan, other), given, answer, memory);
 }
 
-fn check_change(rt: &impl Abort, alloc: Global, step: Step, answer: Answer) {
-    if let Some((mut plan, other)) = two_plans(alloc) {
-        change(rt, alloc, &mut plan, &other, step, answer);
+fn check_change(rt: &impl Abort, alloc: Global, step: (Step, Answer), memory: Memory) {
+    let Some((mut plan, other)) = two_plans(alloc) else {
+        check_short(rt, memory);
+        return;
+    };
+    change(rt, alloc, &mut plan, &other, step, memory);
+}
+
+fn check_changes(rt: &impl Abort, alloc: Global, memory: Memory) {
+    for (step, answer) in CHANGES.iter() {
+        check_change(rt, alloc, (*step, *answer), memory);
     }
 }
 
 #[test]
 fn makes_a_change_or_leaves_the_plan(rt: HostRuntime) {
-    for (step, answer) in CHANGES.iter() {
-        check_change(&rt, rt.alloc(), *step, *answer);
-    }
+    check_changes(&rt, rt.alloc(), Memory::OneRefused);
+}
+
+#[test]
+fn makes_a_change_with_ample_memory(rt: HostRuntime) {
+    check_changes(&rt, rt.alloc(), Memory::Ample);
 }
 
 /// Puts a packet over the first of these bits.
@@ -234,63 +265,75 @@ fn check_put(
     rt: &impl Abort,
     alloc: Global,
     plan: &mut Plan,
-    other: &Plan,
-    twin: &Packet,
+    (other, twin): (&Plan, &Packet),
     packet: Packet,
+    memory: Memory,
 ) {
     match put_packet(rt, plan, (FIRST, 0, Spot::After(None), NEW), packet) {
         Ok(()) => check_made(rt, plan),
         Err((fault, back)) => {
-            check_refused(rt, plan, other, fault);
+            check_refused(rt, plan, other, fault, memory);
             check_packet(rt, alloc, &back, twin);
         }
     }
 }
 
-fn put_one(rt: &impl Abort, alloc: Global, plan: &mut Plan, other: &Plan, twin: &Packet) {
-    if let Some(packet) = packet_of(alloc) {
-        check_put(rt, alloc, plan, other, twin, packet);
-    }
-}
-
-fn put_in(rt: &impl Abort, alloc: Global, plan: &mut Plan, other: &Plan) {
-    if let Some(twin) = packet_of(alloc) {
-        put_one(rt, alloc, plan, other, &twin);
-    }
+fn put_in(rt: &impl Abort, alloc: Global, memory: Memory) {
+    let Some((mut plan, other)) = two_plans(alloc) else {
+        check_short(rt, memory);
+        return;
+    };
+    let (Some(twin), Some(packet)) = (packet_of(alloc), packet_of(alloc)) else {
+        check_short(rt, memory);
+        return;
+    };
+    check_put(rt, alloc, &mut plan, (&other, &twin), packet, memory);
 }
 
 #[test]
 fn puts_a_packet_in_or_hands_it_back(rt: HostRuntime) {
-    if let Some((mut plan, other)) = two_plans(rt.alloc()) {
-        put_in(&rt, rt.alloc(), &mut plan, &other);
-    }
+    put_in(&rt, rt.alloc(), Memory::OneRefused);
 }
 
-fn check_put_group(rt: &impl Abort, plan: &mut Plan, other: &Plan, twin: &Group, group: Group) {
+#[test]
+fn puts_a_packet_in_with_ample_memory(rt: HostRuntime) {
+    put_in(&rt, rt.alloc(), Memory::Ample);
+}
+
+fn check_put_group(
+    rt: &impl Abort,
+    plan: &mut Plan,
+    (other, twin): (&Plan, &Group),
+    group: Group,
+    memory: Memory,
+) {
     match put_new(rt, plan, Spot::After(Some(FIRST)), NEW, group) {
         Ok(()) => check_made(rt, plan),
         Err((fault, back)) => {
-            check_refused(rt, plan, other, fault);
+            check_refused(rt, plan, other, fault, memory);
             assert!(rt; same_group(&back, twin));
         }
     }
 }
 
-fn put_one_group(rt: &impl Abort, alloc: Global, plan: &mut Plan, other: &Plan, twin: &Group) {
-    if let Some(group) = group_of(alloc) {
-        check_put_group(rt, plan, other, twin, group);
-    }
-}
-
-fn put_group_in(rt: &impl Abort, alloc: Global, plan: &mut Plan, other: &Plan) {
-    if let Some(twin) = group_of(alloc) {
-        put_one_group(rt, alloc, plan, other, &twin);
-    }
+fn put_group_in(rt: &impl Abort, alloc: Global, memory: Memory) {
+    let Some((mut plan, other)) = two_plans(alloc) else {
+        check_short(rt, memory);
+        return;
+    };
+    let (Some(twin), Some(group)) = (group_of(alloc), group_of(alloc)) else {
+        check_short(rt, memory);
+        return;
+    };
+    check_put_group(rt, &mut plan, (&other, &twin), group, memory);
 }
 
 #[test]
 fn puts_a_group_in_or_hands_it_back(rt: HostRuntime) {
-    if let Some((mut plan, other)) = two_plans(rt.alloc()) {
-        put_group_in(&rt, rt.alloc(), &mut plan, &other);
-    }
+    put_group_in(&rt, rt.alloc(), Memory::OneRefused);
+}
+
+#[test]
+fn puts_a_group_in_with_ample_memory(rt: HostRuntime) {
+    put_group_in(&rt, rt.alloc(), Memory::Ample);
 }

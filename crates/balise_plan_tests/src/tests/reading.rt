@@ -8,7 +8,7 @@ use std::alloc::Global;
 use std::process::Abort;
 
 /// 5.100 in two telegrams, and other first and second ones.
-const ONE_OF_TWO: &str = "a1027f80a0327fffffffffffffffffffffffffffffffffffffffc0";
+pub(crate) const ONE_OF_TWO: &str = "a1027f80a0327fffffffffffffffffffffffffffffffffffffffc0";
 
 const TWO_OF_TWO: &str = "a1127f80a0327fffffffffffffffffffffffffffffffffffffffc0";
 
@@ -19,18 +19,18 @@ const OF_ANOTHER_NUMBER: &str = "a1127f80a032fffffffffffffffffffffffffffffffffff
 const OF_ANOTHER_COUNTRY: &str = "a1127f80c0327fffffffffffffffffffffffffffffffffffffffc0";
 
 /// The number that no group has.
-const RESERVED: &str = "a1007f80bfffffffffffffffffffffffffffffffffffffffffffc0";
+pub(crate) const RESERVED: &str = "a1007f80bfffffffffffffffffffffffffffffffffffffffffffc0";
 
 const RESERVED_ONE_OF_TWO: &str = "a1027f80bfffffffffffffffffffffffffffffffffffffffffffc0";
 
 /// Telegrams with a fault of their own.
-const NOT_A_BALISE: &str = "a1807f80a0327fffffffffffffffffffffffffffffffffffffffc0";
+pub(crate) const NOT_A_BALISE: &str = "a1807f80a0327fffffffffffffffffffffffffffffffffffffffc0";
 
-const NO_END: &str = "a1007f80a0324b2050000000000000000000000000000000000000";
+pub(crate) const NO_END: &str = "a1007f80a0324b2050000000000000000000000000000000000000";
 
 const PACKET_CUT: &str = "a1007f80a0324b200b3fffffffffffffffffffffffffffffffffc0";
 
-const PACKET_ZERO: &str = "a1007f80a032403fffffffffffffffffffffffffffffffffffffc0";
+pub(crate) const PACKET_ZERO: &str = "a1007f80a032403fffffffffffffffffffffffffffffffffffffc0";
 
 /// Packet 136 with a length of 39.
 const LONG_INFILL: &str = "a1007f80a033e2101380647fffffffffffffffffffffffffffffc0";
@@ -49,7 +49,7 @@ fn push_each(rt: &impl Abort, alloc: Global, telegrams: &mut Vec<Bits>, words: &
 }
 
 /// The bits of these telegrams.
-fn bits_of_each(rt: &impl Abort, alloc: Global, words: &[&str]) -> Vec<Bits> {
+pub(crate) fn bits_of_each(rt: &impl Abort, alloc: Global, words: &[&str]) -> Vec<Bits> {
     let mut telegrams = Vec::new(alloc);
     push_each(rt, alloc, &mut telegrams, words);
     telegrams

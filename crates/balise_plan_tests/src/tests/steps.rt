@@ -44,7 +44,7 @@ pub(crate) type Row = (Step, Answer, &'static [&'static str]);
 pub(crate) type RefusedRow = (Refusal, &'static [Step]);
 
 /// Identities that the tests speak of: country and number.
-const KNOWN: &[(u32, u32)] = &[
+pub(crate) const KNOWN: &[(u32, u32)] = &[
     (5, 100),
     (5, 101),
     (5, 102),

@@ -1,6 +1,7 @@
 //! Edits of which an allocation may fail: one that is refused leaves the telegram, and hands the packet back.
 //!
-//! In a plain run each is done. `rt try --test --fail-alloc N` makes the Nth allocation fail.
+//! Each test comes twice: as it is, for a run in which one growth is refused, and with ample memory, where nothing may
+//! be refused. `scripts/check/test_growths.py` refuses each growth of the first in turn.
 
 use crate::tests::packets::{EXCHANGED, ONE_PACKET, has_order, shift};
 use crate::tests::put::put_beside;
@@ -12,6 +13,18 @@ use std::process::Abort;
 const FIRST: PacketTag = PacketTag::Base(0);
 
 const SECOND: PacketTag = PacketTag::Base(1);
+
+/// Whether a growth may be refused in this run.
+#[derive(Clone, Copy, PartialEq, Eq)]
+enum Memory {
+    Ample,
+    OneRefused,
+}
+
+/// That a growth may be refused.
+fn check_short(rt: &impl Abort, memory: Memory) {
+    assert!(rt; memory == Memory::OneRefused);
+}
 
 /// A telegram of these digits, where there is memory for it.
 fn read(alloc: Global, text: &str) -> Option<Telegram> {
@@ -47,12 +60,13 @@ fn check_put(
     rt: &impl Abort,
     telegram: &mut Telegram,
     packet: Packet,
-    one: &Telegram,
-    two: &Telegram,
+    (one, two): (&Telegram, &Telegram),
+    memory: Memory,
 ) {
     match put_beside(rt, telegram, true, None, SECOND, packet) {
         Ok(()) => assert!(rt; is_like(telegram, two, &[5, 7])),
         Err((fault, packet)) => {
+            check_short(rt, memory);
             assert!(rt; fault == TelegramFault::OutOfMemory);
             assert!(rt; is_second(&packet) & is_like(telegram, one, &[5]));
         }
@@ -60,25 +74,41 @@ fn check_put(
 }
 
 /// That the second packet is taken out and put in again, or stays.
-fn check_take(rt: &impl Abort, telegram: &mut Telegram, one: &Telegram, two: &Telegram) {
+fn check_take(
+    rt: &impl Abort,
+    telegram: &mut Telegram,
+    (one, two): (&Telegram, &Telegram),
+    memory: Memory,
+) {
     match telegram.take(SECOND) {
         Ok((packet, next)) => {
             assert!(rt; next.is_none() & is_like(telegram, one, &[5]));
-            check_put(rt, telegram, packet, one, two);
+            check_put(rt, telegram, packet, (one, two), memory);
         }
         Err(fault) => {
+            check_short(rt, memory);
             assert!(rt; fault == TelegramFault::OutOfMemory);
             assert!(rt; is_like(telegram, two, &[5, 7]));
         }
     }
 }
 
-#[test]
-fn takes_a_packet_out_or_leaves_it(rt: HostRuntime) {
-    let Some((one, two, mut telegram)) = read_three(rt.alloc(), TWO_PACKETS) else {
+fn take_out(rt: &impl Abort, alloc: Global, memory: Memory) {
+    let Some((one, two, mut telegram)) = read_three(alloc, TWO_PACKETS) else {
+        check_short(rt, memory);
         return;
     };
-    check_take(&rt, &mut telegram, &one, &two);
+    check_take(rt, &mut telegram, (&one, &two), memory);
+}
+
+#[test]
+fn takes_a_packet_out_or_leaves_it(rt: HostRuntime) {
+    take_out(&rt, rt.alloc(), Memory::OneRefused);
+}
+
+#[test]
+fn takes_a_packet_out_with_ample_memory(rt: HostRuntime) {
+    take_out(&rt, rt.alloc(), Memory::Ample);
 }
 
 /// The second packet, cut out.
@@ -92,24 +122,35 @@ fn second(two: &Telegram) -> Option<Packet> {
     }
 }
 
-#[test]
-fn puts_a_packet_in_or_hands_it_back(rt: HostRuntime) {
-    let Some((one, two, mut telegram)) = read_three(rt.alloc(), ONE_PACKET) else {
+fn put_in(rt: &impl Abort, alloc: Global, memory: Memory) {
+    let Some((one, two, mut telegram)) = read_three(alloc, ONE_PACKET) else {
+        check_short(rt, memory);
         return;
     };
     let Some(packet) = second(&two) else {
+        check_short(rt, memory);
         return;
     };
-    check_put(&rt, &mut telegram, packet, &one, &two);
+    check_put(rt, &mut telegram, packet, (&one, &two), memory);
+}
+
+#[test]
+fn puts_a_packet_in_or_hands_it_back(rt: HostRuntime) {
+    put_in(&rt, rt.alloc(), Memory::OneRefused);
+}
+
+#[test]
+fn puts_a_packet_in_with_ample_memory(rt: HostRuntime) {
+    put_in(&rt, rt.alloc(), Memory::Ample);
 }
 
 /// That the first packet is moved to the end, or stays.
 fn check_shift(
     rt: &impl Abort,
     telegram: &mut Telegram,
-    two: &Telegram,
-    exchanged: &Telegram,
+    (two, exchanged): (&Telegram, &Telegram),
     ahead: bool,
+    memory: Memory,
 ) {
     let beside = if ahead { None } else { Some(SECOND) };
     match shift(telegram, ahead, FIRST, beside) {
@@ -117,28 +158,46 @@ fn check_shift(
             assert!(rt; (next == Some(SECOND)) & is_like(telegram, exchanged, &[7, 5]));
         }
         Err(fault) => {
+            check_short(rt, memory);
             assert!(rt; fault == TelegramFault::OutOfMemory);
             assert!(rt; is_like(telegram, two, &[5, 7]));
         }
     }
 }
 
-fn check_shifts(rt: &impl Abort, alloc: Global, two: &Telegram, exchanged: &Telegram) {
+fn check_shifts(
+    rt: &impl Abort,
+    alloc: Global,
+    (two, exchanged): (&Telegram, &Telegram),
+    memory: Memory,
+) {
     for ahead in &[false, true] {
         let Some(mut telegram) = read(alloc, TWO_PACKETS) else {
+            check_short(rt, memory);
             return;
         };
-        check_shift(rt, &mut telegram, two, exchanged, *ahead);
+        check_shift(rt, &mut telegram, (two, exchanged), *ahead, memory);
     }
+}
+
+fn move_on(rt: &impl Abort, alloc: Global, memory: Memory) {
+    let Some(two) = read(alloc, TWO_PACKETS) else {
+        check_short(rt, memory);
+        return;
+    };
+    let Some(exchanged) = read(alloc, EXCHANGED) else {
+        check_short(rt, memory);
+        return;
+    };
+    check_shifts(rt, alloc, (&two, &exchanged), memory);
 }
 
 #[test]
 fn moves_a_packet_or_leaves_it(rt: HostRuntime) {
-    let Some(two) = read(rt.alloc(), TWO_PACKETS) else {
-        return;
-    };
-    let Some(exchanged) = read(rt.alloc(), EXCHANGED) else {
-        return;
-    };
-    check_shifts(&rt, rt.alloc(), &two, &exchanged);
+    move_on(&rt, rt.alloc(), Memory::OneRefused);
+}
+
+#[test]
+fn moves_a_packet_with_ample_memory(rt: HostRuntime) {
+    move_on(&rt, rt.alloc(), Memory::Ample);
 }

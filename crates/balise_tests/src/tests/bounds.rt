@@ -18,28 +18,38 @@ const PLAN: &[u8] = b"plan 1\ngroup\na1007f80a0327ffffffffffffffffffffffffffffff
 const REVOCATION: &[u8] =
     b"plan 1\ngroup\na1007f80a03250900f82ffffffffffffffffffffffffffffffffc0\nedits\n";
 
+const TOO_LONG: Result<Status, RunFault> = Err(RunFault::InputTooLong);
+
 /// Two commands, of which the second undoes the first.
 const PART: &[u8] = b"seth 5.100 0 M_MCOUNT 7\nundo\n";
 
-/// That a run over a plan without groups and a command line of so many letters prints this and ends so.
+/// That a run over this beginning and a line of so many letters prints this and ends so.
 fn check_line(
     rt: &impl Abort,
     alloc: Global,
-    letters: u64,
+    (front, letters): (&[u8], u64),
     ended: Result<Status, RunFault>,
     output: &[u8],
 ) {
     let mut writer = Counted::new(Vec::new(alloc));
-    let answer = run_often(alloc, (FRONT, b"x", letters), &mut writer, PLAIN);
+    let answer = run_often(alloc, (front, b"x", letters), &mut writer, PLAIN);
     assert!(rt; answer == ended);
     check_text(rt, &writer, output);
 }
 
 #[test]
 fn longest_line(rt: HostRuntime) {
+    let refused = Ok(Status::SomeRefused);
     let output = b"refused 1 BadLine\nplan 1\n";
-    check_line(&rt, rt.alloc(), 4_096, Ok(Status::SomeRefused), output);
-    check_line(&rt, rt.alloc(), 4_097, Err(RunFault::InputTooLong), b"");
+    check_line(&rt, rt.alloc(), (FRONT, 4_096), refused, output);
+    check_line(&rt, rt.alloc(), (FRONT, 4_097), TOO_LONG, b"");
+    let bad = Ok(Status::BadInput);
+    let plan = b"plan 1\n";
+    check_line(&rt, rt.alloc(), (plan, 4_096), bad, b"bad 2 1 BadLine\n");
+    check_line(&rt, rt.alloc(), (plan, 4_097), TOO_LONG, b"");
+    let journal = b"plan 1\njournal 2 1\n";
+    check_line(&rt, rt.alloc(), (journal, 4_096), bad, b"bad 3 1 BadLine\n");
+    check_line(&rt, rt.alloc(), (journal, 4_097), TOO_LONG, b"");
 }
 
 /// That the two commands so many times print two lines each time, and end so.
@@ -119,9 +129,33 @@ fn a_thousand_edits_undone(rt: HostRuntime) {
     check_text(&rt, &writer, PLAN);
 }
 
-/// An input without end is too long at last.
+/// That a run over this beginning and 13,421,770 lines of five bytes ends so, after so many lines were written.
+fn check_input(
+    rt: &impl Abort,
+    alloc: Global,
+    front: &[u8],
+    ended: Result<Status, RunFault>,
+    lines: u64,
+) {
+    let mut reader = Repeated::new(front, b"undo\n", 13_421_770);
+    let mut writer = Tally::new();
+    assert!(rt; run(alloc, &mut reader, &mut writer, PLAIN) == ended);
+    assert!(rt; writer.inner().lines == lines);
+}
+
+/// 67,108,864 bytes, and one more: the last line is answered, or it is too long.
 #[test]
 fn longest_input(rt: HostRuntime) {
+    let refused = Ok(Status::SomeRefused);
+    let fits = b"plan 1\nedits\n\n";
+    check_input(&rt, rt.alloc(), fits, refused, 13_421_772);
+    let long = b"plan 1\nedits\n\n\n";
+    check_input(&rt, rt.alloc(), long, TOO_LONG, 13_421_771);
+}
+
+/// An input without end is too long at last.
+#[test]
+fn input_without_end(rt: HostRuntime) {
     let mut reader = Repeated::new(REVOCATION, b"undo\n", u64::MAX);
     let mut writer = Tally::new();
     let answer = run(rt.alloc(), &mut reader, &mut writer, PLAIN);

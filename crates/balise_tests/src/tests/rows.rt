@@ -3,6 +3,8 @@
 #[cfg(test)]
 mod damaged;
 #[cfg(test)]
+mod edges;
+#[cfg(test)]
 mod edits;
 #[cfg(test)]
 mod journals;
@@ -45,6 +47,11 @@ fn check_all(rt: &impl Abort, alloc: Global, rows: &[Row]) {
     for row in rows {
         check(rt, alloc, row);
     }
+}
+
+#[test]
+fn rows_of_edges(rt: HostRuntime) {
+    check_all(&rt, rt.alloc(), edges::ROWS);
 }
 
 #[test]

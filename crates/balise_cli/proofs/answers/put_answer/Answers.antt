@@ -3,20 +3,21 @@ use Rattle.std.proofs.KnownBytes.{Appends-nil}
 use Rattle.balise_rules.specs.Session.{Reply}
 use Rattle.balise_lines.specs.declared.counted.Counted.{Counted}
 use Rattle.balise_lines.specs.Writing.{LastFailed, WritesAll, WritesSome}
-use Rattle.balise_cli.proofs.TextsBehind.{behind}
+use Rattle.balise_cli.proofs.TextsBehind.{behind, some_front_of}
 use Rattle.balise_text.specs.Answers.{reply_of}
 use Rattle.balise_text.specs.Replies.{is_refused, reply_line}
 use Rattle.balise_text.specs.Reviews.{review_line}
-use Rattle.balise_text.specs.Texts.{text_of}
+use Rattle.balise_text.specs.Texts.{Text, text_of}
 use Rattle.balise_cli.specs.Output.{shown_reply}
 use Rattle.balise_cli.proofs.answers.put_answer.Goals as goal
 use Rattle.balise_cli.proofs.answers.put_answer.Goals.{then-not-quiet+in_default, then-not-quiet-via-then-not-quiet, then-not-quiet-via-else-not-quiet+then-is_refused, else-not-quiet+else-is_refused}
 
-loud : {W : Type 0} (contents : W → Option (List ℕ)) (quiet : Bool) (r : Reply) (old now : Counted W) → quiet ≡ false → WritesAll contents old now (reply_line r) → WritesAll contents old now (shown_reply quiet r)
-loud contents quiet r old now e a = rw e a
+-- what holds of a reply's line holds of what is shown of the reply
+shown_aloud : (P : Text → Type 0) (quiet : Bool) (r : Reply) → quiet ≡ false → P (reply_line r) → P (shown_reply quiet r)
+shown_aloud P quiet r e a = rw e a
 
-refused : {W : Type 0} (contents : W → Option (List ℕ)) (quiet : Bool) (r : Reply) (old now : Counted W) → quiet ≡ true → true ≡ is_refused r → WritesAll contents old now (reply_line r) → WritesAll contents old now (shown_reply quiet r)
-refused contents quiet r old now e f a = rw e (rw (sym f) a)
+shown_refused : (P : Text → Type 0) (quiet : Bool) (r : Reply) → quiet ≡ true → true ≡ is_refused r → P (reply_line r) → P (shown_reply quiet r)
+shown_refused P quiet r e f a = rw e (rw (sym f) a)
 
 hidden : {W : Type 0} (contents : W → Option (List ℕ)) (quiet : Bool) (r : Reply) (old : Counted W) → quiet ≡ true → false ≡ is_refused r → WritesAll contents old old (shown_reply quiet r)
 hidden contents quiet r old e f = rw e (rw (sym f) (record { appended = Appends-nil (contents old.inner); unfailed = refl }))
@@ -29,11 +30,22 @@ shown_before g c =
     elim c.if-not-quiet.branch [
       | then-not-quiet+in_default w ↦
           rw w.writer-is (elim w.then-not-quiet.branch [
-            | then-not-quiet-via-then-not-quiet w' ↦ loud _ quiet r old _ w'.if-not-quiet.true w.in_default.ensures
-            | then-not-quiet-via-else-not-quiet+then-is_refused w' ↦ refused _ quiet r old _ w'.if-not-quiet.false w'.if-is_refused.ensures w.in_default.ensures
+            | then-not-quiet-via-then-not-quiet w' ↦ shown_aloud (WritesAll g.W.Write.contents old _) quiet r w'.if-not-quiet.true w.in_default.ensures
+            | then-not-quiet-via-else-not-quiet+then-is_refused w' ↦ shown_refused (WritesAll g.W.Write.contents old _) quiet r w'.if-not-quiet.false w'.if-is_refused.ensures w.in_default.ensures
           ])
       | else-not-quiet+else-is_refused w ↦ rw w.writer-is (hidden _ quiet r old w.if-not-quiet.false w.if-is_refused.ensures)
     ]
+
+pub returns-in-Err : goal.returns-in-Err
+returns-in-Err g c =
+    let old = c.args.writer.now in
+    let quiet = c.args.quiet in
+    let r = reply_of c.args.answer.now.reply in
+    let begun = WritesSome LastFailed g.W.Write.contents old c.put_reply.new.writer in
+    some_front_of LastFailed _ _ (shown_reply quiet r) _ _ _ refl (elim c.then-not-quiet.branch [
+      | then-not-quiet-via-then-not-quiet w ↦ shown_aloud begun quiet r w.if-not-quiet.true c.in-Err.ensures
+      | then-not-quiet-via-else-not-quiet+then-is_refused w ↦ shown_refused begun quiet r w.if-not-quiet.false w.if-is_refused.ensures c.in-Err.ensures
+    ])
 
 pub returns : goal.returns
 returns g c =

@@ -2,8 +2,8 @@ use Rattle.std.proofs.Common.{◌≡◌, ◌∙◌, ℕ, Err, None, Some, ap, su
 use Rattle.balise_lines.specs.Reading.{line_of, number_of}
 use Rattle.balise_text.specs.Texts.{Text}
 use Rattle.balise_cli.specs.Faults.{IsCause}
-use Rattle.balise_cli.specs.declared.fault.RunFault.TheVariants.{OutOfMemory}
-use Rattle.balise_cli.specs.Phases.{DidSome, DidStep, WrittenOfLine, WroteSuch, commands_phase}
+use Rattle.balise_cli.specs.declared.fault.RunFault.TheVariants.{OutOfMemory, WriteFault}
+use Rattle.balise_cli.specs.Phases.{DidPart, DidSome, DidStep, WrittenOfLine, WroteSuch, commands_phase}
 use Rattle.balise_cli.specs.Progress.{RanToFault}
 use Rattle.balise_cli.proofs.Endings.{commands_ended, line_fails, line_over, went_on}
 use Rattle.balise_cli.proofs.LinesTaken.{took_line, took_none}
@@ -34,10 +34,11 @@ returns-in-Err-answer g c = λ had old go.
     let n = number_of c.lines.lines in
     let bytes = line_of c.next.new.lines in
     let such : c.in-Err-answer.fault ≡ OutOfMemory → WroteSuch (WrittenOfLine c.args.flags p n bytes) now new = λ e. subst (λ (t : Text). WroteSuch (WrittenOfLine c.args.flags p n t) now new) c.line.ensures (c.in-Err-answer.ensures.memory (ap Err e)) in
-    let did : DidSome c.args.flags p n bytes now new = did_some c.args.flags c.lines.commands.session.state c.lines.commands.refused n bytes now new c.in-Err-answer.fault (λ e. subst (λ (t : Text). DidSome c.args.flags p n t now new) c.line.ensures (c.in-Err-answer.ensures.written e)) such in
+    let part : c.in-Err-answer.fault ≡ WriteFault → DidPart c.args.flags p n bytes now new = λ e. subst (λ (t : Text). DidPart c.args.flags p n t now new) c.line.ensures (c.in-Err-answer.ensures.written (ap Err e)) in
+    let did : DidSome c.args.flags p n bytes now new = did_some c.args.flags c.lines.commands.session.state c.lines.commands.refused n bytes now new c.lines.writer.failed c.answer.new.writer.failed c.in-Err-answer.fault c.in-Err-answer.ensures.cause part such in
     let took = took_line _ _ c.lines.lines c.next.new.lines (g.R.Read.remaining c.lines.reader.inner) (g.R.Read.remaining c.next.new.reader.inner) c.in-Ok-Line.field-0-is c.in-Ok-Line.ensures.took in
     line_fails c.args.flags had old now p _ _ _ _ (c.lines.invariant.3 had old go) _ took c.in-Ok-Line.ensures.over new c.in-Err-answer.fault
-    c.args.reader.now.failed c.next.new.reader.failed c.args.writer.now.failed c.answer.new.writer.failed did such
+    c.args.reader.now.failed c.next.new.reader.failed c.args.writer.now.failed c.answer.new.writer.failed did part such
     (c.in-Ok-Line.ensures.unfailed ∙ c.lines.invariant.0) (subst (λ (k : ℕ). IsCause k c.answer.new.writer.failed c.in-Err-answer.fault) c.lines.invariant.1 c.in-Err-answer.ensures.cause)
 
 pub returns-in-Ok-Some : goal.returns-in-Ok-Some

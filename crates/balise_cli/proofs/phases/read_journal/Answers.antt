@@ -3,7 +3,7 @@ use Rattle.std.proofs.KnownBytes.{Appends-nil}
 use Rattle.balise_rules.specs.declared.refusal.Refusal.TheVariants.{BadLine}
 use Rattle.balise_lines.specs.Reading.{line_of, number_of}
 use Rattle.balise_cli.specs.Output.{Bad, after_read}
-use Rattle.balise_cli.specs.Phases.{journal_end, journal_phase, journal_step}
+use Rattle.balise_cli.specs.Phases.{MayRunOutAt, journal_end, journal_phase, journal_step}
 use Rattle.balise_cli.specs.Progress.{RanToFault}
 use Rattle.balise_cli.specs.declared.journal_reader.JournalStep.TheVariants as step
 use Rattle.balise_cli.proofs.Endings.{end_refused, line_out, line_read, read_here}
@@ -28,7 +28,7 @@ pub returns-in-Err-read-clause-reads : goal.returns-in-Err-read-clause-reads
 returns-in-Err-read-clause-reads g c =
     let took = took_line _ _ c.lines.lines c.next.new.lines (g.R.Read.remaining c.lines.reader.inner) (g.R.Read.remaining c.next.new.reader.inner) c.in-Ok-Line.field-0-is c.in-Ok-Line.ensures.took in
     λ flags had old now writes go.
-    line_out flags had old now (journal_phase c.lines.journal) _ _ _ _ (c.lines.invariant.2 flags had old now go) _ took c.in-Ok-Line.ensures.over tt c.in-Err-read.fault c.in-Err-read.ensures.fault ([], (refl, Appends-nil now))
+    line_out flags had old now (journal_phase c.lines.journal) _ _ _ _ (c.lines.invariant.2 flags had old now go) _ took c.in-Ok-Line.ensures.over tt c.in-Err-read.fault c.in-Err-read.ensures.fault ([], ((subst (MayRunOutAt c.lines.journal.section c.lines.journal.opening.state) c.line.ensures c.in-Err-read.ensures.takes, refl), Appends-nil now))
     c.args.reader.now.failed c.next.new.reader.failed writes (c.in-Ok-Line.ensures.unfailed ∙ c.lines.invariant.0)
 
 pub returns-in-Ok-Over-clause-reads : goal.returns-in-Ok-Over-clause-reads

@@ -1,7 +1,9 @@
 use Rattle.std.proofs.Common.{◌≡◌, ◌∙◌, ℕ, None, Some, ap, subst}
 use Rattle.balise_lines.specs.Reading.{line_of, number_of}
+use Rattle.balise_text.specs.PlanLines.{plan_line_of}
+use Rattle.balise_text.specs.Texts.{Text}
 use Rattle.balise_cli.specs.Output.{Bad, after_read, at_end}
-use Rattle.balise_cli.specs.Phases.{plan_phase, plan_read}
+use Rattle.balise_cli.specs.Phases.{LineMayRunOut, is_telegram, plan_phase, plan_read}
 use Rattle.balise_cli.specs.Progress.{RanToFault}
 use Rattle.balise_cli.proofs.Endings.{end_out, end_refused, line_out, line_read, read_here}
 use Rattle.balise_cli.proofs.LinesTaken.{took_line, took_none}
@@ -28,7 +30,7 @@ returns-in-Err-end-clause-reads g c =
     let p = plan_phase c.lines.plan in
     let none = took_none _ c.lines.lines c.next.new.lines (g.R.Read.remaining c.lines.reader.inner) (g.R.Read.remaining c.next.new.reader.inner) c.in-Ok-End.field-0-is c.in-Ok-End.ensures.took in
     λ flags had old now writes go.
-    end_out flags had old now p _ _ _ _ (c.lines.invariant.2 flags had old now go) none c.in-Ok-End.ensures.over c.in-Err-end.fault c.in-Err-end.ensures.fault.0 (none_of_end flags p now c.in-Err-end.ensures.fault.1)
+    end_out flags had old now p _ _ _ _ (c.lines.invariant.2 flags had old now go) none c.in-Ok-End.ensures.over c.in-Err-end.fault c.in-Err-end.ensures.fault (none_of_end flags p now c.in-Err-end.ensures.takes)
     c.args.reader.now.failed c.next.new.reader.failed writes (c.in-Ok-End.ensures.unfailed ∙ c.lines.invariant.0)
 
 pub returns-in-Err-read-clause-reads : goal.returns-in-Err-read-clause-reads
@@ -36,7 +38,8 @@ returns-in-Err-read-clause-reads g c =
     let p = plan_phase c.lines.plan in
     let took = took_line _ _ c.lines.lines c.next.new.lines (g.R.Read.remaining c.lines.reader.inner) (g.R.Read.remaining c.next.new.reader.inner) c.in-Ok-Line.field-0-is c.in-Ok-Line.ensures.took in
     λ flags had old now writes go.
-    line_out flags had old now p _ _ _ _ (c.lines.invariant.2 flags had old now go) _ took c.in-Ok-Line.ensures.over (plan_reading c.lines.plan.place c.lines.plan.plan) c.in-Err-read.fault c.in-Err-read.ensures.fault.0 (none_of_line flags p (number_of c.lines.lines) (line_of c.next.new.lines) now c.in-Err-read.ensures.fault.1)
+    line_out flags had old now p _ _ _ _ (c.lines.invariant.2 flags had old now go) _ took c.in-Ok-Line.ensures.over (plan_reading c.lines.plan.place c.lines.plan.plan) c.in-Err-read.fault c.in-Err-read.ensures.fault
+    (none_of_line flags p (number_of c.lines.lines) (line_of c.next.new.lines) now (subst (λ (t : Text). LineMayRunOut p (is_telegram (plan_line_of t))) c.line.ensures c.in-Err-read.ensures.takes))
     c.args.reader.now.failed c.next.new.reader.failed writes (c.in-Ok-Line.ensures.unfailed ∙ c.lines.invariant.0)
 
 pub returns-in-Ok-Some-clause-reads : goal.returns-in-Ok-Some-clause-reads

@@ -1,4 +1,4 @@
-use Rattle.balise_cli.proofs.Endings.{ran_complete, ran_fault, ran_lines, ran_long, ran_memory, ran_output, ran_some, ran_unread, ran_unwritten}
+use Rattle.balise_cli.proofs.Endings.{ran_begun, ran_complete, ran_fault, ran_full, ran_lines, ran_long, ran_memory, ran_output, ran_some, ran_unread, ran_unwritten}
 use Rattle.balise_cli.proofs.Flushed.{flush_counted, flush_done, runs_kept}
 use Rattle.balise_cli.proofs.Headline.{standing_written}
 use Rattle.balise_cli.proofs.program.work.Goals as goal
@@ -17,6 +17,8 @@ returns g c =
         long = ran_long _ _ _ _ _ _ _ _ _ _ ran;
         memory = ran_memory _ _ _ _ _ _ _ _ _ _ ran;
         complete = ran_complete _ _ _ _ _ _ _ _ _ _ ran;
+        full = ran_full _ _ _ _ _ _ _ _ _ _ ran;
+        begun = ran_begun _ _ _ _ _ _ _ _ _ _ ran;
         some = ran_some _ _ _ _ _ _ _ _ _ _ ran;
       });
       count = c.run_lines-ended.new.writer.failed;

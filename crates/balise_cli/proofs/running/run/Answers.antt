@@ -1,4 +1,4 @@
-use Rattle.balise_cli.proofs.Endings.{ran_complete, ran_fault, ran_lines, ran_long, ran_memory, ran_output, ran_some, ran_unread, ran_unwritten}
+use Rattle.balise_cli.proofs.Endings.{ran_begun, ran_complete, ran_fault, ran_full, ran_lines, ran_long, ran_memory, ran_output, ran_some, ran_unread, ran_unwritten}
 use Rattle.balise_cli.proofs.Headline.{standing_written}
 use Rattle.balise_cli.proofs.running.run.Goals as goal
 
@@ -41,3 +41,11 @@ returns-clause-complete g c =
 pub returns-clause-some : goal.returns-clause-some
 returns-clause-some g c =
     ran_some _ _ _ _ _ _ _ _ _ _ c.run_lines.ensures
+
+pub returns-clause-full : goal.returns-clause-full
+returns-clause-full g c =
+    ran_full _ _ _ _ _ _ _ _ _ _ c.run_lines.ensures
+
+pub returns-clause-begun : goal.returns-clause-begun
+returns-clause-begun g c =
+    ran_begun _ _ _ _ _ _ _ _ _ _ c.run_lines.ensures

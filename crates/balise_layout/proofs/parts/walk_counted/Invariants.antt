@@ -1,8 +1,7 @@
 use Rattle.std.proofs.Common.{◌≡◌, ◌-◌}
 use Rattle.balise_rules.specs.Forms.{Form, repeat}
 use Rattle.balise_rules.specs.Packets.{counted}
-use Rattle.balise_layout.specs.Walks.{walk}
 use Rattle.balise_layout.proofs.parts.walk_counted.Given as goal
 
 abbrev pub invariant-loop : goal.invariant-loop
-invariant-loop g l = (rest : Form) → walk g.V.Visit.step (counted g.P.Repeated.form rest) l.fn.walker ≡ walk g.V.Visit.step (repeat (l.more - l.counter) g.P.Repeated.form rest) l.walker
+invariant-loop g l = (rest : Form) → g.W.Walk.run (counted g.P.Repeated.form rest) l.fn.walker ≡ g.W.Walk.run (repeat (l.more - l.counter) g.P.Repeated.form rest) l.walker

@@ -1,15 +1,20 @@
-use Rattle.std.proofs.Common.{Bool, List, Option, map, refl, ℕ}
+use Rattle.std.proofs.Common.{Bool, List, Option, decimal, map, refl, ℕ}
 use Rattle.balise_rules.specs.Digits.{hex_of}
 use Rattle.balise_text.specs.Texts.{behind_marks}
 use Rattle.balise_text.specs.Printing.{word_or_none, word_text}
 use Rattle.balise_text.specs.declared.printing.Word.{Word}
 use Rattle.balise_lines.specs.Writing.{LastFailed}
-use Rattle.balise_lines.proofs.PartsWritten.{some_last, wrote_some}
+use Rattle.balise_lines.proofs.PartsWritten.{some_last, wrote_none, wrote_some}
 use Rattle.balise_text.proofs.PrintedLines.{Parts, after_serial, after_telegrams, after_words, all, end, wrote_noted, wrote_serial, wrote_telegrams, wrote_words}
 use Rattle.balise_text.proofs.journal_text.put_parts.Goals as goal
 
 abbrev parts : ℕ → List Word → List (List Bool) → Option Word → Parts
 parts serial ws bs n = record { serial = serial; words = map word_text ws; telegrams = map hex_of bs; noted = word_or_none n }
+
+pub returns-in-Err : goal.returns-in-Err
+returns-in-Err g c =
+    let p = parts c.args.serial c.args.words.now c.args.telegrams.now c.args.noted.now in
+    wrote_some LastFailed _ (all p) (all p) (decimal c.args.serial) (after_serial p) _ _ _ refl (wrote_none _ (all p) _) c.in-Err.ensures
 
 pub returns-in-Err-put_words : goal.returns-in-Err-put_words
 returns-in-Err-put_words g c =

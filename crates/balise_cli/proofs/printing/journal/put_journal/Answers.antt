@@ -7,7 +7,9 @@ use Rattle.balise_cli.proofs.TextsBehind.{all_behind, behind, some_behind, some_
 use Rattle.balise_text.specs.Entries.{head_text}
 use Rattle.balise_text.specs.Texts.{Text, text_of}
 use Rattle.balise_cli.specs.PlanTexts.{entry_line, undone_line, with_end}
-use Rattle.balise_cli.proofs.Causes.{Cause, call_failed, memory_wanted}
+use Rattle.balise_cli.proofs.Causes.{call_failed, memory_wanted}
+use Rattle.balise_cli.proofs.Stopped.{undone_is_some}
+use Rattle.balise_cli.specs.Faults.{reason_of}
 use Rattle.balise_cli.proofs.ItemTexts.{standing_text, told_text}
 use Rattle.balise_cli.proofs.printing.journal.put_journal.Goals as goal
 
@@ -35,7 +37,7 @@ returns-in-Err-put_entries g c =
     let s = c.args.session.now.state in
     let h = all_as _ (head_of s) _ _ _ (same_head _ _ c.next_serial.ensures) c.in_default.ensures in
     let is = told_text _ (lines s) (ap (map line_of) c.deref.ensures.value ∙ c.in-Ok.ensures.ok) in
-    let cause = Cause c.in-Err-put_entries.fault in
+    let cause = reason_of c.in-Err-put_entries.fault in
     some_behind cause _ _ (head_of s) (entries_of s ++ undone_of s) _ _ _ refl h (some_front_of cause _ _ (entries_of s) (undone_of s) _ _ refl (some_as cause _ (entries_of s) _ _ _ is c.in-Err-put_entries.ensures))
 
 pub returns-in-Ok-put_all_undone : goal.returns-in-Ok-put_all_undone
@@ -57,14 +59,14 @@ returns g c =
 pub returns-in-Some : goal.returns-in-Some
 returns-in-Some g c =
     let s = c.args.session.now.state in
-    behind Cause _ c.put_entries.result _ (head_of s) _ _ _ _ (standing_text s c.in-Some.entries.now c.in-Some.ensures.entries c.in-Some.ensures.some) (all_as _ (head_of s) _ _ _ (same_head _ _ c.next_serial.ensures) c.in_default.ensures) c.put_entries.ensures
+    behind reason_of _ c.put_entries.result _ (head_of s) _ _ _ _ (standing_text s c.in-Some.entries.now c.in-Some.ensures.entries c.in-Some.ensures.some) (all_as _ (head_of s) _ _ _ (same_head _ _ c.next_serial.ensures) c.in_default.ensures) c.put_entries.ensures
 
 pub returns-in_default-all_back : goal.returns-in_default-all_back
 returns-in_default-all_back g c =
     let s = c.args.session.now.state in
-    memory_wanted _ _ _ _ (head_of s) (entries_of s ++ undone_of s) refl (all_as _ (head_of s) _ _ _ (same_head _ _ c.next_serial.ensures) c.in_default.ensures)
+    memory_wanted _ _ _ _ (head_of s) (entries_of s ++ undone_of s) refl (undone_is_some s (entries_of s) c.in_default-all_standing.ensures.none) (all_as _ (head_of s) _ _ _ (same_head _ _ c.next_serial.ensures) c.in_default.ensures)
 
 pub returns-in_default-undone : goal.returns-in_default-undone
 returns-in_default-undone g c =
     let s = c.args.session.now.state in
-    memory_wanted _ _ _ _ (head_of s) (entries_of s ++ undone_of s) refl (all_as _ (head_of s) _ _ _ (same_head _ _ c.next_serial.ensures) c.in_default.ensures)
+    memory_wanted _ _ _ _ (head_of s) (entries_of s ++ undone_of s) refl (undone_is_some s (entries_of s) c.in_default-all_standing.ensures.none) (all_as _ (head_of s) _ _ _ (same_head _ _ c.next_serial.ensures) c.in_default.ensures)

@@ -5,7 +5,8 @@ use Rattle.balise_cli.proofs.TextsBehind.{some_front_of}
 use Rattle.balise_text.specs.Texts.{Text, text_of}
 use Rattle.balise_text.proofs.Lists.{no_text_left}
 use Rattle.balise_cli.specs.PlanTexts.{group_lines, telegram_line}
-use Rattle.balise_cli.proofs.Causes.{Cause, call_failed}
+use Rattle.balise_cli.proofs.Causes.{call_failed}
+use Rattle.balise_cli.specs.Faults.{reason_of}
 use Rattle.balise_cli.proofs.ItemTexts.{text_at, no_text_at}
 use Rattle.balise_cli.proofs.printing.plan.put_group.Goals as goal
 
@@ -19,7 +20,7 @@ loop-pig-init g c =
 
 pub returns-in-Err-put_telegram : goal.returns-in-Err-put_telegram
 returns-in-Err-put_telegram g c =
-    wrote_some (Cause c.in-Err-put_telegram.fault) _ _ _ _ _ _ _ _ (text_at telegram_line c.args.group.now c.loop-pig.pig (c.in-Some.tag, c.in-Some.telegram.now) c.in-Some.ensures) c.loop-pig.invariant c.in-Err-put_telegram.ensures
+    wrote_some (reason_of c.in-Err-put_telegram.fault) _ _ _ _ _ _ _ _ (text_at telegram_line c.args.group.now c.loop-pig.pig (c.in-Some.tag, c.in-Some.telegram.now) c.in-Some.ensures) c.loop-pig.invariant c.in-Err-put_telegram.ensures
 
 pub loop-pig-preserved : goal.loop-pig-preserved
 loop-pig-preserved g c =

@@ -5,7 +5,8 @@ use Rattle.balise_cli.proofs.TextsBehind.{some_front_of}
 use Rattle.balise_text.specs.Texts.{Text, text_of}
 use Rattle.balise_text.proofs.Lists.{no_text_left}
 use Rattle.balise_cli.specs.PlanTexts.{group_lines, plan_text}
-use Rattle.balise_cli.proofs.Causes.{Cause, call_failed}
+use Rattle.balise_cli.proofs.Causes.{call_failed}
+use Rattle.balise_cli.specs.Faults.{reason_of}
 use Rattle.balise_cli.proofs.ItemTexts.{text_at, no_text_at}
 use Rattle.balise_cli.proofs.printing.plan.put_plan.Goals as goal
 use Rattle.balise_cli.proofs.printing.plan.put_plan.Goals.{else-loop-place-test, then-loop-place-test+in_default-at}
@@ -20,7 +21,7 @@ loop-place-init g c =
 
 pub returns-in-Err-put_group : goal.returns-in-Err-put_group
 returns-in-Err-put_group g c =
-    wrote_some (Cause c.in-Err-put_group.fault) _ _ _ _ _ _ _ _ (text_at group_lines c.args.plan.now.groups c.loop-place.place (c.in-Some.tag, c.in-Some.group.now) c.in-Some.ensures) c.loop-place.invariant c.in-Err-put_group.ensures
+    wrote_some (reason_of c.in-Err-put_group.fault) _ _ _ _ _ _ _ _ (text_at group_lines c.args.plan.now.groups c.loop-place.place (c.in-Some.tag, c.in-Some.group.now) c.in-Some.ensures) c.loop-place.invariant c.in-Err-put_group.ensures
 
 pub loop-place-preserved : goal.loop-place-preserved
 loop-place-preserved g c =

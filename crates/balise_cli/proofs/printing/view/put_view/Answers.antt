@@ -6,7 +6,7 @@ use Rattle.balise_text.specs.Texts.{Text}
 use Rattle.balise_text.proofs.Lists.{no_text_left}
 use Rattle.balise_view.specs.View.{group_text}
 use Rattle.balise_cli.specs.PlanTexts.{with_end}
-use Rattle.balise_cli.proofs.Causes.{Cause}
+use Rattle.balise_cli.specs.Faults.{reason_of}
 use Rattle.balise_cli.proofs.ItemTexts.{text_at, no_text_at}
 use Rattle.balise_cli.proofs.printing.view.put_view.Goals as goal
 
@@ -18,7 +18,7 @@ loop-place-init g c = wrote_none _ _ _
 
 pub returns-in-Err : goal.returns-in-Err
 returns-in-Err g c =
-    wrote_some (Cause c.in-Err.fault) _ _ _ _ _ _ _ _ (text_at line_of c.args.plan.now.groups c.loop-place.place (c.in-Some.field-0-0, c.in-Some.group.now) c.in-Some.ensures) c.loop-place.invariant c.in-Err.ensures
+    wrote_some (reason_of c.in-Err.fault) _ _ _ _ _ _ _ _ (text_at line_of c.args.plan.now.groups c.loop-place.place (c.in-Some.field-0-0, c.in-Some.group.now) c.in-Some.ensures) c.loop-place.invariant c.in-Err.ensures
 
 pub loop-place-preserved : goal.loop-place-preserved
 loop-place-preserved g c =

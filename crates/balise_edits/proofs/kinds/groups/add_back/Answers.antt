@@ -1,4 +1,5 @@
-use Rattle.std.proofs.Common.{◌≡◌, None, inl, inr, refl, subst, sym}
+use Rattle.std.proofs.Common.{◌≡◌, ◌∙◌, None, Option, Some, subst, sym}
+use Rattle.balise_rules.specs.declared.refusal.Refusal.{Refusal}
 use Rattle.balise_rules.specs.declared.tag.Tag.TheVariants.{Fresh}
 use Rattle.balise_rules.specs.Doing.{refusal}
 use Rattle.balise_rules.specs.Edits.{AddGroup, DropGroup}
@@ -12,4 +13,5 @@ returns-in-Err c =
     let groups = c.args.plan.now.groups in
     let asks = asks_of f (AddGroup c.requires.is.0 c.requires.is.1) groups c.requires.is.2 c.requires.last in
     let r : refusal (DropGroup (Fresh c.serial.result)) groups ≡ None = subst (λ s. refusal (DropGroup (Fresh s)) groups ≡ None) (sym c.serial.ensures) (last_free f (DropGroup (Fresh f.0.0)) groups c.requires.last asks) in
-    (elim c.in-Err.ensures.does.0 [ inl e ↦ e | inr e ↦ absurd (cc) ], refl, c.in-Err.ensures.does.1)
+    let never : ◌≡◌ {A = Option Refusal} None (Some c.in-Err.fault) = sym r ∙ c.in-Err.ensures.does.0 in
+    absurd cc

@@ -6,8 +6,8 @@ use Rattle.balise_history.proofs.Answering.{view}
 use Rattle.balise_history.proofs.Entering.{enters-seen}
 use Rattle.balise_history.proofs.edited.EditedPlan.entry.Goals as goal
 
-pub returns : goal.returns
-returns c =
+pub returns-clause-enters : goal.returns-clause-enters
+returns-clause-enters c =
     let n = c.self.inside.next in
     let l = line_in c.args.line in
     let t = view c.enter.new.plan c.enter.new.history n in

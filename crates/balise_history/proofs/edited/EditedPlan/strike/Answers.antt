@@ -1,9 +1,9 @@
-use Rattle.std.proofs.Common.{◌≡◌, ◌≤◌, ◌+◌, ◌-◌, ◌∙◌, ⊎_elim, ℕ, zero, suc, List, [], ◌∷◌, Some, None, length, map, take, drop, slice_get, refl, sym, ap, subst, arith, add-one, inl, inr}
+use Rattle.std.proofs.Common.{true, false, ◌≡◌, ◌≤◌, ◌+◌, ◌-◌, ◌∙◌, ⊎_elim, ℕ, zero, suc, List, [], ◌∷◌, Some, None, length, map, take, drop, slice_get, refl, sym, ap, subst, arith, add-one, inl, inr}
 use Rattle.std.proofs.lemmas.Result.{err_from_is_err_and}
 use Rattle.balise_rules.specs.declared.refusal.Refusal.TheVariants.{DependsOn, NoSuchEdit, OutOfMemory}
 use Rattle.balise_rules.specs.Paths.{Entry}
 use Rattle.balise_rules.specs.Behind.{serials_behind}
-use Rattle.balise_rules.specs.Session.{entries, first_dependent, later, Strike, Struck}
+use Rattle.balise_rules.specs.Session.{entries, first_dependent, later, needs_no_memory, Strike, Struck}
 use Rattle.balise_edit_laws.specs.Along.{back_along}
 use Rattle.balise_history.specs.Held.{Edited, Accepts, Refuses}
 use Rattle.balise_history.specs.Lists.{place_of, items_of, Ascends}
@@ -148,9 +148,9 @@ returns-in_err-take_out-clause-answers c =
     rw (z.1, z.2) (subst (λ (x : Edited). Refuses (Strike s) x r (view c.take_out.new.plan c.take_out.new.self c.self.inside.next)) c.self.view_is w)
 
 -- what may run out of memory after an entry, said of what is seen
-may_run_out : (c : Else-serial) → MayRunOut c.index-standing-place.result (later_ones c) → StrikeMayRunOut c.args.serial c.args.self.now.base c.args.self.now.standing
-may_run_out c m =
-    let w = strike-may-run-out c.self.inside.plan c.self.inside.history c.self.inside.next c.place_of-place.result c.args.serial c.index-standing-place.result c.self.invariant (stands_there (goal.at.Else-serial c).After-serial) (has_serial c) m in
+may_run_out : (c : Else-serial) → (needs_no_memory (Some c.index-standing-place.result.0) ≡ true → false ≡ true) → MayRunOut c.index-standing-place.result (later_ones c) → StrikeMayRunOut c.args.serial c.args.self.now.base c.args.self.now.standing
+may_run_out c takes m =
+    let w = strike-may-run-out c.self.inside.plan c.self.inside.history c.self.inside.next c.place_of-place.result c.args.serial c.index-standing-place.result c.self.invariant (stands_there (goal.at.Else-serial c).After-serial) (has_serial c) takes m in
     subst (λ (x : Edited). StrikeMayRunOut c.args.serial x.base x.standing) c.self.view_is w
 
 pub returns-in_err-behind-clause-memory : goal.returns-in_err-behind-clause-memory
@@ -158,7 +158,7 @@ returns-in_err-behind-clause-memory c = λ k.
     let b = (goal.at.returns-in_err-behind-clause-memory c).Else-serial in
     let p = err_from_is_err_and c.from_residual.result c.from_residual.ensures.1 in
     let o : c.in_err-behind.field-0.0 ≡ OutOfMemory = sym p.2 ∙ out-of-memory p.0 (sym p.1 ∙ k) in
-    may_run_out b (⊎_elim
+    may_run_out b (λ w. absurd (c.in_err-behind.ensures.always w o)) (⊎_elim
     (λ w. inl (subst (RunsOutAmong c.index-standing-place.result) (later_are b) w.1))
     (λ d. let z : DependsOn d.0 ≡ OutOfMemory = sym d.2 ∙ o in absurd cc)
     c.in_err-behind.ensures.fault)
@@ -166,7 +166,7 @@ returns-in_err-behind-clause-memory c = λ k.
 pub returns-in_err-take_out-clause-memory : goal.returns-in_err-take_out-clause-memory
 returns-in_err-take_out-clause-memory c = λ k.
     let at = goal.at.returns-in_err-take_out-clause-memory c in
-    may_run_out at.Else-serial (inr (independent at.In_ok-behind))
+    may_run_out at.Else-serial (c.in_err-take_out.ensures.always c.index-standing-place.result (stands_there at.After-serial)) (inr (independent at.In_ok-behind))
 
 pub serials_behind-requires : goal.serials_behind-requires
 serials_behind-requires c =

@@ -1,11 +1,12 @@
 use Rattle.std.proofs.Common.{◌∙◌, map, refl, ap}
 use Rattle.std.proofs.lemmas.Result.{IfOk-weaker}
 use Rattle.balise_edit_laws.specs.Along.{back_along}
-use Rattle.balise_rules.specs.Journal.{all_back, line_of, lines}
+use Rattle.balise_rules.specs.Journal.{all_back}
 use Rattle.balise_rules.specs.Session.{entries}
 use Rattle.balise_history.specs.Held.{Edited}
+use Rattle.balise_history.specs.Returned.{bare}
 use Rattle.balise_history.specs.Sessions.{Seen}
-use Rattle.balise_history.proofs.Lines.{lines-back}
+use Rattle.balise_history.proofs.Lines.{lines-back, lines-same}
 use Rattle.balise_history.proofs.session.Session.all_back.Goals as goal
 
 pub all_back-requires : goal.all_back-requires
@@ -13,9 +14,12 @@ all_back-requires c =
     let h = c.edited.inside.history in
     (lines-back (back_along h.standing c.edited.inside.plan.groups) c.edited.inside.plan.groups h.standing h.standing h.stack c.edited.inside.next c.edited.invariant refl refl).0
 
-pub returns-clause-ok : goal.returns-clause-ok
-returns-clause-ok c =
+pub returns-clause-entries : goal.returns-clause-entries
+returns-clause-entries c =
     let h = c.edited.inside.history in
     let w = (lines-back (back_along h.standing c.edited.inside.plan.groups) c.edited.inside.plan.groups h.standing h.standing h.stack c.edited.inside.next c.edited.invariant refl refl).1 in
-    let e = w ∙ ap (λ (x : Edited). map line_of (entries x.base (all_back x.stack x.standing))) c.edited.view_is ∙ ap (λ (s : Seen). lines s.state) c.self.view_is in
-    IfOk-weaker c.all_back.result _ _ (λ v i. ap (map line_of) i ∙ e) c.all_back.ensures.ok
+    let e = w ∙ ap (λ (x : Edited). map bare (entries x.base (all_back x.stack x.standing))) c.edited.view_is ∙ ap (λ (s : Seen). map bare (entries s.state.base (all_back s.state.stack s.state.standing))) c.self.view_is in
+    IfOk-weaker c.all_back.result _ _ (λ v i. ap (map bare) i ∙ e) c.all_back.ensures.ok
+
+pub returns-clause-ok : goal.returns-clause-ok
+returns-clause-ok c = IfOk-weaker c.all_back.result _ _ (λ v i. lines-same v.items _ i) (returns-clause-entries c)

@@ -1,10 +1,10 @@
-use Rattle.std.proofs.Common.{◌≡◌, ◌∙◌, inl, inr, ⊎_elim, ℕ, suc, List, [], ◌∷◌, drop, take, map, length, Option, Some, None, Ok, refl, sym, ap, arith, add-one}
+use Rattle.std.proofs.Common.{◌≡◌, ◌∙◌, inl, inr, ⊎_elim, ℕ, suc, List, [], ◌∷◌, drop, take, map, length, Option, Some, None, Ok, Err, refl, sym, ap, arith, add-one}
 use Rattle.balise_commands.specs.Lines.{line_in}
 use Rattle.balise_commands.specs.declared.line.Line as code
 use Rattle.balise_rules.specs.Opening.{from_entries, with_entries, or_place}
 use Rattle.balise_rules.specs.Session.{State}
 use Rattle.balise_history.specs.Sessions.{Seen}
-use Rattle.balise_history.proofs.Fitting.{one-line-more, drop-next, drop-within, take-next}
+use Rattle.balise_history.proofs.Fitting.{one-line-more, drop-next, take-next}
 use Rattle.balise_history.proofs.session.Session.from_entries.Goals as goal
 
 pub loop-line-init : goal.loop-line-init
@@ -26,8 +26,9 @@ returns-in-Err-entry-clause-fault c =
     let ls = map line_in c.next.new.self.rest.items in
     let step = c.in-Some.ensures.steps.0 in
     let w = c.loop-line.invariant.rest ∙ ap (λ (xs : List code.Line). with_entries n (map line_in xs) s) step in
-    let within = drop-within n all (line_in c.in-Some.line) ls (c.loop-line.invariant.left_is ∙ ap (map line_in) step) in
-    ⊎_elim (λ m. inl (m, (n, (s, (refl, within, c.loop-line.invariant.before))))) (λ m. inr (m.0, w ∙ ap (λ (o : Option State). or_place (Some n) o (with_entries (suc n) ls)) m.1)) c.in-Err-entry.ensures
+    let here = c.loop-line.invariant.left_is ∙ ap (map line_in) step in
+    ⊎_elim (λ m. inl (m, (n, (s, (line_in c.in-Some.line, (ls, (refl, here, c.in-Err-entry.ensures.memory (ap Err m), c.loop-line.invariant.before)))))))
+    (λ m. inr (m.0, w ∙ ap (λ (o : Option State). or_place (Some n) o (with_entries (suc n) ls)) m.1)) c.in-Err-entry.ensures.reads
 
 pub overflow_add-place : goal.overflow_add-place
 overflow_add-place c = omega (arith, c.loop-line.invariant.left, c.in-Some.ensures.steps.1, c.args.lines.small)
@@ -43,15 +44,15 @@ loop-line-preserved c =
     let ls = map line_in c.next.new.self.rest.items in
     let step = c.in-Some.ensures.steps.0 in
     let d = c.loop-line.invariant.left_is ∙ ap (map line_in) step in
-    let more = ap (from_entries plan c.args.next) (take-next n all l ls d) ∙ one-line-more plan c.args.next (take n all) l s t c.loop-line.invariant.before c.in-Ok-entry.ensures.0 in
+    let more = ap (from_entries plan c.args.next) (take-next n all l ls d) ∙ one-line-more plan c.args.next (take n all) l s t c.loop-line.invariant.before c.in-Ok-entry.ensures.reads.0 in
     record {
       rest =
           c.loop-line.invariant.rest ∙ ap (λ (xs : List code.Line). with_entries n (map line_in xs) s) step
-          ∙ ap (λ (o : Option State). or_place (Some n) o (with_entries (suc n) ls)) c.in-Ok-entry.ensures.0
+          ∙ ap (λ (o : Option State). or_place (Some n) o (with_entries (suc n) ls)) c.in-Ok-entry.ensures.reads.0
           ∙ ap (λ (m : ℕ). with_entries m ls t) (sym (add-one n));
       before = ap (λ (m : ℕ). from_entries plan c.args.next (take m all)) (add-one n) ∙ more;
       left_is = ap (λ (m : ℕ). drop m all) (add-one n) ∙ drop-next n all l ls d;
-      changes = omega (arith, c.loop-line.invariant.changes, c.in-Ok-entry.ensures.1);
+      changes = omega (arith, c.loop-line.invariant.changes, c.in-Ok-entry.ensures.reads.1);
       left = omega (arith, c.loop-line.invariant.left, c.in-Some.ensures.steps.1);
     }
 

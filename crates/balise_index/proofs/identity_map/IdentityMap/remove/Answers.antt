@@ -1,10 +1,7 @@
-use Rattle.std.proofs.Common.{◌≡◌, ◌∙◌, Some, None, cond, option_map, slice_get, sym, ap, arith, subst}
+use Rattle.std.proofs.Common.{◌≡◌, ◌∙◌, None, cond, option_map, slice_get, sym, ap, arith, subst}
 use Rattle.std.specs.Option.{is_some}
-use Rattle.balise_rules.specs.declared.identity.Id.{Id}
-use Rattle.balise_rules.specs.Tags.{same_id}
-use Rattle.balise_index.specs.Identities.{indexed, is_id, Updates}
-use Rattle.balise_index.specs.Narrow.{slots_of}
-use Rattle.balise_index.specs.Rows.{cell_of}
+use Rattle.balise_index.specs.Cells.{cell_of, KeepsOthers}
+use Rattle.balise_index.specs.Identities.{indexed, is_id}
 use Rattle.balise_index.proofs.identities.TakenOut.{not_there, updates_none, placed_end, updates_end, end_cell, taken_value, placed_within, updates_within}
 use Rattle.balise_index.proofs.identities.TwoLists.{length_slots}
 use Rattle.balise_index.proofs.identity_map.IdentityMap.remove.Goals.{then-i-len-2, else-i-len-2}
@@ -23,42 +20,44 @@ returns-then-i-len-clause-updates g c = updates_none c.args.self.now c.args.id (
 pub overflow_cast-i : goal.overflow_cast-i
 overflow_cast-i g c = omega (arith, c.if-i-len.false, c.len.ensures, c.self.inside.ids.ok.0, length_slots c.self.inside.ids.items c.self.inside.values.items c.self.invariant.0, c.self.invariant.1.few)
 
-pub set_cell-requires : goal.set_cell-requires
-set_cell-requires g c =
-    let there = end_cell c.self.inside.ids.items c.swap_remove.new.self.items c.self.inside.values.items c.swap_remove-value.new.self.items c.self.inside.rows.items c.self.invariant.0 c.self.invariant.1 c.place-i.result c.swap_remove.result c.swap_remove-value.result (omega (arith, c.if-i-len.false, c.len.ensures, c.self.inside.ids.ok.0))
-    c.swap_remove.ensures.value c.swap_remove-value.ensures.value c.swap_remove.ensures.items c.swap_remove-value.ensures.items c.index.result.now (omega (arith, c.if-i-len-2.true, c.len-2.ensures, c.swap_remove.ensures.len, c.self.inside.ids.ok.0)) c.index.ensures in
-    ap is_some (ap (cell_of c.self.inside.rows.items) c.wide.ensures ∙ there)
+pub set-requires : goal.set-requires
+set-requires g c =
+    let at = subst (λ l. slice_get l c.place-i.result ≡ option_map (λ v. (c.args.id, v)) (indexed l c.args.id)) (sym c.self.view_is) c.place-i.ensures in
+    ap is_some (ap (cell_of c.forget.new.self) c.wide.ensures ∙ end_cell c.self.inside.ids.items c.swap_remove.new.self.items c.self.inside.values.items c.swap_remove-value.new.self.items (cell_of c.self.inside.cells) c.self.invariant.0 c.self.invariant.1 c.place-i.result c.swap_remove.result c.swap_remove-value.result (omega (arith, c.if-i-len.false, c.len.ensures, c.self.inside.ids.ok.0))
+    c.swap_remove.ensures.value c.swap_remove-value.ensures.value c.swap_remove.ensures.items c.swap_remove-value.ensures.items c.args.id at (cell_of c.forget.new.self) c.forget.ensures.kept
+    c.index.result.now (omega (arith, c.if-i-len-2.true, c.len-2.ensures, c.swap_remove.ensures.len, c.self.inside.ids.ok.0)) c.index.ensures)
 
 pub invariant_of-self : goal.invariant_of-self
 invariant_of-self g c =
-    let placed = placed_within c.self.inside.ids.items c.swap_remove.new.self.items c.self.inside.values.items c.swap_remove-value.new.self.items c.self.inside.rows.items c.self.invariant.0 c.self.invariant.1 c.place-i.result c.swap_remove.result c.swap_remove-value.result (omega (arith, c.if-i-len.false, c.len.ensures, c.self.inside.ids.ok.0))
-    c.swap_remove.ensures.value c.swap_remove-value.ensures.value c.swap_remove.ensures.items c.swap_remove-value.ensures.items c.index.result.now (omega (arith, c.if-i-len-2.true, c.len-2.ensures, c.swap_remove.ensures.len, c.self.inside.ids.ok.0)) c.index.ensures c.set_cell.new.rows.items (λ p. c.set_cell.ensures p ∙ ap (λ (z : Id). cond (same_id z p) (Some c.place-i.result) (cell_of c.self.inside.rows.items p)) c.wide.ensures) in
-    (placed.0, placed.1)
+    let at = subst (λ l. slice_get l c.place-i.result ≡ option_map (λ v. (c.args.id, v)) (indexed l c.args.id)) (sym c.self.view_is) c.place-i.ensures in
+    placed_within c.self.inside.ids.items c.swap_remove.new.self.items c.self.inside.values.items c.swap_remove-value.new.self.items (cell_of c.self.inside.cells) c.self.invariant.0 c.self.invariant.1 c.place-i.result c.swap_remove.result c.swap_remove-value.result (omega (arith, c.if-i-len.false, c.len.ensures, c.self.inside.ids.ok.0))
+    c.swap_remove.ensures.value c.swap_remove-value.ensures.value c.swap_remove.ensures.items c.swap_remove-value.ensures.items c.args.id at (cell_of c.forget.new.self) c.forget.ensures.kept
+    c.index.result.now (omega (arith, c.if-i-len-2.true, c.len-2.ensures, c.swap_remove.ensures.len, c.self.inside.ids.ok.0)) c.index.ensures
+    (cell_of c.set.new.self) (subst (KeepsOthers (cell_of c.forget.new.self) (cell_of c.set.new.self)) c.wide.ensures c.set.ensures.kept) (ap (cell_of c.set.new.self) (sym c.wide.ensures) ∙ c.set.ensures.noted)
 
 pub invariant_of-self-else-i-len-2 : goal.invariant_of-self-else-i-len-2
 invariant_of-self-else-i-len-2 g c =
-    placed_end c.self.inside.ids.items c.swap_remove.new.self.items c.self.inside.values.items c.swap_remove-value.new.self.items c.self.inside.rows.items c.self.invariant.0 c.self.invariant.1 c.place-i.result c.swap_remove.result c.swap_remove-value.result (omega (arith, c.if-i-len.false, c.len.ensures, c.self.inside.ids.ok.0))
-    c.swap_remove.ensures.value c.swap_remove-value.ensures.value c.swap_remove.ensures.items c.swap_remove-value.ensures.items (omega (arith, c.if-i-len-2.false, c.len-2.ensures, c.swap_remove.ensures.len, c.self.inside.ids.ok.0))
+    let at = subst (λ l. slice_get l c.place-i.result ≡ option_map (λ v. (c.args.id, v)) (indexed l c.args.id)) (sym c.self.view_is) c.place-i.ensures in
+    placed_end c.self.inside.ids.items c.swap_remove.new.self.items c.self.inside.values.items c.swap_remove-value.new.self.items (cell_of c.self.inside.cells) c.self.invariant.0 c.self.invariant.1 c.place-i.result c.swap_remove.result c.swap_remove-value.result (omega (arith, c.if-i-len.false, c.len.ensures, c.self.inside.ids.ok.0))
+    c.swap_remove.ensures.value c.swap_remove-value.ensures.value c.swap_remove.ensures.items c.swap_remove-value.ensures.items c.args.id at (cell_of c.forget.new.self) c.forget.ensures.kept (omega (arith, c.if-i-len-2.false, c.len-2.ensures, c.swap_remove.ensures.len, c.self.inside.ids.ok.0))
 
 pub returns-clause-value : goal.returns-clause-value
 returns-clause-value g c =
-    let id = c.args.id in
-    let at = subst (λ l. slice_get l c.place-i.result ≡ option_map (λ v. (id, v)) (indexed l id)) (sym c.self.view_is) c.place-i.ensures in
-    let taken = taken_value c.self.inside.ids.items c.swap_remove.new.self.items c.self.inside.values.items c.swap_remove-value.new.self.items c.self.inside.rows.items c.self.invariant.0 c.self.invariant.1 c.place-i.result c.swap_remove.result c.swap_remove-value.result (omega (arith, c.if-i-len.false, c.len.ensures, c.self.inside.ids.ok.0))
-    c.swap_remove.ensures.value c.swap_remove-value.ensures.value c.swap_remove.ensures.items c.swap_remove-value.ensures.items id at in
-    sym taken.1 ∙ ap (λ l. indexed l id) c.self.view_is
+    let at = subst (λ l. slice_get l c.place-i.result ≡ option_map (λ v. (c.args.id, v)) (indexed l c.args.id)) (sym c.self.view_is) c.place-i.ensures in
+    sym (taken_value c.self.inside.ids.items c.swap_remove.new.self.items c.self.inside.values.items c.swap_remove-value.new.self.items (cell_of c.self.inside.cells) c.self.invariant.0 c.self.invariant.1 c.place-i.result c.swap_remove.result c.swap_remove-value.result (omega (arith, c.if-i-len.false, c.len.ensures, c.self.inside.ids.ok.0))
+    c.swap_remove.ensures.value c.swap_remove-value.ensures.value c.swap_remove.ensures.items c.swap_remove-value.ensures.items c.args.id at) ∙ ap (λ l. indexed l c.args.id) c.self.view_is
 
 pub returns-clause-updates : goal.returns-clause-updates
 returns-clause-updates g c q =
-    let id = c.args.id in
-    let back = ap (λ l. cond (is_id id q) None (indexed l q)) c.self.view_is in
-    let at = subst (λ l. slice_get l c.place-i.result ≡ option_map (λ v. (id, v)) (indexed l id)) (sym c.self.view_is) c.place-i.ensures in
-    let taken = taken_value c.self.inside.ids.items c.swap_remove.new.self.items c.self.inside.values.items c.swap_remove-value.new.self.items c.self.inside.rows.items c.self.invariant.0 c.self.invariant.1 c.place-i.result c.swap_remove.result c.swap_remove-value.result (omega (arith, c.if-i-len.false, c.len.ensures, c.self.inside.ids.ok.0)) c.swap_remove.ensures.value c.swap_remove-value.ensures.value c.swap_remove.ensures.items c.swap_remove-value.ensures.items id at in
-    let new = slots_of c.swap_remove.new.self.items c.swap_remove-value.new.self.items in
-    let to_it = subst (λ (k : Id). Updates (slots_of c.self.inside.ids.items c.self.inside.values.items) new k None) taken.0 in
+    let back = ap (λ l. cond (is_id c.args.id q) None (indexed l q)) c.self.view_is in
+    let at = subst (λ l. slice_get l c.place-i.result ≡ option_map (λ v. (c.args.id, v)) (indexed l c.args.id)) (sym c.self.view_is) c.place-i.ensures in
     elim c.if-i-len-2.branch [
       | then-i-len-2 w ↦
-          ap (λ m. indexed m q) w.self-is ∙ to_it (updates_within c.self.inside.ids.items c.swap_remove.new.self.items c.self.inside.values.items c.swap_remove-value.new.self.items c.self.inside.rows.items c.self.invariant.0 c.self.invariant.1 c.place-i.result c.swap_remove.result c.swap_remove-value.result (omega (arith, c.if-i-len.false, c.len.ensures, c.self.inside.ids.ok.0)) c.swap_remove.ensures.value c.swap_remove-value.ensures.value c.swap_remove.ensures.items c.swap_remove-value.ensures.items w.index.result.now (omega (arith, w.if-i-len-2.true, c.len-2.ensures, c.swap_remove.ensures.len, c.self.inside.ids.ok.0)) w.index.ensures w.set_cell.new.rows.items (λ p. w.set_cell.ensures p ∙ ap (λ (z : Id). cond (same_id z p) (Some c.place-i.result) (cell_of c.self.inside.rows.items p)) w.wide.ensures)) q ∙ back
+          ap (λ m. indexed m q) w.self-is ∙ updates_within c.self.inside.ids.items c.swap_remove.new.self.items c.self.inside.values.items c.swap_remove-value.new.self.items (cell_of c.self.inside.cells) c.self.invariant.0 c.self.invariant.1 c.place-i.result c.swap_remove.result c.swap_remove-value.result (omega (arith, c.if-i-len.false, c.len.ensures, c.self.inside.ids.ok.0))
+          c.swap_remove.ensures.value c.swap_remove-value.ensures.value c.swap_remove.ensures.items c.swap_remove-value.ensures.items c.args.id at (cell_of c.forget.new.self) c.forget.ensures.kept
+          w.index.result.now (omega (arith, w.if-i-len-2.true, c.len-2.ensures, c.swap_remove.ensures.len, c.self.inside.ids.ok.0)) w.index.ensures
+          (cell_of w.set.new.self) (subst (KeepsOthers (cell_of c.forget.new.self) (cell_of w.set.new.self)) w.wide.ensures w.set.ensures.kept) (ap (cell_of w.set.new.self) (sym w.wide.ensures) ∙ w.set.ensures.noted) q ∙ back
       | else-i-len-2 w ↦
-          ap (λ m. indexed m q) w.self-is ∙ to_it (updates_end c.self.inside.ids.items c.swap_remove.new.self.items c.self.inside.values.items c.swap_remove-value.new.self.items c.self.inside.rows.items c.self.invariant.0 c.self.invariant.1 c.place-i.result c.swap_remove.result c.swap_remove-value.result (omega (arith, c.if-i-len.false, c.len.ensures, c.self.inside.ids.ok.0)) c.swap_remove.ensures.value c.swap_remove-value.ensures.value c.swap_remove.ensures.items c.swap_remove-value.ensures.items (omega (arith, w.if-i-len-2.false, c.len-2.ensures, c.swap_remove.ensures.len, c.self.inside.ids.ok.0))) q ∙ back
+          ap (λ m. indexed m q) w.self-is ∙ updates_end c.self.inside.ids.items c.swap_remove.new.self.items c.self.inside.values.items c.swap_remove-value.new.self.items (cell_of c.self.inside.cells) c.self.invariant.0 c.self.invariant.1 c.place-i.result c.swap_remove.result c.swap_remove-value.result (omega (arith, c.if-i-len.false, c.len.ensures, c.self.inside.ids.ok.0))
+          c.swap_remove.ensures.value c.swap_remove-value.ensures.value c.swap_remove.ensures.items c.swap_remove-value.ensures.items c.args.id at (cell_of c.forget.new.self) c.forget.ensures.kept (omega (arith, w.if-i-len-2.false, c.len-2.ensures, c.swap_remove.ensures.len, c.self.inside.ids.ok.0)) q ∙ back
     ]

@@ -28,4 +28,4 @@ returns-in_default c =
     let p = c.args.self.now in
     let next = next_of (number_of i.kind) in
     let l = lies next i.bits.now i.at i.end p c.self.invariant c.self.view_is in
-    absurd (not_stuck link next c.new.result _ p c.new-walker.result _ l.holds c.new-walker.ensures (c.in_default.ensures (λ _. refl)))
+    absurd (not_stuck link next c.new.result _ p c.new-walker.result _ _ l.holds c.new-walker.ensures (c.in_default.ensures (λ _. refl)))

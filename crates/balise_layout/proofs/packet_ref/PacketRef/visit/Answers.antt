@@ -14,7 +14,7 @@ returns-in_err-walk-clause-shows g c =
     let next = next_of (number_of i.kind) in
     let l = lies next i.bits.now i.at i.end c.args.self.now c.self.invariant c.self.view_is in
     let p = err_from_is_err_and c.from_residual.result c.from_residual.ensures.1 in
-    rw (p.1, p.2) (λ some. not_stuck g.V.Visit.step next c.args.visitor _ c.args.self.now c.new-walker.result c.in_err-walk.field-0.0 l.holds c.new-walker.ensures (c.in_err-walk.ensures some))
+    rw (p.1, p.2) (λ some. not_stuck g.V.Visit.step next c.args.visitor _ c.args.self.now c.new-walker.result c.in_err-walk.field-0.0 _ l.holds c.new-walker.ensures (c.in_err-walk.ensures some))
 
 pub returns-clause-shows : goal.returns-clause-shows
 returns-clause-shows g c =

@@ -1,5 +1,5 @@
 use Rattle.std.proofs.Common.{rules}
-use Rattle.balise_lines.proofs.line_buffer.LineBuffer.look.Goals as goal
+use Rattle.balise_lines.proofs.line_buffer.LineBuffer.look_on.Goals as goal
 
 pub returns-in_err-read_from-clause-needed : goal.returns-in_err-read_from-clause-needed
 returns-in_err-read_from-clause-needed c = search rules

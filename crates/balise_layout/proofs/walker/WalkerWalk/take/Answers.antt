@@ -1,10 +1,11 @@
 -- The field is the first of those that are left.
-use Rattle.std.proofs.Common.{arith, ◌-◌, take, drop, sym, ◌∙◌, ap}
+use Rattle.std.proofs.Common.{arith, ◌-◌, take, drop, sym, ◌∙◌, ap, Err}
 use Rattle.std.proofs.lemmas.List.{length-take, length-drop}
 use Rattle.balise_rules.specs.Forms.{valued}
+use Rattle.balise_layout.specs.declared.fault.LayoutFault.TheVariants.{LayoutMismatch}
 use Rattle.balise_layout.specs.Walks.{walk}
 use Rattle.balise_layout.proofs.Walks.{walk_step, walk_short}
-use Rattle.balise_layout.proofs.walker.Walker.take.Goals as goal
+use Rattle.balise_layout.proofs.walker.WalkerWalk.take.Goals as goal
 
 pub returns : goal.returns
 returns g c = λ next.
@@ -18,4 +19,4 @@ returns-then-left-width g c = λ next _.
     let r = c.self.inside in
     let rest = take (r.end - r.at) (drop r.at r.bits) in
     ap (walk g.V.Visit.step (valued c.args.var next)) (sym c.self.view_is)
-    ∙ walk_short g.V.Visit.step c.args.var next (r.visitor, rest) (omega (arith, length-take (r.end - r.at) (drop r.at r.bits), length-drop r.at r.bits, c.width-width.ensures.width, c.if-left-width.true))
+    ∙ walk_short g.V.Visit.step c.args.var next (r.visitor, rest) (omega (arith, length-take (r.end - r.at) (drop r.at r.bits), length-drop r.at r.bits, c.width-width.ensures.width, c.if-left-width.true)) ∙ ap (λ s. Err (LayoutMismatch, s)) c.self.view_is

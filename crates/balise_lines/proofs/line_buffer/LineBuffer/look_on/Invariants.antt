@@ -2,7 +2,7 @@ use Rattle.std.proofs.Common.{◌≡◌, ◌⊎◌, ◌≤◌, ◌-◌, length, 
 use Rattle.std.specs.Io.KnownBytes.{Keeps, prepend_known}
 use Rattle.balise_lines.specs.LineBuffer.{held, NeedsMore}
 use Rattle.balise_lines.specs.Lines.{HasNoEnd}
-use Rattle.balise_lines.proofs.line_buffer.LineBuffer.look.Given as goal
+use Rattle.balise_lines.proofs.line_buffer.LineBuffer.look_on.Given as goal
 
 abbrev pub invariant-reads : goal.invariant-reads
 invariant-reads g l =

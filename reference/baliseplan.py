@@ -12,6 +12,7 @@ from run import FLAGS, run
 HELP = "usage: baliseplan.py [--quiet] [--stop] [--journal] [--json] < INPUT > OUTPUT"
 BAD_ARGUMENTS = 64
 FAULTED = 3
+BROKEN = 70
 
 
 @dataclass(frozen=True)
@@ -66,15 +67,26 @@ def read_input(count: int) -> bytes:
         raise Fault(Refusal.ReadFault) from None
 
 
-def main(arguments: list[str]) -> int:
-    given = answer(arguments, read_input)
-    text = given.output
+def write_output(text: bytes) -> None:
+    """Writes all of it, or 32."""
     try:
         while text:
             text = text[os.write(1, text) :]
     except OSError:
+        raise Fault(Refusal.WriteFault) from None
+
+
+def main(arguments: list[str]) -> int:
+    try:
+        given = answer(arguments, read_input)
+    except Exception as error:  # its own error is no answer, so no status of one may stand for it
+        sys.stderr.write(f"baliseplan.py: an error of the reference: {error!r}\n")
+        return BROKEN
+    try:
+        write_output(given.output)
+    except Fault as fault:
         if given.status != FAULTED:
-            given = Answer(b"", FAULTED, f"fault {Fault(Refusal.WriteFault)}\n")
+            given = Answer(b"", FAULTED, f"fault {fault}\n")
     sys.stderr.write(given.error)
     return given.status
 

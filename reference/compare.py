@@ -3,6 +3,9 @@
 
 usage: compare.py PROGRAM FROM TO [--size small|medium] [-j PROCESSES] [--keep FOLDER]
 
+Standard output, standard error and the status have to be the same. But where arguments aren't the
+program's, standard error has a text that is each program's own.
+
 Status 0: the program printed the same for all seeds. 1: for some it differs, and each
 such input is kept, made shorter. 2: there is no such program.
 """
@@ -15,26 +18,32 @@ import shlex
 import shutil
 import subprocess
 import sys
+import time
 from collections.abc import Iterable, Iterator
 from dataclasses import dataclass
 from io import BytesIO
 from pathlib import Path
 
-from baliseplan import answer
+from baliseplan import BAD_ARGUMENTS, answer
 from random_inputs import Input, make_input
 from random_plans import SIZES
 
-SECONDS = 120
-MOST_TRIALS = 600
+SECONDS = float(os.environ.get("CHECK_SECONDS", "120"))
 NO_STATUS = -1
 
 
 @dataclass(frozen=True)
 class Printed:
-    """Standard output and status of a run; -1 where it didn't end."""
+    """Standard output, status and standard error of a run; -1 where it didn't end."""
 
     output: bytes
     status: int
+    error: bytes = b""
+
+
+def printed(output: bytes, status: int, error: bytes) -> Printed:
+    """What is compared of a run: of an error about arguments, that there is one."""
+    return Printed(output, status, b"a text\n" if status == BAD_ARGUMENTS and error else error)
 
 
 def program_words(program: str) -> list[str] | None:
@@ -54,7 +63,7 @@ def by_program(words: list[str], given: Input) -> Printed:
         )
     except (OSError, subprocess.TimeoutExpired):
         return Printed(b"", NO_STATUS)
-    return Printed(done.stdout, done.returncode)
+    return printed(done.stdout, done.returncode, done.stderr)
 
 
 def by_reference(given: Input) -> Printed:
@@ -63,7 +72,7 @@ def by_reference(given: Input) -> Printed:
         done = answer(list(given.arguments), BytesIO(given.text).read)
     except Exception as error:  # an error here is a finding, not the end of the comparison
         return Printed(repr(error).encode(), NO_STATUS)
-    return Printed(done.output, done.status)
+    return printed(done.output, done.status, done.error.encode())
 
 
 def differs(words: list[str], given: Input) -> bool:
@@ -71,18 +80,18 @@ def differs(words: list[str], given: Input) -> bool:
 
 
 def shrunk(words: list[str], given: Input) -> Input:
-    """The input with fewer arguments and lines, as long as the answers differ."""
+    """The input with fewer arguments and lines, as long as the answers differ, for a while."""
+    until = time.monotonic() + SECONDS
     for argument in given.arguments:
         fewer = tuple(word for word in given.arguments if word != argument)
         if differs(words, Input(fewer, given.text)):
             given = Input(fewer, given.text)
     lines = given.text.splitlines(keepends=True)
-    size, trials = max(1, len(lines) // 2), 0
-    while size and trials < MOST_TRIALS:
+    size = max(1, len(lines) // 2)
+    while size and time.monotonic() < until:
         place, dropped = 0, False
-        while place < len(lines) and trials < MOST_TRIALS:
+        while place < len(lines) and time.monotonic() < until:
             trial = lines[:place] + lines[place + size :]
-            trials += 1
             if differs(words, Input(given.arguments, b"".join(trial))):
                 lines, dropped = trial, True
             else:
@@ -101,14 +110,25 @@ class Task:
     size: str
 
 
-Compared = tuple[int, Input | None]
+@dataclass(frozen=True)
+class Compared:
+    """The input of a seed, made shorter, if the answers differ, and whether the program ended."""
+
+    seed: int
+    differing: Input | None = None
+    ended: bool = True
 
 
 def compare(task: Task) -> Compared:
-    """The input of a seed made shorter if the answers differ, else none."""
+    """Compares on the input of a seed."""
     words = list(task.words)
     given = make_input(task.seed, task.size)
-    return task.seed, shrunk(words, given) if differs(words, given) else None
+    got = by_program(words, given)
+    if got == by_reference(given):
+        return Compared(task.seed)
+    if got.status == NO_STATUS:
+        return Compared(task.seed, given, ended=False)
+    return Compared(task.seed, shrunk(words, given))
 
 
 def keep(folder: Path, name: str, words: list[str], given: Input) -> Path:
@@ -125,9 +145,10 @@ def keep(folder: Path, name: str, words: list[str], given: Input) -> Path:
             number += 1
     path.with_suffix(".flags").write_text("".join(word + "\n" for word in given.arguments))
     answers = {"program": by_program(words, given), "reference": by_reference(given)}
-    for suffix, printed in answers.items():
-        path.with_suffix(f".{suffix}").write_bytes(printed.output)
-        path.with_suffix(f".{suffix}_status").write_text(f"{printed.status}\n")
+    for suffix, given_answer in answers.items():
+        path.with_suffix(f".{suffix}").write_bytes(given_answer.output)
+        path.with_suffix(f".{suffix}_error").write_bytes(given_answer.error)
+        path.with_suffix(f".{suffix}_status").write_text(f"{given_answer.status}\n")
     return path
 
 
@@ -150,9 +171,13 @@ def compare_all(words: list[str], asked: argparse.Namespace) -> list[Path]:
     tasks = [Task(tuple(words), seed, asked.size) for seed in range(asked.first, asked.last + 1)]
     kept = []
     with multiprocessing.Pool(asked.processes) as pool:
-        for seed, given in counted(pool.imap_unordered(compare, tasks, chunksize=4), len(tasks)):
-            if given is not None:
-                kept.append(keep(Path(asked.keep), f"{asked.size}_{seed}", words, given))
+        for found in counted(pool.imap_unordered(compare, tasks, chunksize=4), len(tasks)):
+            if found.differing is not None:
+                name = f"{asked.size}_{found.seed}"
+                kept.append(keep(Path(asked.keep), name, words, found.differing))
+            if not found.ended:
+                print(f"no end after {SECONDS:g} s, so no further input is tried")
+                break
     return kept
 
 

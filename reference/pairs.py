@@ -1,7 +1,7 @@
 #!/usr/bin/env python3
 """One long input: each ordered pair of some 150 commands on one small plan.
 
-usage: pairs.py > INPUT
+usage: pairs.py [COUNT] > INPUT, of the first COUNT commands alone
 
 Both commands of a pair are done, the first one is struck and done again, and all is
 taken back. So the replies say of each pair whether the second depends on the first.
@@ -123,7 +123,7 @@ def commands() -> list[str]:
     return lines
 
 
-def main() -> int:
+def main(count: int | None = None) -> int:
     start = "".join(line + "\n" for line in [*plan(), "edits"])
     sys.stdout.write(start)
     session = read_session(Lines(BytesIO(start.encode()).read))
@@ -133,7 +133,7 @@ def main() -> int:
         doing.take(line)
         sys.stdout.write(line + "\n")
 
-    for first, second in product(commands(), repeat=2):
+    for first, second in product(commands()[:count], repeat=2):
         take(first)
         take(second)
         if session.standing:
@@ -146,4 +146,4 @@ def main() -> int:
 
 
 if __name__ == "__main__":
-    sys.exit(main())
+    sys.exit(main(*map(int, sys.argv[1:])))

@@ -1,11 +1,12 @@
 """Balise groups, the plan, and which group a link names (SUBSET-026, 3.4)."""
 
 from collections.abc import Iterator
-from dataclasses import dataclass, field
+from dataclasses import dataclass, replace
+from functools import cached_property
 
 from packets import NO_GROUP, Packet
 from refusals import Refusal, Refused
-from telegrams import Telegram
+from telegrams import Telegram, with_item
 
 MOST_TELEGRAMS = 8
 AGREED = ("N_PIG", "N_TOTAL", "NID_C", "NID_BG")
@@ -14,32 +15,46 @@ Identity = tuple[int, int]
 """NID_C and NID_BG (3.4)."""
 
 
-@dataclass
+@dataclass(frozen=True)
 class BaliseGroup:
-    """A balise group: one to eight telegrams, in the order of N_PIG (3.4.2)."""
+    """A balise group, a value: one to eight telegrams, in the order of N_PIG (3.4.2)."""
 
     tag: str
-    telegrams: list[Telegram]
+    telegrams: tuple[Telegram, ...]
 
-    @property
+    @cached_property
     def identity(self) -> Identity:
         header = self.telegrams[0].header
         return header["NID_C"], header["NID_BG"]
 
+    def packets(self) -> Iterator[tuple[int, int, Packet]]:
+        """Each packet with its N_PIG and place."""
+        for pig, telegram in enumerate(self.telegrams):
+            for place, packet in enumerate(telegram.packets):
+                yield pig, place, packet
 
-@dataclass
+    @cached_property
+    def names(self) -> tuple[Identity, ...]:
+        """The identities that its links and infill location references name (3.4)."""
+        country = self.identity[0]
+        found = (identities(packet, country) for _, _, packet in self.packets())
+        return tuple(name for names in found for name in names)
+
+    def with_telegram(self, pig: int, telegram: Telegram) -> "BaliseGroup":
+        return replace(self, telegrams=with_item(self.telegrams, pig, telegram))
+
+
+@dataclass(frozen=True)
 class Plan:
-    """The groups of a line, in order."""
+    """The groups of a line, in order: a value, so an edit makes another plan."""
 
-    groups: list[BaliseGroup] = field(default_factory=list)
-
-    def copy(self) -> "Plan":
-        """Another plan, whose changes leave this one."""
-        copies = [(group.tag, [each.copy() for each in group.telegrams]) for group in self.groups]
-        return Plan([BaliseGroup(tag, telegrams) for tag, telegrams in copies])
+    groups: tuple[BaliseGroup, ...] = ()
 
     def has(self, identity: Identity) -> bool:
         return any(group.identity == identity for group in self.groups)
+
+    def is_named(self, identity: Identity) -> bool:
+        return any(identity in group.names for group in self.groups)
 
     def find(self, identity: Identity) -> BaliseGroup:
         """The group with an identity, or 14."""
@@ -48,26 +63,8 @@ class Plan:
                 return group
         raise Refused(Refusal.NoSuchGroup)
 
-    def add(self, place: int, group: BaliseGroup) -> None:
-        """Puts a group in, or 13."""
-        if self.has(group.identity):
-            raise Refused(Refusal.GroupTwice)
-        self.groups.insert(place, group)
-
-    def packets(self) -> Iterator[tuple[BaliseGroup, int, int, Packet]]:
-        """Each packet with its group, N_PIG and place."""
-        for group in self.groups:
-            for pig, telegram in enumerate(group.telegrams):
-                for place, packet in enumerate(telegram.packets):
-                    yield group, pig, place, packet
-
-    def names(self) -> tuple[Identity, ...]:
-        """The identities that links and infill location references name (3.4)."""
-        return tuple(
-            name
-            for group, _, _, packet in self.packets()
-            for name in identities(packet, group.identity[0])
-        )
+    def with_group(self, place: int, group: BaliseGroup) -> "Plan":
+        return Plan(with_item(self.groups, place, group))
 
 
 def named_by(packet: Packet, country: int) -> list[Identity]:
@@ -89,7 +86,7 @@ def identities(packet: Packet, country: int) -> list[Identity]:
     return [name for name in named_by(packet, country) if name[1] != NO_GROUP]
 
 
-def make_group(tag: str, telegrams: list[Telegram]) -> BaliseGroup:
+def make_group(tag: str, telegrams: tuple[Telegram, ...]) -> BaliseGroup:
     """A group of telegrams that agree (8.4.2, 3.4.2), or 10, 11 or 12."""
     if not 1 <= len(telegrams) <= MOST_TELEGRAMS:
         raise Refused(Refusal.GroupSize)

@@ -14,9 +14,8 @@ from io import BytesIO
 from packets import NO_GROUP, STEERING, WIDTHS, Packet
 from plans import BaliseGroup, Plan, identities
 from random_plans import SIZES, PlanMaker, Size
-from refusals import Refused
 from run import BadInput, Commands, Lines, journal_lines, read_session
-from session import Session, without
+from session import Session
 from telegrams import FREE_IN_HEADER, Telegram
 from texts import digits_of_bits
 
@@ -53,7 +52,7 @@ class Maker(PlanMaker):
         return self.random.randint(0, most)
 
     def command(self, session: Session) -> str:
-        plan = session.plan()
+        plan = session.plan
         if session.undone and self.chance(35) or self.chance(1):
             return "redo"
         roll = self.random.randrange(100)
@@ -72,11 +71,8 @@ class Maker(PlanMaker):
             return f"strike {self.random.choice(serials[-5:-1])}"
         self.random.shuffle(serials)
         for serial in serials if self.chance(80) else []:
-            try:
-                without(session.standing, serial)
-            except Refused:
-                continue
-            return f"strike {serial}"
+            if session.can_strike(serial):
+                return f"strike {serial}"
         return f"strike {serials[0]}"
 
     def add(self, plan: Plan) -> str:
@@ -97,9 +93,7 @@ class Maker(PlanMaker):
         kind = self.random.choice(("turn", "turn", "renumber", "renumber", "drop"))
         if kind == "drop":
             self.dropped.append(group.identity)
-            inside = Plan([group]).packets()
-            for _, _, _, packet in inside:
-                self.named += identities(packet, group.identity[0])
+            self.named += group.names
         if kind != "renumber":
             return f"{kind} {name}"
         new = self.random.randrange(NO_GROUP) if self.chance(60) else self.number()

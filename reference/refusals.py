@@ -26,3 +26,7 @@ class Fault(Exception):
 
     def __init__(self, refusal: Refusal) -> None:
         super().__init__(f"{refusal.value} {refusal.name}")
+
+
+class Broken(Exception):
+    """The reference contradicts itself: a rule of it is wrong."""

@@ -5,7 +5,7 @@ from collections.abc import Callable, Iterator, Set
 from dataclasses import dataclass
 
 from packets import Packet
-from plans import MOST_TELEGRAMS, BaliseGroup, Plan, make_group, named_by
+from plans import MOST_TELEGRAMS, BaliseGroup, Identity, Plan, make_group, named_by
 from refusals import Fault, Refusal, Refused
 from session import Session
 from telegrams import Telegram, place_of, read_telegram
@@ -33,25 +33,34 @@ class Lines:
     def __init__(self, read: Callable[[int], bytes]) -> None:
         self._read = read
         self._buffer = b""
-        self._start = 0
+        self._place = 0
+        self._taken = 0
         self._ended = False
         self.number = 0
 
     def next(self) -> str | None:
         """The next line without its line feed, or none at the end; 29 where it is too long."""
         self.number += 1
-        while b"\n" not in self._buffer and not self._ended and len(self._buffer) <= LONGEST_LINE:
-            more = self._read(65536)
-            self._ended = not more
-            self._buffer += more
-        if not self._buffer:
+        end = self._buffer.find(b"\n", self._place)
+        while end < 0 and not self._ended and len(self._buffer) - self._place <= LONGEST_LINE:
+            self._read_more()
+            end = self._buffer.find(b"\n")
+        if self._place == len(self._buffer):
             return None
-        line, end, rest = self._buffer.partition(b"\n")
-        self._start += len(line + end)
-        if len(line) > LONGEST_LINE or self._start > LONGEST_INPUT:
+        line = self._buffer[self._place : end if end >= 0 else len(self._buffer)]
+        taken = len(line) + (end >= 0)
+        if len(line) > LONGEST_LINE or self._taken + taken > LONGEST_INPUT:
             raise Fault(Refusal.InputTooLong)
-        self._buffer = rest
+        self._place += taken
+        self._taken += taken
         return line.decode("latin-1")
+
+    def _read_more(self) -> None:
+        """Reads on. What is left of the buffer, less than a line, goes before it."""
+        more = self._read(65536)
+        self._ended = not more
+        self._buffer = self._buffer[self._place :] + more
+        self._place = 0
 
     def due(self) -> str:
         """The next line, or 1 at the end."""
@@ -63,13 +72,14 @@ class Lines:
 
 def read_session(lines: Lines) -> Session:
     """The session of a plan and perhaps a journal, up to the line `edits`."""
-    plan = Plan()
+    groups: dict[Identity, BaliseGroup] = {}
     try:
         if lines.due() != "plan 1":
             raise Refused(Refusal.BadLine)
         line: str | None = lines.due()
         while line == "group":
-            line = _read_group(lines, plan)
+            line = _read_group(lines, groups)
+        plan = Plan(tuple(groups.values()))
         if line == "edits":
             return Session(plan)
         if line is None or not line.startswith("journal "):
@@ -79,8 +89,8 @@ def read_session(lines: Lines) -> Session:
         raise BadInput(lines.number, refused) from None
 
 
-def _read_group(lines: Lines, plan: Plan) -> str | None:
-    """Reads a group into the plan; the line that ends it, or none at the end."""
+def _read_group(lines: Lines, groups: dict[Identity, BaliseGroup]) -> str | None:
+    """Reads a group after the others; the line that ends it, or none at the end."""
     start = lines.number
     telegrams: list[Telegram] = []
     line = lines.next()
@@ -90,9 +100,12 @@ def _read_group(lines: Lines, plan: Plan) -> str | None:
         telegrams.append(read_telegram(telegram_bits(line), len(telegrams)))
         line = lines.next()
     try:
-        plan.add(len(plan.groups), make_group(f"b{len(plan.groups)}", telegrams))
+        group = make_group(f"b{len(groups)}", tuple(telegrams))
+        if group.identity in groups:
+            raise Refused(Refusal.GroupTwice)
     except Refused as refused:
         raise BadInput(start, refused) from None
+    groups[group.identity] = group
     return line
 
 
@@ -147,9 +160,13 @@ def review(plan: Plan, turned: BaliseGroup) -> list[str]:
     """What a person has to check after a turn: distances and opaque packets."""
     inside: list[str] = []
     links: list[str] = []
-    if len(turned.telegrams) > 1:
-        for group, pig, place, packet in plan.packets():
-            country, nid_bg = group.identity
+    if len(turned.telegrams) == 1:
+        return []
+    for group in plan.groups:
+        if group is not turned and turned.identity not in group.names:
+            continue
+        country, nid_bg = group.identity
+        for pig, place, packet in group.packets():
             where = f"review {country}.{nid_bg} {pig} {place}"
             if group is turned:
                 inside += [f"{where} {each}" for each in _inside(packet)]
@@ -212,11 +229,11 @@ class Commands:
             return f"redone {session.redo()}", []
         if kind == "strike":
             return f"struck {session.strike(asked['serial'])}", []
-        edit = edit_of(session.plan(), kind, asked)
+        edit = edit_of(session.plan, kind, asked)
         reply = f"ok {session.edit(edit)}"
         if kind != "turn":
             return reply, []
-        plan = session.plan()
+        plan = session.plan
         turned = plan.groups[place_of(plan.groups, edit.group, Refusal.NoSuchGroup)]
         return reply, review(plan, turned)
 
@@ -268,7 +285,7 @@ def run(read: Callable[[int], bytes], flags: Set[str], out: list[str]) -> int:
     commands = Commands(session, flags, out)
     while not (commands.refused and "--stop" in flags) and (line := lines.next()) is not None:
         commands.take(line)
-    plan = session.plan()
+    plan = session.plan
     out += plan_lines(plan)
     if "--journal" in flags:
         out += journal_lines(session)

@@ -1,13 +1,14 @@
 """Independent edits, and a session: undo, redo and strike.
 
-The plan is made from the plan first read, for every answer.
+Each state of the plan is kept. Nothing is ever changed back: an undo goes to the state before, and
+a strike does the later edits again on the state before the struck one.
 """
 
-from dataclasses import dataclass, field, replace
+from dataclasses import dataclass, replace
 
 from edits import Edit, Note, do
 from plans import Identity, Plan
-from refusals import Refusal, Refused
+from refusals import Broken, Refusal, Refused
 
 Path = tuple[str, ...]
 
@@ -106,68 +107,103 @@ def stands_after(e: Entry, f: Entry) -> bool:
     return same and are_apart(e, f, e.path("g/t/n/after"))
 
 
-def without(entries: list[Entry], serial: int) -> list[Entry]:
-    """The entries that stand once one of them is struck, or 25 or 26.
+def kept(struck: Entry, later: list[Entry]) -> list[Entry]:
+    """The later entries once an edit is struck, or 26.
 
-    A later one that stands after it is anchored where it was.
+    One that stands after it is anchored where it was.
     """
-    places = [i for i, entry in enumerate(entries) if entry.serial == serial]
-    if not places:
-        raise Refused(Refusal.NoSuchEdit)
-    kept, (struck, *later) = entries[: places[0]], entries[places[0] :]
+    found: list[Entry] = []
     for entry in later:
         if not are_apart(struck, entry):
             if not stands_after(struck, entry):
                 raise Refused(Refusal.DependsOn, entry.serial)
             entry = replace(entry, edit=replace(entry.edit, after=struck.edit.after))
-        kept.append(entry)
-    return kept
+        found.append(entry)
+    return found
 
 
-@dataclass
+@dataclass(frozen=True, eq=False)
+class State:
+    """A plan, and the standing edits that made it: the last one, and the state before it."""
+
+    plan: Plan
+    last: tuple[Entry, "State"] | None = None
+
+    def entries(self) -> list[Entry]:
+        """The standing edits, the first one first."""
+        found: list[Entry] = []
+        state = self
+        while state.last is not None:
+            entry, state = state.last
+            found.append(entry)
+        return found[::-1]
+
+    def after(self, serial: int, edit: Edit) -> "State":
+        """The state after one more edit, or the edit's refusal."""
+        plan, note = do(self.plan, serial, edit)
+        return State(plan, (Entry(serial, edit, note), self))
+
+    def after_again(self, entry: Entry) -> "State":
+        """The same for an edit that was done before, which has to note the same again."""
+        try:
+            state = self.after(entry.serial, entry.edit)
+        except Refused as refused:
+            raise Broken(f"edit {entry.serial} is refused when done again: {refused}") from None
+        if state.last is None or state.last[0] != entry:
+            raise Broken(f"edit {entry.serial} notes something else when done again")
+        return state
+
+    def without(self, serial: int) -> "State":
+        """The state that is left once an edit is struck, or 25 or 26.
+
+        The later ones are done again on the plan before it.
+        """
+        later: list[Entry] = []
+        state = self
+        while state.last is not None:
+            entry, state = state.last
+            if entry.serial == serial:
+                for each in kept(entry, later[::-1]):
+                    state = state.after_again(each)
+                return state
+            later.append(entry)
+        raise Refused(Refusal.NoSuchEdit)
+
+
 class Session:
     """A plan first read, and what was done on it.
 
     `undone` has the serials of the edits taken back, the last one at its end. `levels` has the
-    edits that would stand if all of these were done again, and then those that each of them
-    left when it was struck.
+    state if all of these were done again, and then the one that each of them left when it was
+    struck. So an undo and a redo go to a state that is kept.
     """
 
-    first: Plan
-    next_serial: int = 1
-    undone: list[int] = field(default_factory=list)
-    levels: list[list[Entry]] = field(default_factory=lambda: [[]])
+    def __init__(self, first: Plan, next_serial: int = 1) -> None:
+        self.first = first
+        self.next_serial = next_serial
+        self.undone: list[int] = []
+        self.levels = [State(first)]
+
+    @property
+    def plan(self) -> Plan:
+        """What the standing edits make of the plan first read."""
+        return self.levels[-1].plan
 
     @property
     def entries(self) -> list[Entry]:
         """The entries of the journal."""
-        return self.levels[0]
+        return self.levels[0].entries()
 
     @property
     def standing(self) -> list[Entry]:
-        return self.levels[-1]
-
-    def plan(self) -> Plan:
-        """What the standing edits make of the plan first read.
-
-        Each has to be accepted and to note the same again; else a rule of strikes is wrong.
-        """
-        plan = self.first.copy()
-        for entry in self.standing:
-            try:
-                note = do(plan, entry.serial, entry.edit)
-            except Refused as refused:
-                raise AssertionError(f"edit {entry.serial} is refused: {refused}") from None
-            if note != entry.note:
-                raise AssertionError(f"edit {entry.serial} notes {note}, not {entry.note}")
-        return plan
+        return self.levels[-1].entries()
 
     def accept(self, serial: int, edit: Edit) -> Note:
         """Does an edit as the last one. What was undone is gone for good."""
-        note = do(self.plan(), serial, edit)
-        self.levels = [[*self.standing, Entry(serial, edit, note)]]
-        self.undone = []
-        return note
+        state = self.levels[-1].after(serial, edit)
+        self.levels, self.undone = [state], []
+        assert state.last is not None
+        return state.last[0].note
 
     def edit(self, edit: Edit) -> int:
         """Does an edit under the next serial."""
@@ -176,17 +212,26 @@ class Session:
         self.next_serial += 1
         return serial
 
+    def can_strike(self, serial: int) -> bool:
+        """Whether a strike of this edit is accepted."""
+        try:
+            self.levels[-1].without(serial)
+        except Refused:
+            return False
+        return True
+
     def strike(self, serial: int) -> int:
         """Takes back one edit and keeps the later ones, or 25 or 26."""
-        self.levels.append(without(self.standing, serial))
+        self.levels.append(self.levels[-1].without(serial))
         self.undone.append(serial)
         return serial
 
     def undo(self) -> int:
         """Takes back the last standing edit, or 23."""
-        if not self.standing:
+        last = self.levels[-1].last
+        if last is None:
             raise Refused(Refusal.NothingToUndo)
-        return self.strike(self.standing[-1].serial)
+        return self.strike(last[0].serial)
 
     def redo(self) -> int:
         """Does again what was taken back last, at the place of its serial, or 24."""

@@ -1,8 +1,8 @@
 """A balise telegram in user bits (SUBSET-026, 8.4.2), and places in lists by tag."""
 
 from collections.abc import Sequence
-from dataclasses import dataclass
-from typing import Any, Protocol
+from dataclasses import dataclass, replace
+from typing import Any, Protocol, TypeVar
 
 from packets import END_OF_INFORMATION, Packet, bits_of, length_at, read_fields, read_packet
 from refusals import Refusal, Refused
@@ -15,6 +15,8 @@ END_BITS = 8
 LENGTHS = (210, 830)
 START = "^"
 END = "$"
+
+Item = TypeVar("Item")
 
 
 class Tagged(Protocol):
@@ -47,13 +49,28 @@ def tag_at(items: Sequence[Tagged], place: int) -> str:
     return str(items[place].tag) if place < len(items) else END
 
 
-@dataclass
+def with_item(items: tuple[Item, ...], place: int, item: Item) -> tuple[Item, ...]:
+    """The items with another one at a place."""
+    return (*items[:place], item, *items[place + 1 :])
+
+
+def with_new(items: tuple[Item, ...], place: int, item: Item) -> tuple[Item, ...]:
+    """The items with one more, put in at a place."""
+    return (*items[:place], item, *items[place:])
+
+
+def without_item(items: tuple[Item, ...], place: int) -> tuple[Item, ...]:
+    """The items without the one at a place."""
+    return (*items[:place], *items[place + 1 :])
+
+
+@dataclass(frozen=True)
 class Telegram:
-    """The telegram of one balise. Its tag is the N_PIG with which it came in."""
+    """The telegram of one balise, a value. Its tag is the N_PIG with which it came in."""
 
     tag: int
     header: dict[str, int]
-    packets: list[Packet]
+    packets: tuple[Packet, ...]
     ground: str
 
     def front(self) -> str:
@@ -69,8 +86,11 @@ class Telegram:
     def room(self) -> int:
         return len(self.ground) - len(self.front())
 
-    def copy(self) -> "Telegram":
-        return Telegram(self.tag, dict(self.header), list(self.packets), self.ground)
+    def with_packets(self, packets: tuple[Packet, ...]) -> "Telegram":
+        return replace(self, packets=packets)
+
+    def with_header(self, name: str, value: int) -> "Telegram":
+        return replace(self, header=self.header | {name: value})
 
 
 def read_telegram(bits: str, tag: int) -> Telegram:
@@ -88,7 +108,7 @@ def read_telegram(bits: str, tag: int) -> Telegram:
         number = int(bits[place : place + 8], 2)
         if number == END_OF_INFORMATION:
             end = place + END_BITS
-            return Telegram(tag, header, packets, "1" * end + bits[end:])
+            return Telegram(tag, header, tuple(packets), "1" * end + bits[end:])
         if number == 0:
             raise Refused(Refusal.PacketZero)
         end = place + length_at(bits, place)

@@ -1,11 +1,13 @@
 """Tests of the reference: worked examples, and laws on random sessions.
 
-Run them here: python3 -m unittest
+Run them here: python3 -m unittest test_reference
 """
 
 import re
+import shlex
 import subprocess
 import sys
+import time
 import unittest
 from io import BytesIO
 from pathlib import Path
@@ -15,9 +17,8 @@ import pairs
 from baliseplan import Answer, answer
 from packets import FOLLOWS, OPENING, PACKETS, PARTS, WIDTHS, walk
 from random_inputs import Input, make_input
-from refusals import Fault, Refused
-from run import GREATEST_NEXT, BadInput, Commands, Lines, journal_lines, read_journal
-from run import read_session
+from refusals import Fault
+from run import BadInput, Commands, Lines, read_session
 from session import Session
 
 HERE = Path(__file__).resolve().parent
@@ -50,11 +51,10 @@ def done(given: Input) -> Session | None:
 
 class WorkedExamples(unittest.TestCase):
     def test_formats_page(self) -> None:
-        script = ROOT / "scripts" / "check" / "formats.py"
+        script = ROOT / "scripts" / "check" / "examples.py"
+        program = f"{shlex.quote(sys.executable)} {shlex.quote(str(HERE / 'baliseplan.py'))}"
         done = subprocess.run(
-            [sys.executable, str(script), str(HERE / "baliseplan.py")],
-            capture_output=True,
-            text=True,
+            [sys.executable, str(script), program, "formats"], capture_output=True, text=True
         )
         self.assertEqual((done.returncode, done.stderr), (0, ""), done.stdout)
 
@@ -151,36 +151,47 @@ class Lengths(unittest.TestCase):
 
 
 class Laws(unittest.TestCase):
-    """What has to hold of each session, tried on random ones."""
-
-    def sessions(self) -> list[Session]:
-        made = [done(make_input(seed, "small")) for seed in SEEDS]
-        return [session for session in made if session is not None]
+    """What has to hold of each session, tried on random ones. test_laws.py has more."""
 
     def test_strike_and_redo(self) -> None:
         struck = 0
-        for session in self.sessions():
-            plan, standing = session.plan(), list(session.standing)
+        made = [done(make_input(seed, "small")) for seed in SEEDS]
+        for session in [session for session in made if session is not None]:
+            plan, standing = session.plan, session.standing
             for entry in standing:
-                try:
+                if session.can_strike(entry.serial):
                     session.strike(entry.serial)
-                except Refused:
-                    continue
-                session.plan()
-                session.redo()
-                struck += 1
-                self.assertEqual((session.plan(), session.standing), (plan, standing))
+                    session.redo()
+                    struck += 1
+                    self.assertEqual((session.plan, session.standing), (plan, standing))
         self.assertGreater(struck, 100)
 
-    def test_journal_is_read_back(self) -> None:
-        sessions = self.sessions()
-        readable = [each for each in sessions if each.next_serial <= GREATEST_NEXT]
-        self.assertGreater(len(readable), 50)
-        for session in readable:
-            lines = [*journal_lines(session), "edits"]
-            text = "".join(line + "\n" for line in lines).encode()
-            rest = Lines(BytesIO(text).read)
-            self.assertEqual(read_journal(rest, rest.due(), session.first), session)
+
+class Sizes(unittest.TestCase):
+    """What README.md says of the time, in processor time: a busy machine changes nothing."""
+
+    def test_two_thousand_edits_on_as_many_groups(self) -> None:
+        numbers = range(1, 2001)
+        groups = [pairs.telegram(0, 0, (5, n), [pairs.infill(n % 2000 + 1)]) for n in numbers]
+        plan = ["plan 1", *(f"group\n{digits}" for digits in groups), "edits"]
+        kinds = ("turn 5.{}", "seth 5.{} 0 M_DUP 3", "renumber 5.{} 1{:04}", "delete 5.{} 0 0")
+        edits = [kinds[n % 4].format(n, n) for n in numbers]
+        start = time.process_time()
+        given = answered("\n".join([*plan, *edits, "strike 1", ""]))
+        self.assertLess(time.process_time() - start, 20)
+        self.assertEqual((given.status, given.output.count(b"ok ")), (0, 2000))
+
+
+class OwnErrors(unittest.TestCase):
+    """An error of the reference itself has a status of its own and a message, and no answer."""
+
+    def test_status(self) -> None:
+        code = "import baliseplan; baliseplan.run = None; exit(baliseplan.main([]))"
+        done = subprocess.run(
+            [sys.executable, "-c", code], cwd=HERE, input=b"", capture_output=True
+        )
+        self.assertEqual((done.returncode, done.stdout), (70, b""))
+        self.assertIn(b"an error of the reference", done.stderr)
 
 
 class Inputs(unittest.TestCase):
@@ -212,6 +223,12 @@ class Comparing(unittest.TestCase):
         self.assertTrue(compare.differs(words, shorter))
         self.assertEqual(shorter.arguments, ())
         self.assertLess(len(shorter.text), len(given.text))
+
+    def test_standard_error_counts(self) -> None:
+        given = Input((), b"plan 1\nedits\n" + b"x" * 4097)
+        for text, differs in (("fault 29 InputTooLong", False), ("fault 30 OutOfMemory", True)):
+            words = ["/bin/sh", "-c", f"cat > /dev/null; echo {text} >&2; exit 3"]
+            self.assertEqual(compare.differs(words, given), differs)
 
     def test_no_such_program(self) -> None:
         self.assertIsNone(compare.program_words("/no/such/program"))

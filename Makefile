@@ -1,61 +1,128 @@
 # make            proves and builds the program                 crates/baliseplan/out/baliseplan
 # make library    proves and builds the library                 out/libbaliseplan.a
 # make shared     the same as a shared object                   out/libbaliseplan.so
-# make check      everything that has to hold before a change goes in (the gate)
-# make install    program, manual, header, libraries and pkg-config file, below PREFIX (and DESTDIR, where it is given)
+# make wheel      the module for Python, with the library in it out/wheel/
+# make page       the page of the proved engine                 page/baliseplan.html (it is in the repository)
+# make check      everything that has to hold before a change goes in: the gate, and all other tests (scripts/check/README.md)
+# make install    puts what was built below PREFIX (and DESTDIR, where it is given): program, manual, pages, header,
+#                 libraries, pkg-config file and completions
 # make uninstall  removes these
 #
-# Each proof is checked first; what was proved before isn't proved again. A Rattle kit has to be on the path.
+# Each proof is checked first; what was proved before isn't proved again. A Rattle kit has to be on the path, but for
+# install and uninstall, which build nothing.
 
 PREFIX ?= /usr/local
-CC ?= cc
-INSTALL ?= install
-abi := 1
-version := $(shell sed -n "s/^baliseplan \([0-9.]*\):.*/\1/p" crates/baliseplan_help/stdout)
-kit = $(patsubst %/bin/rt,%,$(realpath $(shell command -v rt)))
+BINDIR ?= $(PREFIX)/bin
+INCLUDEDIR ?= $(PREFIX)/include
+LIBDIR ?= $(PREFIX)/lib
+DATADIR ?= $(PREFIX)/share
+MANDIR ?= $(DATADIR)/man
+DOCDIR ?= $(DATADIR)/doc/baliseplan
 
+CC ?= cc
+CFLAGS ?= -O2
+INSTALL ?= install
+OBJCOPY ?= objcopy
+PYTHON ?= /usr/bin/python3
+
+# The header has the numbers of the library: its interface and its version.
+header := include/baliseplan.h
+abi := $(shell sed -n 's/^.define BALISEPLAN_ABI \([0-9]*\)u$$/\1/p' $(header))
+version := $(shell sed -n 's/^.define BALISEPLAN_VERSION "\(.*\)"$$/\1/p' $(header))
+
+kit = $(patsubst %/bin/rt,%,$(realpath $(shell command -v rt)))
+heap = $(kit)/c/liblibc_c.a
 program := crates/baliseplan/out/baliseplan
 archive := crates/balise_c/out/libbalise_c.a
-to := $(DESTDIR)$(PREFIX)
+shared_object := out/libbaliseplan.so.$(abi)
+sources := library/run_alloc.c library/texts.c
+pages := $(wildcard docs/*.md docs/*.svg) CHANGELOG.md
 
-.PHONY: all program library shared check install uninstall clean
+.PHONY: all program library shared page wheel packed packed-shared check install uninstall clean
 all: program
 
-# rt itself finds out what has to be done again, so these three run each time.
+# rt itself finds out what has to be done again, so these run each time.
 program:
 	cd crates/baliseplan && rt run < ../../examples/temporary_speed.plan > /dev/null
 
 library:
 	cd crates/balise_c && rt lib
-	mkdir -p out
-	rm -f out/libbaliseplan.a
-	printf '%s\n' 'create out/libbaliseplan.a' 'addlib $(archive)' 'addlib $(kit)/c/liblibc_c.a' save end | $(AR) -M
+	$(MAKE) --no-print-directory packed
 
-# Only the calls of the header are exported: those of the kit's allocator would stand in for a caller's own.
 shared: library
-	$(CC) -shared -Wl,-soname,libbaliseplan.so.$(abi) -Wl,-z,defs -o out/libbaliseplan.so.$(abi) \
-	    -Wl,--whole-archive $(archive) -Wl,--no-whole-archive \
-	    -Wl,--exclude-libs,liblibc_c.a $(kit)/c/liblibc_c.a
+	$(MAKE) --no-print-directory packed-shared
+
+# One object of the proved calls, the kit's allocator and our C. Only what the header declares is a symbol of it: other
+# names would be those of a caller too.
+packed:
+	rm -rf out/objects out/libbaliseplan.a
+	mkdir -p out/objects
+	for source in $(sources); do \
+	    $(CC) -std=c99 -Wall -Wextra $(CPPFLAGS) $(CFLAGS) -fno-lto -fPIC -Iinclude -c $$source \
+	        -o out/objects/$$(basename $$source .c).o || exit 1; done
+	$(CC) -r -nostdlib -o out/objects/all.o -Wl,--whole-archive "$(archive)" -Wl,--no-whole-archive \
+	    $(patsubst library/%.c,out/objects/%.o,$(sources)) "$(heap)"
+	sed -n '/^.. end of cffi/q; s/^[a-z].*[ *]\(baliseplan_[a-z_]*\)(.*/\1/p' $(header) > out/objects/calls
+	$(OBJCOPY) --keep-global-symbols=out/objects/calls out/objects/all.o out/objects/baliseplan.o
+	$(AR) rcsD out/libbaliseplan.a out/objects/baliseplan.o
+
+packed-shared:
+	$(CC) -shared $(CFLAGS) -fno-lto $(LDFLAGS) -Wl,-soname,libbaliseplan.so.$(abi) -Wl,-z,defs -Wl,-z,relro,-z,now \
+	    -o $(shared_object) out/objects/baliseplan.o
 	ln -sf libbaliseplan.so.$(abi) out/libbaliseplan.so
 
-check:
-	rt ci
+page: library
+	page/build.sh
 
-install: program shared
-	$(INSTALL) -d $(to)/bin $(to)/include $(to)/lib/pkgconfig $(to)/share/man/man1
-	$(INSTALL) -m 755 $(program) $(to)/bin/baliseplan
-	$(INSTALL) -m 644 man/baliseplan.1 $(to)/share/man/man1/baliseplan.1
-	$(INSTALL) -m 644 include/baliseplan.h $(to)/include/baliseplan.h
-	$(INSTALL) -m 644 out/libbaliseplan.a $(to)/lib/libbaliseplan.a
-	$(INSTALL) -m 755 out/libbaliseplan.so.$(abi) $(to)/lib/libbaliseplan.so.$(abi)
-	ln -sf libbaliseplan.so.$(abi) $(to)/lib/libbaliseplan.so
-	sed -e 's|@PREFIX@|$(PREFIX)|' -e 's|@VERSION@|$(version)|' baliseplan.pc.in > $(to)/lib/pkgconfig/baliseplan.pc
-	chmod 644 $(to)/lib/pkgconfig/baliseplan.pc
+# The shared object goes into the package, so the wheel is for one platform.
+wheel: shared
+	$(MAKE) --no-print-directory packed-wheel
+
+packed-wheel:
+	rm -rf out/wheel out/package
+	mkdir -p out/package
+	cp -R examples/python/pyproject.toml examples/python/README.md \
+	    examples/python/baliseplan out/package
+	rm -rf out/package/baliseplan/__pycache__
+	cp $(shared_object) out/package/baliseplan/
+	$(PYTHON) -m pip wheel --quiet --no-deps --no-build-isolation --no-index -w out/wheel out/package
+
+# ALL_OF_IT=yes: what can't be run counts as failed. WITHOUT=gate: leaves out the parts whose names match, and says so.
+check:
+	@WITHOUT='$(WITHOUT)' scripts/check/everything.sh $(if $(ALL_OF_IT),--all-of-it)
+
+install:
+	@for file in $(program) out/libbaliseplan.a $(shared_object); do \
+	    [ -f $$file ] || { echo "$$file isn't built: run 'make program shared' first" >&2; exit 1; }; done
+	$(INSTALL) -d "$(DESTDIR)$(BINDIR)" "$(DESTDIR)$(INCLUDEDIR)" "$(DESTDIR)$(LIBDIR)/pkgconfig" \
+	    "$(DESTDIR)$(MANDIR)/man1" "$(DESTDIR)$(MANDIR)/man3" "$(DESTDIR)$(DOCDIR)" \
+	    "$(DESTDIR)$(DATADIR)/bash-completion/completions" "$(DESTDIR)$(DATADIR)/zsh/site-functions" \
+	    "$(DESTDIR)$(DATADIR)/fish/vendor_completions.d"
+	$(INSTALL) -m 755 $(program) "$(DESTDIR)$(BINDIR)/baliseplan"
+	$(INSTALL) -m 644 man/baliseplan.1 "$(DESTDIR)$(MANDIR)/man1/baliseplan.1"
+	$(INSTALL) -m 644 man/baliseplan.3 "$(DESTDIR)$(MANDIR)/man3/baliseplan.3"
+	$(INSTALL) -m 644 $(pages) "$(DESTDIR)$(DOCDIR)"
+	$(INSTALL) -m 644 $(header) "$(DESTDIR)$(INCLUDEDIR)/baliseplan.h"
+	$(INSTALL) -m 644 out/libbaliseplan.a "$(DESTDIR)$(LIBDIR)/libbaliseplan.a"
+	$(INSTALL) -m 755 $(shared_object) "$(DESTDIR)$(LIBDIR)/libbaliseplan.so.$(abi)"
+	ln -sf libbaliseplan.so.$(abi) "$(DESTDIR)$(LIBDIR)/libbaliseplan.so"
+	sed -e 's|@PREFIX@|$(subst &,\&,$(PREFIX))|' -e 's|@LIBDIR@|$(subst &,\&,$(LIBDIR))|' \
+	    -e 's|@INCLUDEDIR@|$(subst &,\&,$(INCLUDEDIR))|' \
+	    -e 's|@VERSION@|$(version)|' baliseplan.pc.in > "$(DESTDIR)$(LIBDIR)/pkgconfig/baliseplan.pc"
+	chmod 644 "$(DESTDIR)$(LIBDIR)/pkgconfig/baliseplan.pc"
+	$(INSTALL) -m 644 completions/baliseplan.bash "$(DESTDIR)$(DATADIR)/bash-completion/completions/baliseplan"
+	$(INSTALL) -m 644 completions/baliseplan.zsh "$(DESTDIR)$(DATADIR)/zsh/site-functions/_baliseplan"
+	$(INSTALL) -m 644 completions/baliseplan.fish "$(DESTDIR)$(DATADIR)/fish/vendor_completions.d/baliseplan.fish"
 
 uninstall:
-	rm -f $(to)/bin/baliseplan $(to)/share/man/man1/baliseplan.1 $(to)/include/baliseplan.h \
-	    $(to)/lib/libbaliseplan.a $(to)/lib/libbaliseplan.so $(to)/lib/libbaliseplan.so.$(abi) \
-	    $(to)/lib/pkgconfig/baliseplan.pc
+	rm -f "$(DESTDIR)$(BINDIR)/baliseplan" "$(DESTDIR)$(INCLUDEDIR)/baliseplan.h" \
+	    "$(DESTDIR)$(MANDIR)/man1/baliseplan.1" "$(DESTDIR)$(MANDIR)/man3/baliseplan.3" \
+	    "$(DESTDIR)$(LIBDIR)/libbaliseplan.a" "$(DESTDIR)$(LIBDIR)/libbaliseplan.so" \
+	    "$(DESTDIR)$(LIBDIR)/libbaliseplan.so.$(abi)" "$(DESTDIR)$(LIBDIR)/pkgconfig/baliseplan.pc" \
+	    "$(DESTDIR)$(DATADIR)/bash-completion/completions/baliseplan" \
+	    "$(DESTDIR)$(DATADIR)/zsh/site-functions/_baliseplan" \
+	    "$(DESTDIR)$(DATADIR)/fish/vendor_completions.d/baliseplan.fish"
+	rm -rf "$(DESTDIR)$(DOCDIR)"
 
 clean:
 	rm -rf out

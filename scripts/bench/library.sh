@@ -1,7 +1,7 @@
 #!/usr/bin/env bash
 # Times a call of the library beside starting the program: scripts/bench/library.sh PROGRAM LIBRARY. LIBRARY is what
 # `make library` makes, out/libbaliseplan.a. Ten groups with ten commands, and a plan of 64 MiB; processor time, the
-# least of five rounds, in microseconds.
+# least of five rounds, in microseconds. Then the stack that a call takes.
 set -eu
 if [ $# != 2 ] || [ ! -x "$1" ] || [ ! -f "$2" ]; then
     echo "usage: scripts/bench/library.sh PROGRAM LIBRARY (make library makes out/libbaliseplan.a)" >&2
@@ -14,6 +14,7 @@ cd "$(dirname "$0")"
 folder=$(mktemp -d)
 trap 'rm -rf "$folder"' EXIT
 cc -O2 -I../../include -o "$folder/calls" library_calls.c "$library"
+cc -O2 -I../../include -o "$folder/stack" library_stack.c "$library"
 
 # started FILE COUNT: microseconds for one start of the program
 started() {
@@ -39,3 +40,7 @@ first=$(python3 make_load.py commands 1 | sed -n '/^edits$/{n;p;}')
 python3 make_load.py plan 590000 > "$folder/large"
 echo "ten groups and ten commands: a call $("$folder/calls" "$folder/ten" 2000), a start $(started "$folder/ten" 200)"
 echo "a plan of 590,000 groups: a call $("$folder/calls" "$folder/large" 1), a start $(started "$folder/large" 1)"
+python3 make_load.py commands 2000 > "$folder/commands"
+python3 make_load.py plan 20000 > "$folder/plan"
+{ cat "$folder/small"; echo edits; head -c 4097 /dev/zero | tr '\0' x; } > "$folder/long"
+echo "the stack of a call: $("$folder/stack" ../../examples/*.plan "$folder/commands" "$folder/plan" "$folder/long")"

@@ -1,7 +1,8 @@
 #!/usr/bin/env python3
-"""Prints an input that is made to take much: make_hostile.py LOAD COUNT.
+"""Prints an input that is made to take much: make_hostile.py LOAD COUNT [BYTES].
 
-The part that the load repeats comes COUNT times, or where COUNT is 0 until the input is as long as one may be.
+The part that the load repeats comes COUNT times, or where COUNT is 0 until the input has BYTES bytes. That is as long as
+an input may be if it isn't given.
 """
 import sys
 from itertools import count as numbers
@@ -42,6 +43,16 @@ def links(count):
         return field(500, 15) + country + field(0, 14) + "1" + "00" + field(12, 6)
 
     elements = element("1" + field(0, 10)) + field(count - 1, 5) + element("0") * (count - 1)
+    return field(5, 8) + "01" + field(25 + len(elements), 13) + "01" + elements
+
+
+def links_to(identities):
+    """A packet 5 with an element for each of these identities, which says its country."""
+    first, *others = (
+        field(500, 15) + "1" + field(country, 10) + field(number, 14) + "1" + "00" + field(12, 6)
+        for country, number in identities
+    )
+    elements = first + field(len(others), 5) + "".join(others)
     return field(5, 8) + "01" + field(25 + len(elements), 13) + "01" + elements
 
 
@@ -88,6 +99,21 @@ def groups_that_name_one(steps):
     yield "plan 1"
     for n in steps:
         yield f"group\n{long_telegram(header(n // 16000, n % 16000), links(18))}"
+
+
+def groups_of_each_country(steps):
+    """The largest number of each country, then the next one of each."""
+    yield "plan 1"
+    for n in steps:
+        yield f"group\n{telegram(header(n % 1024, (16382 - n // 1024) % 16383), '')}"
+
+
+def identities_all_over(steps):
+    """Each of 15 elements, the most that a telegram has room for, names another identity, in another country."""
+    yield "plan 1"
+    for n in steps:
+        named = ((k % 1024, k * 7919 % 16383) for k in range(15 * n, 15 * n + 15))
+        yield f"group\n{long_telegram(header(n % 1024, n * 4099 % 16383), links_to(named))}"
 
 
 def telegrams_without_end(steps):
@@ -208,6 +234,8 @@ LOADS = {
     "groups-of-eight": groups_of_eight,
     "groups-full-of-packets": groups_full_of_packets,
     "groups-that-name-one": groups_that_name_one,
+    "groups-of-each-country": groups_of_each_country,
+    "identities-all-over": identities_all_over,
     "telegrams-without-end": telegrams_without_end,
     "lines-without-words": commands("x" * LONGEST_LINE),
     "lines-of-many-words": commands("add 0" + " 00" * 1_363),
@@ -233,8 +261,8 @@ LOADS = {
 }
 
 
-def main(load, count):
-    left = LONGEST_INPUT - len("edits\n")
+def main(load, count, longest=LONGEST_INPUT):
+    left = longest - len("edits\n")
     has_commands = False
     for line in LOADS[load](range(count) if count else numbers()):
         left -= len(line) + 1
@@ -247,4 +275,4 @@ def main(load, count):
 
 
 if __name__ == "__main__":
-    main(sys.argv[1], int(sys.argv[2]))
+    main(sys.argv[1], *map(int, sys.argv[2:]))

@@ -29,8 +29,12 @@ __attribute__((constructor)) static void start(void) {
     failed_write = told("FAILED_WRITE");
     write_step = told("WRITE_STEP");
     write_error = told("WRITE_ERROR");
-    struct rlimit seconds = {20, 20};
-    setrlimit(RLIMIT_CPU, &seconds);
+    long limit = told("RUN_SECONDS");
+    struct rlimit seconds = {(rlim_t) limit, (rlim_t) limit};
+    if (limit) {
+        setrlimit(RLIMIT_CPU, &seconds);
+        alarm((unsigned) limit);
+    }
     growths = 0;
 }
 

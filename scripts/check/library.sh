@@ -1,36 +1,47 @@
 #!/usr/bin/env bash
-# Builds the library and its callers in C, Python and Rust, runs their tests, and compares what they print with a program.
-# usage: scripts/check/library.sh PROGRAM [COUNT]
-# The examples and rows are compared with each of the 16 sets of flags, COUNT damaged ones (2,000) with one set each, and
-# COUNT random inputs with their own.
-# Ends with 0; with 1 if something differs or a test fails, which it shows; with 2 if PROGRAM or a tool is missing, or
-# something doesn't build.
+# Builds the library and its callers in C, Python and Rust, runs their tests, installs it, and compares what the callers
+# print with a program.
+# usage: scripts/check/library.sh PROGRAM [COUNT] [--built]
+# The examples and rows are compared with each of the 16 sets of flags, COUNT damaged ones (2,000) with one set each,
+# and COUNT random inputs with their own. With --built what stands in out/ is checked, and no kit is needed.
+# Ends with 0; with 1 if something doesn't build, differs or fails, which it shows; with 2 if PROGRAM or a tool is
+# missing.
 set -eu
 
 missing() {
-    echo "library.sh: $1" >&2
+    echo "library.sh: $*" >&2
     exit 2
 }
 
-[ $# = 1 ] || [ $# = 2 ] || missing "usage: scripts/check/library.sh PROGRAM [COUNT]"
+usage="usage: scripts/check/library.sh PROGRAM [COUNT] [--built]"
+make_library=(make shared) count=2000
+[ $# -gt 0 ] || missing "$usage"
 if [ ! -f "$1" ] || [ ! -x "$1" ]; then missing "$1 is no program that can be run"; fi
-for tool in ar cargo cc c++ make pkg-config python3 rt; do
-    command -v "$tool" > /dev/null || missing "$tool is missing"
-done
-
 program=$(realpath "$1")
-count=${2:-2000}
-cd "$(dirname "$0")/../.."
+for word in "${@:2}"; do
+    case $word in
+        --built) make_library=(true) ;;
+        *[!0-9]*) missing "$usage" ;;
+        *) count=$word ;;
+    esac
+done
+cd "$(dirname "$0")"
+python3 runs.py ar cargo cc c++ make objcopy pkg-config valgrind || exit 2
+[ "${make_library[0]}" = true ] || command -v rt > /dev/null || missing "missing: rt, of a Rattle kit (README.md)"
+python=$(bash python.sh mypy pytest) || exit 2
+
+cd ../..
 folder=$(mktemp -d)
 trap 'rm -rf "$folder"' EXIT
 export LC_ALL=C PYTHONDONTWRITEBYTECODE=1 CARGO_NET_OFFLINE=true CARGO_TARGET_DIR=$folder/cargo
+unset BALISEPLAN_LIB BALISEPLAN_LIBRARY
 failed=0
 
 # build WHAT COMMAND ..: shows what the command printed only if it fails
 build() {
     local what=$1
     shift
-    "$@" > "$folder/log" 2>&1 || { cat "$folder/log" >&2; missing "$what doesn't build"; }
+    "$@" > "$folder/log" 2>&1 || { cat "$folder/log"; echo "$what doesn't build"; exit 1; }
 }
 
 # passes WHAT COMMAND ..
@@ -40,46 +51,73 @@ passes() {
     "$@" > "$folder/log" 2>&1 || { cat "$folder/log"; echo "$what failed"; failed=1; }
 }
 
-build "the library" make shared
-sed "s|@PREFIX@|$folder/prefix|" baliseplan.pc.in > "$folder/baliseplan.pc"
-mkdir -p "$folder/prefix/lib" "$folder/prefix/include"
-cp out/libbaliseplan.a "$folder/prefix/lib"
-cp include/baliseplan.h "$folder/prefix/include"
-read -ra flags <<< "$(PKG_CONFIG_PATH=$folder pkg-config --cflags --libs baliseplan)"
+# checks WHAT COMMAND ..: as passes, but shows the last line that was printed too. What can't be run is missing.
+checks() {
+    local what=$1 status=0
+    shift
+    "$@" > "$folder/log" 2>&1 || status=$?
+    [ "$status" = 0 ] || cat "$folder/log"
+    [ "$status" != 2 ] || missing "$what can't be run"
+    [ "$status" = 0 ] || { echo "$what failed"; failed=1; }
+    tail -n 1 "$folder/log"
+}
 
-# C: an optimised build, one that inlines nothing, and the header in C++.
+build "the library" "${make_library[@]}"
+checks "the numbers of the library" "$python" scripts/check/library_numbers.py
+checks "changed numbers of the library" "$python" scripts/check/library_numbers.py --planted
+
+# C: an optimised build, one that inlines nothing, and the header in C++ from the oldest to the newest.
 strict=(-pedantic -Wall -Wextra -Werror)
+flags=(-Iinclude out/libbaliseplan.a)
 for caller in run calls; do
-    build "examples/c/$caller.c" cc -std=c99 -O2 "${strict[@]}" "examples/c/$caller.c" "${flags[@]}" -o "$folder/$caller"
+    build "examples/c/$caller.c" \
+        cc -std=c99 -O2 "${strict[@]}" "examples/c/$caller.c" "${flags[@]}" -o "$folder/$caller"
 done
-build "examples/c/calls.c without inlining" cc -std=c11 -O0 "${strict[@]}" examples/c/calls.c "${flags[@]}" -o "$folder/calls0"
+build "examples/c/calls.c without inlining" cc -std=c17 -O0 "${strict[@]}" examples/c/calls.c "${flags[@]}" \
+    -o "$folder/calls0"
 printf '#include "baliseplan.h"\nint main() { return baliseplan_abi() != BALISEPLAN_ABI; }\n' > "$folder/abi.cc"
-build "the header in C++" c++ "${strict[@]}" "$folder/abi.cc" "${flags[@]}" -o "$folder/abi"
-build "the allocations that are refused" cc -std=c99 -D_GNU_SOURCE -O2 "${strict[@]}" -Iinclude scripts/check/library_heap.c \
-    crates/balise_c/out/libbalise_c.a -o "$folder/heap"
+for standard in c++98 c++20; do
+    build "the header in C++" c++ -std=$standard "${strict[@]}" "$folder/abi.cc" "${flags[@]}" -o "$folder/abi"
+    passes "the version of the interface" "$folder/abi"
+done
+build "the allocations that are refused" cc -std=c99 -D_GNU_SOURCE -O2 "${strict[@]}" scripts/check/library_heap.c \
+    "${flags[@]}" -Wl,--wrap=malloc,--wrap=calloc,--wrap=realloc,--wrap=free -o "$folder/heap"
 build "examples/rust" cargo build -q --release --manifest-path examples/rust/Cargo.toml
 
 passes "examples/c/calls.c" "$folder/calls" 10000
 passes "examples/c/calls.c without inlining" "$folder/calls0"
-passes "the version of the interface" "$folder/abi"
-for plan in examples/*.plan; do
+# The last input has an output that is longer than the first room of an allocated one.
+{ cat examples/line.base; echo edits; yes 'turn 5.300' | head -n 300; } > "$folder/long.plan"
+for plan in examples/*.plan "$folder/long.plan"; do
     for set in 0 15; do
         passes "$plan with each allocation refused" "$folder/heap" "$plan" "$set"
     done
 done
-passes "examples/python" env -C examples/python python3 -m unittest -q
+passes "examples/c/calls.c under valgrind" valgrind -q --error-exitcode=9 --leak-check=full --show-leak-kinds=all \
+    "$folder/calls0" 10000
+tests=(-m pytest -q -p no:cacheprovider)
+checks "examples/python" env -C examples/python "$python" "${tests[@]}"
+passes "the types of examples/python" env -C examples/python "$python" -m mypy --strict --cache-dir="$folder" .
 passes "examples/rust" cargo test -q --manifest-path examples/rust/Cargo.toml
-
-passes "the comparison with the program" python3 scripts/check/library_runs.py "$count" "$program" \
+passes "the types of examples" "$python" -m mypy --strict --cache-dir="$folder" examples/*.py
+checks "what is installed" scripts/check/library_install.sh "$program"
+checks "the comparison with the program" "$python" scripts/check/library_runs.py "$count" "$program" \
     "$folder/run" "$folder/cargo/release/baliseplan"
-[ "$failed" = 1 ] || tail -n 1 "$folder/log"
 
-if command -v valgrind > /dev/null; then
-    passes "examples/c/calls.c under valgrind" valgrind -q --error-exitcode=9 --leak-check=full --show-leak-kinds=all \
-        "$folder/calls0" 10000
-else
-    echo "library.sh: valgrind is missing, so leaks weren't looked for" >&2
-fi
+# The comparison itself: a caller that drops a line, and one that always ends with 77.
+printf '#!/bin/sh\n"%s" "$@" > "%s" 2> /dev/null\nstatus=$?\nsed 1d "%s"\nexit $status\n' \
+    "$folder/run" "$folder/dropped" "$folder/dropped" > "$folder/drops"
+printf '#!/bin/sh\nexit 77\n' > "$folder/ends"
+chmod +x "$folder/drops" "$folder/ends"
+for wrong in drops ends; do
+    status=0
+    "$python" scripts/check/library_runs.py --first 40 0 "$program" "$folder/$wrong" > "$folder/log" 2>&1 || status=$?
+    if [ "$status" != 1 ] || ! tail -n 1 "$folder/log" | grep -q differing; then
+        cat "$folder/log"
+        echo "the comparison doesn't find a caller that is wrong ($wrong)"
+        failed=1
+    fi
+done
 
 [ "$failed" = 0 ] && echo "the library and its callers in C, Python and Rust are right"
 exit "$failed"

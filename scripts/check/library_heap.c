@@ -1,5 +1,5 @@
-/* Refuses each allocation of a call in turn, and looks at what the call leaves: linked with the library in place of the
- * three functions by which it allocates.
+/* Refuses each allocation of a call in turn, and looks at what the call leaves. Linked with the library and with
+ * --wrap=malloc,--wrap=calloc,--wrap=realloc,--wrap=free, so that the library allocates by the four functions below.
  *
  * usage: library_heap FILE FLAGS
  * Prints the most that a call allocates. Ends with 0; with 1 if a byte wasn't freed, or was written where none should
@@ -15,81 +15,141 @@
 
 enum { FILL = 0xA5 };
 
-struct allocated {
-    bool ok;
-    void *block;
-};
-
+/* What the library allocates while `counting`; allocation number `refused` fails. */
 static long calls, refused, blocks, bytes, most;
+static bool counting;
 
-static struct allocated counted(void *block)
+void *__real_malloc(size_t size);
+void *__real_calloc(size_t count, size_t size);
+void *__real_realloc(void *old, size_t size);
+void __real_free(void *block);
+void *__wrap_malloc(size_t size);
+void *__wrap_calloc(size_t count, size_t size);
+void *__wrap_realloc(void *old, size_t size);
+void __wrap_free(void *block);
+
+static bool refuses(void)
 {
-    if (!block)
-        return (struct allocated){false, &calls};
+    return counting && ++calls == refused;
+}
+
+static void *counted(void *block)
+{
+    if (!counting || !block)
+        return block;
     blocks++;
     bytes += (long)malloc_usable_size(block);
     most = bytes > most ? bytes : most;
-    return (struct allocated){true, block};
+    return block;
 }
 
 static void uncount(void *block)
 {
+    if (!counting || !block)
+        return;
     blocks--;
     bytes -= (long)malloc_usable_size(block);
 }
 
-struct allocated rattle_alloc(size_t size, size_t align)
+void *__wrap_malloc(size_t size)
 {
-    return counted(++calls == refused ? NULL : malloc(size ? size : align));
+    return refuses() ? NULL : counted(__real_malloc(size));
 }
 
-struct allocated rattle_realloc(void *old, size_t kept, size_t size, size_t align)
+void *__wrap_calloc(size_t count, size_t size)
 {
-    (void)kept;
-    if (++calls == refused)
-        return counted(NULL);
+    return refuses() ? NULL : counted(__real_calloc(count, size));
+}
+
+void *__wrap_realloc(void *old, size_t size)
+{
+    if (refuses())
+        return NULL;
     uncount(old);
-    void *block = realloc(old, size ? size : align);
+    void *block = __real_realloc(old, size);
     if (!block)
         counted(old);
     return counted(block);
 }
 
-void rattle_dealloc(void *block)
+void __wrap_free(void *block)
 {
     uncount(block);
-    free(block);
+    __real_free(block);
+}
+
+struct run {
+    const uint8_t *input;
+    size_t input_len, room, len;
+    uint32_t flags;
+    int32_t answer;
+    uint8_t *whole, *output;
+};
+
+static void begin(long fails)
+{
+    calls = 0;
+    refused = fails;
+    counting = true;
 }
 
 /* What one call with a refused allocation may leave: a beginning of the output with 30; else the run went on, and a
- * command was answered so. */
-static bool is_right(int32_t answer, const uint8_t *output, size_t written, const uint8_t *whole, size_t len)
+ * command was answered so. Where `shrinks`, what was refused may have been the last one, which gives room back. */
+static bool is_right(const struct run *run, int32_t answer, const uint8_t *output, size_t written, bool shrinks)
 {
+    if (shrinks && answer == run->answer && written == run->len && !memcmp(output, run->whole, written))
+        return true;
     if (answer == BALISEPLAN_OUT_OF_MEMORY)
-        return written <= len && !memcmp(output, whole, written);
+        return written <= run->len && (!written || !memcmp(output, run->whole, written));
     return answer == BALISEPLAN_SOME_REFUSED && memmem(output, written, "refused 30 OutOfMemory\n", 23);
 }
 
-static int refuse_each(const uint8_t *input, size_t input_len, uint32_t flags, size_t room)
+/* How many of the calls of baliseplan_run are wrong. */
+static long refuse_each(struct run *run)
 {
-    uint8_t *whole = calloc(room + 1, 1), *output = calloc(room + 1, 1);
-    size_t len = 0, written = 0, wrong = 0;
-    int32_t answer = baliseplan_run(input, input_len, flags, whole, room, &len);
+    long wrong = 0;
+    begin(0);
+    run->answer = baliseplan_run(run->input, run->input_len, run->flags, run->whole, run->room, &run->len);
+    counting = false;
     long needed = calls, peak = most;
-    int32_t unlimited = answer;
-    for (refused = 1; refused <= needed; refused++) {
-        calls = 0;
-        memset(output, FILL, room + 1);
-        answer = baliseplan_run(input, input_len, flags, output, room, &written);
-        wrong += !is_right(answer, output, written, whole, len) || blocks || bytes;
-        for (size_t i = written; i <= room; i++)
-            wrong += output[i] != FILL;
+    for (long fails = 1; fails <= needed; fails++) {
+        size_t written = 0;
+        memset(run->output, FILL, run->room + 1);
+        begin(fails);
+        int32_t answer = baliseplan_run(run->input, run->input_len, run->flags, run->output, run->room, &written);
+        counting = false;
+        wrong += !is_right(run, answer, run->output, written, false) || blocks || bytes;
+        for (size_t i = written; i <= run->room; i++)
+            wrong += run->output[i] != FILL;
     }
-    printf("answer %d, %zu bytes in, %zu out: %ld allocations, %ld bytes at most beside the caller's %zu, %zu wrong\n",
-           (int)unlimited, input_len, len, needed, peak, room, wrong);
-    free(whole);
-    free(output);
-    return wrong != 0;
+    printf("answer %d, %zu bytes in, %zu out: %ld allocations, %ld bytes at most beside the caller's %zu, %ld wrong; ",
+           (int)run->answer, run->input_len, run->len, needed, peak, run->room, wrong);
+    return wrong;
+}
+
+/* The same for baliseplan_run_alloc, whose block stays the caller's until it is freed. */
+static long refuse_each_allocated(const struct run *run)
+{
+    long wrong = 0, needed = 0;
+    for (long fails = 0; fails <= needed; fails++) {
+        uint8_t *output = NULL;
+        size_t len = 99;
+        begin(fails);
+        int32_t answer = baliseplan_run_alloc(run->input, run->input_len, run->flags, &output, &len);
+        if (fails == 0) {
+            needed = calls;
+            wrong += answer != run->answer || len != run->len || memcmp(output, run->whole, len);
+        }
+        if (!output)
+            wrong += answer != BALISEPLAN_OUT_OF_MEMORY || len;
+        else
+            wrong += blocks != 1 || output[len] || (fails && !is_right(run, answer, output, len, true));
+        baliseplan_free(output);
+        counting = false;
+        wrong += blocks || bytes;
+    }
+    printf("allocated: %ld allocations, %ld wrong\n", needed, wrong);
+    return wrong;
 }
 
 int main(int argc, char **argv)
@@ -98,9 +158,18 @@ int main(int argc, char **argv)
     static uint8_t input[1 << 20];
     if (!file)
         return 2;
-    size_t len = fread(input, 1, sizeof input, file);
+    struct run run = {.input = input, .flags = (uint32_t)atoi(argv[2])};
+    run.input_len = fread(input, 1, sizeof input, file);
     if (ferror(file) || !feof(file))
         return 2;
     fclose(file);
-    return refuse_each(input, len, (uint32_t)atoi(argv[2]), 4 * len + 4096);
+    run.room = 16 * run.input_len + 4096;
+    run.whole = calloc(run.room + 1, 1);
+    run.output = calloc(run.room + 1, 1);
+    if (!run.whole || !run.output)
+        return 2;
+    long wrong = refuse_each(&run) + refuse_each_allocated(&run);
+    free(run.whole);
+    free(run.output);
+    return wrong != 0;
 }

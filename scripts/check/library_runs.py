@@ -1,20 +1,24 @@
 #!/usr/bin/env python3
 """Compares callers of the library with a program: status and output, byte by byte.
 
-usage: library_runs.py COUNT PROGRAM CALLER ..
+usage: library_runs.py [--first MOST] COUNT PROGRAM CALLER ..
 
 The module of examples/python is a caller too. Inputs are the examples and the rows of checks/ and balise_tests with
 each set of flags; COUNT of them damaged in up to three places, by random numbers from a fixed seed, with one set of
-flags each; and COUNT random inputs of reference/random_inputs.py with their own flags.
+flags each; and COUNT random inputs of reference/random_inputs.py with their own flags. With --first it takes the first
+MOST of these inputs alone.
 Ends with 0, or with 1 if something differs.
 """
 
 import ast
 import random
 import re
-import subprocess
 import sys
+from collections.abc import Iterator
+from itertools import islice
 from pathlib import Path
+
+from runs import ended, run
 
 ROOT = Path(__file__).resolve().parents[2]
 WORDS = ("--quiet", "--stop", "--journal", "--json")
@@ -28,23 +32,24 @@ import baliseplan  # noqa: E402
 from random_inputs import make_input  # noqa: E402
 
 
-def words_of(flags):
+def words_of(flags: int) -> list[str]:
     return [word for bit, word in enumerate(WORDS) if flags >> bit & 1]
 
 
-def by_program(program, data, flags):
-    done = subprocess.run([program, *words_of(flags)], input=data, capture_output=True, timeout=120)
-    return done.returncode, done.stdout
+def by_program(program: str, data: bytes, flags: int) -> tuple[int, bytes]:
+    done = run([program, *words_of(flags)], data)
+    return done.status, done.output
 
 
-def by_module(data, flags):
-    """The whole output, and 3 for a fault, after which only the answer of the call has the output."""
-    size = 4 * len(data) + 65536
-    answer, output = baliseplan.call(data, flags, size)
-    return (FAULT if answer in baliseplan.FAULTS else answer), output
+def by_module(data: bytes, flags: int) -> tuple[int, bytes]:
+    """The status, 3 for a fault, and the output, which a fault has too."""
+    try:
+        return baliseplan.run_bytes(data, flags)
+    except baliseplan.Fault as fault:
+        return FAULT, fault.output
 
 
-def damaged(data):
+def damaged(data: bytes) -> bytes:
     """The text with bytes lost, put in, changed, or lines doubled, in up to three places."""
     for _ in range(random.randint(1, 3)):
         at = random.randrange(len(data) + 1)
@@ -59,18 +64,20 @@ def damaged(data):
     return data
 
 
-def rows():
+def rows() -> Iterator[bytes]:
     """The inputs of the rows, which are literals without any escape that Python hasn't."""
     for file in sorted((ROOT / "crates" / "balise_tests" / "src" / "rows").glob("*.rt")):
         for literal in re.findall(r'input: ("(?:[^"\\]|\\.)*")', file.read_text()):
             yield ast.literal_eval(literal).encode("latin-1")
 
 
-def inputs(count):
+def inputs(count: int) -> Iterator[tuple[bytes, int]]:
     texts = [plan.read_bytes() for plan in sorted((ROOT / "examples").glob("*.plan"))]
-    texts += [(ROOT / "examples" / "line.base").read_bytes() + b"edits\nturn 5.300\nstrike 1\n"]
+    line = (ROOT / "examples" / "line.base").read_bytes()
+    texts += [line + b"edits\nturn 5.300\nstrike 1\n"]
     texts += [file.read_bytes() for file in sorted((ROOT / "checks" / "rows").glob("*.in"))]
-    texts += [b"", texts[0] + b"x" * 4097, *rows()]
+    texts += [line + b"edits\nturn 5.300\nundo\n" + b"x" * 4097 + b"\n", line + b"x" * 4097]
+    texts += [b"", *rows()]
     yield from ((text, flags) for text in texts for flags in range(16))
     for _ in range(count):
         yield damaged(random.choice(texts)), random.randrange(16)
@@ -79,19 +86,21 @@ def inputs(count):
         yield made.text, sum(1 << bit for bit, word in enumerate(WORDS) if word in made.arguments)
 
 
-def main(words):
+def main(words: list[str]) -> int:
     random.seed(1)
+    most = None
+    if words[0] == "--first":
+        most, words = int(words[1]), words[2:]
     count, program, callers = int(words[0]), words[1], words[2:]
     done = differing = 0
-    for data, flags in inputs(count):
+    for data, flags in islice(inputs(count), most):
         due = by_program(program, data, flags)
         got = {"examples/python": by_module(data, flags)}
         for caller in callers:
             got[caller] = by_program(caller, data, flags)
         done += 1
         for caller, found in got.items():
-            # After a fault a caller may throw away what it has.
-            if found != due and not (found[0] == due[0] == FAULT and due[1].startswith(found[1])):
+            if found != due:
                 differing += 1
                 print(f"{caller} {' '.join(words_of(flags))}: {found[0]} and not {due[0]}, for {data!r}")
     print(f"{done} inputs, {differing} differing")
@@ -99,4 +108,4 @@ def main(words):
 
 
 if __name__ == "__main__":
-    sys.exit(main(sys.argv[1:]))
+    sys.exit(ended(lambda: main(sys.argv[1:])))

@@ -42,7 +42,7 @@ WORDS = {
 }
 """Expressions that no page has, and what to write in their place."""
 NO_PAGE = {"NAME.md"}
-FOLDERS = "checks|crates|docs|examples|include|man|reference|scripts"
+FOLDERS = "checks|completions|crates|data|desk|docs|examples|include|man|page|reference|scripts"
 PLACE = re.compile(rf"(?:\.\./)*((?:{FOLDERS})/[\w./-]*)")
 IN_CRATE = re.compile(r"(?:must-fail|proofs|specs|src)/[\w./-]*")
 MUTATION = re.compile(r"(balise_\w+)/(\w+)")

@@ -9,10 +9,13 @@ run with status 3 and 'fault 30 OutOfMemory', with nothing written, or with all 
 growth within a command has to be answered 'refused 30 OutOfMemory' there, and all else has to be as if the command
 weren't in the input. Words of which there is no run may also be answered as with enough memory. Needs cc.
 """
+
 import sys
 from collections import Counter
+from typing import Any
 
-from hostile_runs import EVERY_SET, in_turn, inputs_of, replies_of
+from hostile_runs import EVERY_SET, Done, Runner, in_turn, inputs_of, replies_of
+from runs import ended
 
 SEEN = ("arguments", "before the commands", "commands", "after the commands")
 FAULT = b"fault 30 OutOfMemory\n"
@@ -22,7 +25,7 @@ REPLY = b"refused 30 OutOfMemory\n"
 class Judge:
     """Judges the runs over one input with one set of flags."""
 
-    def __init__(self, runner, text, flags):
+    def __init__(self, runner: Runner, text: bytes, flags: tuple[str, ...]) -> None:
         self.runner, self.flags = runner, flags
         self.text = text
         self.lines = text.splitlines(True)
@@ -30,20 +33,21 @@ class Judge:
         self.commands = self.lines.index(b"edits\n") + 1 if self.has_commands else len(self.lines)
         self.whole = runner.run(text, flags, read_step=1)
         self.replies = b"".join(replies_of(self.whole.output))
-        self.answers = {}
+        self.answers: dict[int, bytes] = {}
 
-    def without(self, line):
+    def without(self, line: int) -> bytes:
         """The output that answers the command on a line by 30 OutOfMemory."""
         if line not in self.answers:
             before, after = self.lines[:line], self.lines[line + 1 :]
             cut = self.runner.run(b"".join(before), self.flags).output
-            rest = cut if "--stop" in self.flags else self.runner.run(b"".join(before + after), self.flags).output
+            whole = cut if "--stop" in self.flags else self.runner.run(b"".join(before + after), self.flags).output
             at = len(replies_of(cut))
-            rest = rest.splitlines(True)
+            rest = whole.splitlines(True)
             self.answers[line] = b"".join(rest[:at] + [REPLY] + rest[at:])
         return self.answers[line]
 
-    def judge(self, done):
+    def judge(self, done: Done) -> str | None:
+        """Where the refused growth was, or none where the run is wrong."""
         if not done.report:
             return None
         place, at_end = done.report["place"], done.report["at_end"]
@@ -59,11 +63,17 @@ class Judge:
         return "commands" if is_answered else None
 
 
-def judge_input(runner, name, text, flags):
+Judged = tuple[Counter[str], list[str]]
+
+
+def judge_input(runner: Runner, name: str, text: bytes, flags: tuple[str, ...]) -> Judged:
     """How many runs ended in which way, and what is wrong."""
     judge = Judge(runner, text, flags)
-    seen, wrong = Counter(), []
-    growths = judge.whole.report["growths"]
+    seen: Counter[str] = Counter()
+    wrong = []
+    growths = judge.whole.report.get("growths", 0)
+    if not growths:
+        wrong.append(f"{name} {' '.join(flags)}: no growth is seen: {judge.whole}")
     for growth in range(1, growths + 1):
         done = runner.run(text, flags, refused_growth=growth, read_step=1)
         found = judge.judge(done)
@@ -76,9 +86,10 @@ def judge_input(runner, name, text, flags):
     return seen, wrong
 
 
-def judge_words(runner, words):
+def judge_words(runner: Runner, words: tuple[str, ...]) -> Judged:
     """The same for words of which there is no run: help, and what isn't an argument."""
-    seen, wrong = Counter(), []
+    seen: Counter[str] = Counter()
+    wrong = []
     whole = runner.run(b"", words)
     for growth in range(1, whole.report["growths"] + 1):
         done = runner.run(b"", words, refused_growth=growth)
@@ -88,27 +99,29 @@ def judge_words(runner, words):
     return seen, wrong
 
 
-def judge_unit(runner, *unit):
+def judge_unit(runner: Runner, *unit: Any) -> Judged:
     return judge_words(runner, unit[0]) if len(unit) == 1 else judge_input(runner, *unit)
 
 
-def main(program, *paths):
+def main(program: str, *paths: str) -> int:
+    Runner(program).checked()
     own = "--own-flags" in paths
-    units = [(words,) for words in (("--help",), ("--loud",), ("--version",), ("--quiet", "--quiet"))]
+    units: list[Any] = [(words,) for words in (("--help",), ("--loud",), ("--version",), ("--quiet", "--quiet"))]
     for item in inputs_of(path for path in paths if path != "--own-flags"):
         text = item.text if item.text.endswith(b"\n") or item.text == b"" else item.text + b"\n"
         for flags in [item.flags] if own else EVERY_SET:
             units.append((item.name, text, flags))
-    seen, wrong = Counter(), 0
+    seen: Counter[str] = Counter()
+    wrong = 0
     for some, faults in in_turn(program, judge_unit, units):
         seen += some
         wrong += len(faults)
         for fault in faults[:5]:
             print(fault)
-    told = ", ".join(f"{seen[name]} {name}" for name in SEEN)
-    print(f"growths: {len(units)} inputs with flags, {sum(seen.values())} runs: {told}; {wrong} wrong")
+    counts = ", ".join(f"{seen[name]} {name}" for name in SEEN)
+    print(f"growths: {len(units)} inputs with flags, {sum(seen.values())} runs: {counts}; {wrong} wrong")
     return 1 if wrong or not seen else 0
 
 
 if __name__ == "__main__":
-    sys.exit(main(*sys.argv[1:]))
+    sys.exit(ended(lambda: main(*sys.argv[1:])))

@@ -1,0 +1,81 @@
+/* Measures the stack that a call of the library takes: library_stack FILE ..: the most of baliseplan_run_alloc over the
+ * files with each of the 16 sets of flags, in bytes, and what a thread takes that calls nothing. The stack is filled
+ * with one byte before the call, and looked at after it. */
+#define _GNU_SOURCE
+#include <pthread.h>
+#include <stdio.h>
+#include <stdlib.h>
+#include <string.h>
+#include <sys/mman.h>
+
+#include "baliseplan.h"
+
+enum { STACK = 1 << 20, FILL = 0xA5 };
+
+struct call {
+    uint8_t *input;
+    size_t len;
+    uint32_t flags;
+};
+
+static void *nothing(void *given)
+{
+    return given;
+}
+
+static void *call(void *given)
+{
+    struct call *call = given;
+    uint8_t *output;
+    size_t len;
+    baliseplan_run_alloc(call->input, call->len, call->flags, &output, &len);
+    baliseplan_free(output);
+    return NULL;
+}
+
+/* The bytes that a thread takes from the end of its stack. */
+static size_t taken(uint8_t *stack, void *(*work)(void *), struct call *given)
+{
+    pthread_attr_t attributes;
+    pthread_t thread;
+    size_t free_bytes = 0;
+    memset(stack, FILL, STACK);
+    if (pthread_attr_init(&attributes) || pthread_attr_setstack(&attributes, stack, STACK) ||
+        pthread_create(&thread, &attributes, work, given) || pthread_join(thread, NULL))
+        exit(2);
+    pthread_attr_destroy(&attributes);
+    while (free_bytes < STACK && stack[free_bytes] == FILL)
+        free_bytes++;
+    return STACK - free_bytes;
+}
+
+static struct call read_all(const char *path)
+{
+    struct call call = {malloc(1 << 26), 0, 0};
+    FILE *file = fopen(path, "rb");
+    if (!file || !call.input)
+        exit(2);
+    call.len = fread(call.input, 1, 1 << 26, file);
+    fclose(file);
+    return call;
+}
+
+int main(int argc, char **argv)
+{
+    uint8_t *stack = mmap(NULL, STACK, PROT_READ | PROT_WRITE, MAP_PRIVATE | MAP_ANONYMOUS, -1, 0);
+    if (argc < 2 || stack == MAP_FAILED) {
+        fputs("usage: library_stack FILE ..\n", stderr);
+        return 2;
+    }
+    size_t most = 0, own = taken(stack, nothing, NULL);
+    for (int at = 1; at < argc; at++) {
+        struct call given = read_all(argv[at]);
+        for (given.flags = 0; given.flags <= BALISEPLAN_FLAGS; given.flags++) {
+            size_t bytes = taken(stack, call, &given);
+            most = bytes > most ? bytes : most;
+        }
+        free(given.input);
+    }
+    printf("%zu bytes at most, of which a thread that calls nothing takes %zu\n", most, own);
+    return 0;
+}

@@ -1,0 +1,87 @@
+# shellcheck shell=bash
+# The checks of a built program, as parts. For all.sh and everything.sh, which are in this folder.
+
+examples=../../examples
+rows=../../checks/rows
+reference=../../reference
+
+# with_modules MODULES COMMAND ..: runs a command with a Python that has the modules, as the word PYTHON of the command
+with_modules() {
+    local python given=() word
+    # shellcheck disable=SC2086
+    python=$(bash python.sh $1) || return 2
+    shift
+    for word in "$@"; do
+        given+=("${word/#PYTHON/$python}")
+    done
+    "${given[@]}"
+}
+
+# of_program NAME COMMAND ..: a part that runs the program
+of_program() {
+    local name=$1
+    shift
+    part "$name" with_program "$@"
+}
+
+with_program() {
+    if [ ! -x "$program" ]; then
+        echo "missing: $program (make program builds it)" >&2
+        return 2
+    fi
+    "$@"
+}
+
+# random SIZE TO: compares on the random inputs of the seeds from 1
+random() {
+    of_program "random inputs, $1" python3 "$reference/compare.py" "$words" 1 "$2" --size "$1" -j "$(nproc)" --keep "$kept"
+}
+
+# What needs no program: the pages, the reference, and the checks themselves.
+parts_of_repository() {
+    part "links and words of the pages" python3 pages.py
+    part "layout of the manual" bash manual.sh
+    part "table of the variables" python3 ../tables/variables.py --check
+    part "tests of the reference" env -C "$reference" python3 -m unittest -q test_reference
+    part "laws of the reference" with_modules "pytest hypothesis" PYTHON -m pytest -q -p no:cacheprovider "$reference/test_laws.py"
+    part "worked rows by the reference" python3 examples.py "python3 $reference/baliseplan.py" rows
+    part "faults planted in the reference" python3 planted.py
+    part "types of the scripts" bash types.sh
+    part "growths of memory in tests" python3 test_growths.py
+}
+
+# What runs the program, and is the same in both sizes
+parts_of_program() {
+    of_program "examples, guide, formats, manual and rows" python3 examples.py "$words"
+    of_program "exit statuses" bash statuses.sh "$program"
+    of_program "pairs of commands" bash pairs.sh "$program"
+    of_program "a million commands" bash million.sh "$program"
+    of_program "no growth" python3 no_growth.py "$program"
+    of_program "self-test of the checks" python3 selftest.py "$program"
+    of_program "library and its callers" bash library.sh "$program"
+}
+
+quick_parts() {
+    parts_of_repository
+    parts_of_program
+    of_program "page" bash page.sh "$program"
+    of_program "refused growths" python3 refuse_growths.py "$program" "$examples" "$rows" --own-flags
+    of_program "failing reads and writes" python3 fail_devices.py "$program" "$examples"
+    of_program "damage" python3 damage_inputs.py "$program" "$examples/turned_group.plan" "$examples/journal_read.plan"
+    of_program "sizes" python3 ../bench/hostile_loads.py "$program" \
+        groups-of-eight telegrams-without-end lines-of-telegrams nothing-to-undo drops-of-the-first
+    random small 20000
+    random medium 400
+}
+
+all_parts() {
+    parts_of_repository
+    parts_of_program
+    of_program "page" bash page.sh "$program"
+    of_program "refused growths" python3 refuse_growths.py "$program" "$examples" "$rows"
+    of_program "failing reads and writes" python3 fail_devices.py "$program" "$examples" "$rows"
+    of_program "damage" python3 damage_inputs.py "$program" "$examples" "$rows"
+    of_program "sizes" python3 ../bench/hostile_loads.py "$program"
+    random small 100000
+    random medium 5000
+}

@@ -66,10 +66,16 @@ def commands_of(file: str) -> list[str]:
     return file.removesuffix("\n").split("\n") if file else []
 
 
-def run(plan: str, commands: list[str], journal: str = "", program: str = "baliseplan") -> Result:
-    """Does the commands on the plan, after the edits of the journal."""
+def run(
+    plan: str, commands: list[str], journal: str = "", program: str = "baliseplan", stop: bool = False
+) -> Result:
+    """Does the commands on the plan, after the edits of the journal; with `stop` none after the first refused one.
+
+    Give `stop` where a command builds on those before it.
+    """
     given = plan + journal + "edits\n" + text(commands)
-    done = subprocess.run([program, "--journal", "--json"], input=given, capture_output=True, encoding=BYTES)
+    flags = ["--journal", "--json"] + (["--stop"] if stop else [])
+    done = subprocess.run([program, *flags], input=given, capture_output=True, encoding=BYTES)
     if done.returncode not in (0, 1):
         raise Failed(f"status {done.returncode}: {(done.stderr or done.stdout).strip()}")
     return split(done.stdout)

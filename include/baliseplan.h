@@ -1,34 +1,43 @@
 /* baliseplan in your own process: what the program does from standard input to standard output, from memory to memory.
  *
- * Link with -lbaliseplan, or with what `pkg-config --libs baliseplan` prints. docs/LIBRARY.md has the whole interface.
+ * Link with what `pkg-config --cflags --libs baliseplan` prints. baliseplan(3) and LIBRARY.md have the whole interface,
+ * FORMATS.md has what goes in and what comes out.
  *
  * What a caller has to uphold. Nothing checks it:
  *
  * 1. A pointer points to at least the number of bytes that the length after it says, all of them initialized; a single
  *    size_t * points to one initialized size_t. A length is less than 2^63.
- * 2. No pointer is null. Only input and output may be, each where its length is 0.
+ * 2. No pointer is null. In C and C++ input and output may be, each where its length is 0.
  * 3. input, output and *written (or *size) don't overlap. Until the call returns nothing else writes to them, and
  *    nothing else reads output and *written (or *size).
  * 4. No call comes from a signal handler, or from the forked child of a process that has threads.
  * 5. malloc, realloc and free are one allocator that aligns its blocks as the C library's does, and that several
  *    threads may use if several threads call.
  *
- * Ownership: a call takes none and gives none. It reads input and writes to output and *written (or *size); what it
- * allocates it frees before it returns; it keeps no state, so calls don't depend on each other.
+ * Ownership: a call takes none. What it allocates it frees before it returns, but for the output of
+ * baliseplan_run_alloc. It keeps no state, so calls don't depend on each other.
  *
  * Threads: the calls have no shared data, so several threads may call at once, each with its own output and *written.
- * They may share the input. */
+ * They may share the input.
+ *
+ * Time: a call can't be stopped, and may take hours over 64 MiB that were chosen to be slow. LIBRARY.md says what to do
+ * about input that you don't trust. */
 #ifndef BALISEPLAN_H
 #define BALISEPLAN_H
 
 #include <stddef.h>
 #include <stdint.h>
 
+/* The version of this header. baliseplan_version() is that of the library. */
+#define BALISEPLAN_VERSION "0.1.0"
+
 #ifdef __cplusplus
 extern "C" {
 #endif
 
-/* The version of this interface. A shared library fits this header where baliseplan_abi() returns the same number. */
+/* From here to the line `end of cffi` all is plain enough for cffi's cdef(). */
+
+/* The number of this interface. A library fits this header where baliseplan_abi() returns the same number. */
 #define BALISEPLAN_ABI 1u
 
 /* Flags, to be combined by |. Any other bit is an error of the caller: BALISEPLAN_USAGE. */
@@ -49,46 +58,64 @@ extern "C" {
 #define BALISEPLAN_READ_FAULT 31     /* never answered: reading memory doesn't fail */
 #define BALISEPLAN_OUTPUT_FULL 32    /* the output is too small, and full (the program's WriteFault) */
 
-/* An unknown flag: nothing was run or written, and *written (or *size) is 0. */
+/* An unknown flag: nothing was run or written, and the length is 0. */
 #define BALISEPLAN_USAGE 64
 
 /* BALISEPLAN_ABI of the header that the library was built for. */
 uint32_t baliseplan_abi(void);
 
-/* The calls under their names in the library, where no pointer may be null. Use baliseplan_run and baliseplan_size. */
-int32_t baliseplan_run_nonnull(const uint8_t *input, size_t input_len, uint32_t flags, uint8_t *output,
-                               size_t output_len, size_t *written) __asm__("baliseplan_run");
-int32_t baliseplan_size_nonnull(const uint8_t *input, size_t input_len, uint32_t flags,
-                                size_t *size) __asm__("baliseplan_size");
+/* BALISEPLAN_VERSION of the header that the library was built for: a text that stays. */
+const char *baliseplan_version(void);
 
-/* The two calls of this header give the library a place that isn't null for a null pointer with length 0. Their own
- * assembler names keep a compiler that doesn't inline them from taking them for the library's. */
-static inline int32_t baliseplan_run(const uint8_t *input, size_t input_len, uint32_t flags, uint8_t *output,
-                                     size_t output_len, size_t *written) __asm__("baliseplan_run_or_null");
-static inline int32_t baliseplan_size(const uint8_t *input, size_t input_len, uint32_t flags,
-                                      size_t *size) __asm__("baliseplan_size_or_null");
+/* What an answer means, in a few English words: a text that stays, for any number. */
+const char *baliseplan_strerror(int32_t answer);
 
-/* Runs over input: a plan, perhaps its journal, and commands, as docs/FORMATS.md has them. Writes what the program
- * prints to the front of output, and the number of these bytes to *written; the bytes after them stay as they are.
+/* Runs over input: a plan, perhaps its journal, and commands. Writes what the program prints to the front of output,
+ * and the number of these bytes to *written; the bytes after them stay as they are.
  * Returns a status, a fault or BALISEPLAN_USAGE.
  *
- * It allocates output_len bytes beside what the plan and its edits take, and frees them. It needs 13 KiB of stack. */
-static inline int32_t baliseplan_run(const uint8_t *input, size_t input_len, uint32_t flags, uint8_t *output,
-                                     size_t output_len, size_t *written)
-{
-    uint8_t none = 0;
-    return baliseplan_run_nonnull(input_len ? input : &none, input_len, flags, output_len ? output : &none,
-                                  output_len, written);
-}
+ * It allocates output_len + 1 bytes beside what the plan and its edits take, and frees them. It needs 16 KiB of stack. */
+int32_t baliseplan_run(const uint8_t *input, size_t input_len, uint32_t flags, uint8_t *output, size_t output_len,
+                       size_t *written);
 
 /* Writes to *size how many bytes baliseplan_run would write with enough room, and returns what that would return, never
- * BALISEPLAN_OUTPUT_FULL. It is a whole run, which keeps its output until it returns: a caller that can tell how much
- * room is enough saves the time. After a fault other than BALISEPLAN_INPUT_TOO_LONG *size is only a lower bound. */
-static inline int32_t baliseplan_size(const uint8_t *input, size_t input_len, uint32_t flags, size_t *size)
+ * BALISEPLAN_OUTPUT_FULL. It is a whole run, which keeps its output until it returns.
+ * After a fault other than BALISEPLAN_INPUT_TOO_LONG *size is only a lower bound. */
+int32_t baliseplan_size(const uint8_t *input, size_t input_len, uint32_t flags, size_t *size);
+
+/* Runs as baliseplan_run, into a block that it allocates with as much room as the output takes. Writes the block's
+ * address to *output and the length of the output to *output_len; a zero byte follows the output. The caller gives the
+ * block to baliseplan_free once, whatever the answer. *output is null, and the length 0, only where the answer is
+ * BALISEPLAN_USAGE or BALISEPLAN_OUT_OF_MEMORY. Never returns BALISEPLAN_OUTPUT_FULL.
+ *
+ * input may be null where its length is 0, and *output and *output_len needn't be initialized. */
+int32_t baliseplan_run_alloc(const uint8_t *input, size_t input_len, uint32_t flags, uint8_t **output,
+                             size_t *output_len);
+
+/* Frees the output of baliseplan_run_alloc. Null is nothing to free. */
+void baliseplan_free(uint8_t *output);
+
+/* end of cffi */
+
+/* In C and C++ the two calls below stand in for baliseplan_run and baliseplan_size. They give the library the address
+ * of a byte for a null pointer with length 0. */
+static inline int32_t baliseplan_run_or_null(const uint8_t *input, size_t input_len, uint32_t flags, uint8_t *output,
+                                             size_t output_len, size_t *written)
+{
+    uint8_t none = 0;
+    return baliseplan_run(input_len ? input : &none, input_len, flags, output_len ? output : &none, output_len,
+                          written);
+}
+
+static inline int32_t baliseplan_size_or_null(const uint8_t *input, size_t input_len, uint32_t flags, size_t *size)
 {
     const uint8_t none = 0;
-    return baliseplan_size_nonnull(input_len ? input : &none, input_len, flags, size);
+    return baliseplan_size(input_len ? input : &none, input_len, flags, size);
 }
+
+#define baliseplan_run(input, input_len, flags, output, output_len, written) \
+    baliseplan_run_or_null(input, input_len, flags, output, output_len, written)
+#define baliseplan_size(input, input_len, flags, size) baliseplan_size_or_null(input, input_len, flags, size)
 
 #ifdef __cplusplus
 }

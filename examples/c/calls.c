@@ -1,5 +1,6 @@
 /* Calls the library as a caller may get it wrong or go to its limits, and checks each answer: nothing to run, no room,
- * too little room, unknown flags, bytes that must stay, and the same call again and again.
+ * too little room, unknown flags, bytes that must stay, outputs that the library allocates, and the same call again and
+ * again.
  *
  * usage: calls [COUNT]: with COUNT that many calls, for a tool that looks for leaks
  */
@@ -51,6 +52,65 @@ static void expect_size(const char *what, const char *input, uint32_t flags, int
     failed = 1;
 }
 
+/* An output that the library allocates: its answer, its bytes, and the zero byte after them. */
+static void expect_alloc(const char *what, const char *input, uint32_t flags, int32_t due, const char *text)
+{
+    uint8_t *output = (uint8_t *)&failed;
+    size_t len = 99;
+    int32_t answer = baliseplan_run_alloc((const uint8_t *)input, input ? strlen(input) : 0, flags, &output, &len);
+    int right = text ? output && !strcmp((char *)output, text) && len == strlen(text) : !output && !len;
+    baliseplan_free(output);
+    if (right && answer == due)
+        return;
+    printf("the allocated output of %s: answered %d and wrote %zu bytes\n", what, (int)answer, len);
+    failed = 1;
+}
+
+/* A long line after one command: what was answered before it is there. */
+static void expect_too_long(void)
+{
+    char input[8192];
+    size_t len = strlen(strcpy(input, PLAN));
+    memset(input + len, 'x', 4097);
+    input[len + 4097] = 0;
+    expect_alloc("a line that is too long", input, 0, BALISEPLAN_INPUT_TOO_LONG, "ok 1\nrefused 19 ValueTooWide\n");
+}
+
+/* Outputs that are longer than the library's first guess. */
+static void expect_long(void)
+{
+    static char input[100000];
+    size_t at = strlen(strcpy(input, PLAN));
+    for (; at + 6 < sizeof input; at += 5)
+        memcpy(input + at, "undo\n", 6);
+    uint8_t *output;
+    size_t len;
+    int32_t answer = baliseplan_run_alloc((const uint8_t *)input, strlen(input), 0, &output, &len);
+    size_t size = 0;
+    int32_t due = baliseplan_size((const uint8_t *)input, strlen(input), 0, &size);
+    if (answer != due || answer != BALISEPLAN_SOME_REFUSED || len != size || len < 2 * sizeof input || output[len]) {
+        printf("an output longer than its input: answered %d and wrote %zu bytes\n", (int)answer, len);
+        failed = 1;
+    }
+    baliseplan_free(output);
+}
+
+static void expect_texts(void)
+{
+    if (strcmp(baliseplan_version(), BALISEPLAN_VERSION) || baliseplan_abi() != BALISEPLAN_ABI) {
+        puts("the library has another version than its header");
+        failed = 1;
+    }
+    for (int32_t answer = -1; answer < 99; answer++)
+        if (!*baliseplan_strerror(answer))
+            failed = 1;
+    if (strcmp(baliseplan_strerror(BALISEPLAN_OUT_OF_MEMORY), "out of memory") ||
+        strcmp(baliseplan_strerror(33), "unknown answer")) {
+        puts("an answer has another text");
+        failed = 1;
+    }
+}
+
 int main(int argc, char **argv)
 {
     size_t whole = strlen(OUTPUT);
@@ -67,10 +127,18 @@ int main(int argc, char **argv)
     expect_size("a whole run", PLAN, 0, BALISEPLAN_SOME_REFUSED, whole);
     expect_size("no input", NULL, 0, BALISEPLAN_BAD_INPUT, 16);
     expect_size("an unknown flag", PLAN, 16, BALISEPLAN_USAGE, 0);
+    expect_alloc("a whole run", PLAN, 0, BALISEPLAN_SOME_REFUSED, OUTPUT);
+    expect_alloc("no input", NULL, 0, BALISEPLAN_BAD_INPUT, "bad 1 1 BadLine\n");
+    expect_alloc("an unknown flag", PLAN, 1u << 31, BALISEPLAN_USAGE, NULL);
+    expect_too_long();
+    expect_long();
+    expect_texts();
+    baliseplan_free(NULL);
     for (long count = argc > 1 ? atol(argv[1]) : 0; count > 0; count--) {
         size_t room = (size_t)count % ROOM;
         int32_t due = room < whole ? BALISEPLAN_OUTPUT_FULL : BALISEPLAN_SOME_REFUSED;
         expect("the same call again", PLAN, 0, room, due, OUTPUT, room < whole ? room : whole);
+        expect_alloc("the same call again", PLAN, 0, BALISEPLAN_SOME_REFUSED, OUTPUT);
     }
     if (!failed)
         puts("all calls answered what is due");

@@ -30,20 +30,6 @@ static int read_all(FILE *stream, struct text *text)
     return !ferror(stream);
 }
 
-/* One run, with as much room as its output takes. The caller frees output->bytes. */
-static int32_t run(const struct text *input, uint32_t flags, struct text *output)
-{
-    size_t room;
-    *output = (struct text){NULL, 0};
-    int32_t answer = baliseplan_size(input->bytes, input->len, flags, &room);
-    if (answer == BALISEPLAN_OUT_OF_MEMORY || answer == BALISEPLAN_USAGE)
-        return answer;
-    output->bytes = calloc(room ? room : 1, 1);
-    if (!output->bytes)
-        return BALISEPLAN_OUT_OF_MEMORY;
-    return baliseplan_run(input->bytes, input->len, flags, output->bytes, room, &output->len);
-}
-
 /* The flag of a word; 16, which is none, for any other word. */
 static uint32_t flag_of(const char *word)
 {
@@ -54,21 +40,15 @@ static uint32_t flag_of(const char *word)
     return BALISEPLAN_FLAGS + 1;
 }
 
-/* The name that the program prints for a fault; NULL for any other answer. */
-static const char *fault_name(int32_t answer)
+/* Prints what a run wrote, also before a fault, and returns the exit status. */
+static int print(int32_t answer, const struct text *output)
 {
-    switch (answer) {
-    case BALISEPLAN_INPUT_TOO_LONG:
-        return "InputTooLong";
-    case BALISEPLAN_OUT_OF_MEMORY:
-        return "OutOfMemory";
-    case BALISEPLAN_READ_FAULT:
-        return "ReadFault";
-    case BALISEPLAN_OUTPUT_FULL:
-        return "WriteFault";
-    default:
-        return NULL;
-    }
+    size_t done = output->len ? fwrite(output->bytes, 1, output->len, stdout) : 0;
+    int failed = fflush(stdout) || done != output->len;
+    if (answer <= BALISEPLAN_BAD_INPUT)
+        return failed ? 3 : answer;
+    fprintf(stderr, "run: %d, %s\n", (int)answer, baliseplan_strerror(answer));
+    return answer == BALISEPLAN_USAGE ? 64 : 3;
 }
 
 int main(int argc, char **argv)
@@ -77,17 +57,15 @@ int main(int argc, char **argv)
     struct text input, output = {NULL, 0};
     for (int i = 1; i < argc; i++)
         flags |= flag_of(argv[i]);
-    if (baliseplan_abi() != BALISEPLAN_ABI || !read_all(stdin, &input)) {
-        fputs("run: the library doesn't fit its header, or the input can't be read\n", stderr);
-        return 70;
+    if (baliseplan_abi() != BALISEPLAN_ABI) {
+        fprintf(stderr, "run: the library is %s, and the header %s\n", baliseplan_version(), BALISEPLAN_VERSION);
+        return 3;
     }
-    int32_t answer = run(&input, flags, &output);
-    size_t done = output.len ? fwrite(output.bytes, 1, output.len, stdout) : 0;
-    int failed = fflush(stdout) || done != output.len;
+    int32_t answer = BALISEPLAN_READ_FAULT;
+    if (read_all(stdin, &input))
+        answer = baliseplan_run_alloc(input.bytes, input.len, flags, &output.bytes, &output.len);
+    int status = print(answer, &output);
     free(input.bytes);
-    free(output.bytes);
-    const char *fault = fault_name(answer);
-    if (fault)
-        fprintf(stderr, "fault %d %s\n", (int)answer, fault);
-    return fault || failed ? 3 : answer;
+    baliseplan_free(output.bytes);
+    return status;
 }

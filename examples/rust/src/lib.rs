@@ -1,4 +1,4 @@
-//! Edits ETCS balise plans in this process, by the proved library that `make library` builds.
+//! Edits ETCS balise plans in this process, by the C library.
 //!
 //! ```
 //! use baliseplan::{run, Flags, Status};
@@ -7,7 +7,7 @@
 //! let run = run(input, Flags::QUIET)?;
 //! assert_eq!(run.status, Status::SomeRefused);
 //! assert!(run.output.starts_with(b"refused 23 NothingToUndo\nplan 1\n"));
-//! # Ok::<(), baliseplan::Fault>(())
+//! # Ok::<(), baliseplan::Stopped>(())
 //! ```
 
 mod raw;
@@ -92,25 +92,50 @@ pub struct Run {
     pub output: Vec<u8>,
 }
 
-/// Runs over an input: a plan, perhaps its journal, and commands.
-pub fn run(input: &[u8], flags: Flags) -> Result<Run, Fault> {
-    let mut output = vec![0; 2 * input.len() + 65536];
-    let mut ended = run_into(input, flags, &mut output);
-    if ended.0 == Err(Fault::WriteFault) {
-        let (sized, size) = output_size(input, flags);
-        sized?;
-        output.resize(size, 0);
-        ended = run_into(input, flags, &mut output);
-    }
-    output.truncate(ended.1);
-    Ok(Run {
-        status: ended.0?,
-        output,
-    })
+/// A run that didn't come to its end, with what it printed until then.
+#[derive(Clone, Debug, PartialEq, Eq)]
+pub struct Stopped {
+    pub fault: Fault,
+    pub output: Vec<u8>,
 }
 
-/// Runs, and writes to the front of the output. Also returns the number of bytes written, which after a fault are a
-/// beginning of a right output.
+impl fmt::Display for Stopped {
+    fn fmt(&self, f: &mut fmt::Formatter<'_>) -> fmt::Result {
+        self.fault.fmt(f)
+    }
+}
+
+impl Error for Stopped {}
+
+impl From<Fault> for Stopped {
+    fn from(fault: Fault) -> Stopped {
+        Stopped {
+            fault,
+            output: Vec::new(),
+        }
+    }
+}
+
+/// Runs over an input: a plan, perhaps its journal, and commands.
+pub fn run(input: &[u8], flags: Flags) -> Result<Run, Stopped> {
+    let (answer, printed) = raw::run_alloc(input, flags.0);
+    let output = copied(printed.bytes())?;
+    match ended(answer) {
+        Ok(status) => Ok(Run { status, output }),
+        Err(fault) => Err(Stopped { fault, output }),
+    }
+}
+
+fn copied(bytes: &[u8]) -> Result<Vec<u8>, Fault> {
+    let mut copy = Vec::new();
+    copy.try_reserve_exact(bytes.len())
+        .map_err(|_| Fault::OutOfMemory)?;
+    copy.extend_from_slice(bytes);
+    Ok(copy)
+}
+
+/// Runs, and writes to the front of an output of the caller's. Also returns the number of bytes written, which after a
+/// fault are a beginning of a right output.
 pub fn run_into(input: &[u8], flags: Flags, output: &mut [u8]) -> (Result<Status, Fault>, usize) {
     let (answer, written) = raw::run(input, flags.0, output);
     (ended(answer), written)
@@ -120,6 +145,11 @@ pub fn run_into(input: &[u8], flags: Flags, output: &mut [u8]) -> (Result<Status
 pub fn output_size(input: &[u8], flags: Flags) -> (Result<Status, Fault>, usize) {
     let (answer, size) = raw::size(input, flags.0);
     (ended(answer), size)
+}
+
+/// The version of the library.
+pub fn version() -> &'static str {
+    raw::version()
 }
 
 fn ended(answer: i32) -> Result<Status, Fault> {

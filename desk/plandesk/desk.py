@@ -1,0 +1,173 @@
+"""The work on one line: its three files through the engine."""
+
+from __future__ import annotations
+
+from collections.abc import Sequence
+from dataclasses import dataclass, replace
+from functools import cached_property
+
+from plandesk import folder as files
+from plandesk.depend import Dependents, dependents, standing_alone
+from plandesk.engine import Engine, Reply, Run
+from plandesk.errors import BadInput, Fault
+from plandesk.folder import Folder
+from plandesk.journal import Journal, read_journal
+from plandesk.ledger import agrees
+from plandesk.naming import Names
+from plandesk.reviews import Reviews, new_reviews
+from plandesk.tags import Tags, probe, tags_of_base
+from plandesk.view import Groups
+
+
+@dataclass(frozen=True)
+class Outcome:
+    """What a list of commands came to. `kept` says whether the files are the run's now."""
+
+    commands: tuple[str, ...]
+    run: Run
+    kept: bool
+    new_reviews: Reviews
+
+    @property
+    def pairs(self) -> list[tuple[str, Reply]]:
+        return list(zip(self.commands, self.run.replies, strict=True))
+
+    @property
+    def refused(self) -> int:
+        """The number of refused commands."""
+        return sum(reply.refused for reply in self.run.replies)
+
+
+@dataclass(frozen=True)
+class State:
+    """The files as read, and what the engine makes of base and journal."""
+
+    folder: Folder
+    engine: Engine
+    base: str
+    journal_text: str
+    line: str
+    reviews: Reviews
+    run: Run
+
+    @cached_property
+    def journal(self) -> Journal:
+        return read_journal(self.run.journal)
+
+    @cached_property
+    def viewed(self) -> Run:
+        """The same run with the view."""
+        return self.run if self.run.json else self.engine.run(self.base, self.run.journal)
+
+    @property
+    def groups(self) -> Groups:
+        return self.viewed.groups
+
+    @cached_property
+    def base_run(self) -> Run:
+        return self.engine.run(self.base) if self.journal.entries else self.viewed
+
+    @property
+    def base_groups(self) -> Groups:
+        return self.base_run.groups
+
+    @cached_property
+    def tags(self) -> Tags:
+        if not self.journal.entries:
+            return tags_of_base(self.groups)
+        return probe(self.engine, self.base, self.viewed)
+
+    @cached_property
+    def names(self) -> Names:
+        return Names(lambda: self.base_groups, self.groups, self.journal, self.tags)
+
+    def names_of(self, identities: set[str]) -> Names:
+        """The same for edits of some groups alone, which is quicker on a long line."""
+        places = [self.groups.places[each] for each in identities if each in self.groups.places]
+        tags = probe(self.engine, self.base, self.viewed, sorted(places))
+        return Names(lambda: self.base_groups, self.groups, self.journal, tags)
+
+    @cached_property
+    def alone(self) -> str:
+        return standing_alone(self.engine, self.base, self.run.journal, self.groups)
+
+    @cached_property
+    def dependents(self) -> Dependents:
+        return dependents(self.engine, self.base, self.alone)
+
+    def dependents_of(self, serial: int) -> list[int]:
+        """All that depends on one edit, the last one first."""
+        return dependents(self.engine, self.base, self.alone, [serial]).all_of(serial)
+
+    @property
+    def standing(self) -> frozenset[int]:
+        return frozenset(entry.serial for entry in self.journal.standing)
+
+    @property
+    def whole(self) -> bool:
+        """Whether line.plan and journal are what the engine prints."""
+        return self.run.plan == self.line and self.run.journal == self.journal_text
+
+    @property
+    def checksums(self) -> dict[str, str]:
+        texts = {files.BASE: self.base, files.JOURNAL: self.journal_text, files.LINE: self.line}
+        return {name: files.checksum(text) for name, text in texts.items()}
+
+
+def load(folder: Folder, engine: Engine, *, strict: bool = True) -> State:
+    """Reads a folder and does its journal again. With `strict` line.plan has to be what comes out."""
+    base, journal = folder.read(files.BASE), folder.read(files.JOURNAL)
+    line = folder.read(files.LINE) if folder.has(files.LINE) else ""
+    reviews = Reviews.read(folder.read(files.REVIEWS)) if folder.has(files.REVIEWS) else Reviews()
+    if engine.run(base, view=False, name=files.BASE).plan != base:
+        raise BadInput(f"{folder.path / files.BASE} isn't as the engine prints it: somebody changed it by hand")
+    run = engine.run(base, journal, view=False, name=files.BASE)
+    state = State(folder, engine, base, journal, line, reviews, run)
+    if strict and not state.whole:
+        what = files.LINE if run.plan != line else files.JOURNAL
+        raise BadInput(
+            f"{folder.path / what} isn't what the engine makes of {files.BASE} and {files.JOURNAL}: "
+            "somebody changed it by hand, or only some of the files came along",
+            "`plandesk diff --line` shows where; `plandesk restore` writes it anew from base and journal",
+        )
+    return state
+
+
+def do(state: State, commands: Sequence[str], *, keep_accepted: bool = False, dry_run: bool = False) -> Outcome:
+    """Does commands after the journal. Keeps all or nothing, or with `keep_accepted` what was accepted."""
+    run = state.engine.run(state.base, state.journal_text, commands)
+    check_again(state, run)
+    found = new_reviews(state.engine, state.base, state.journal_text, commands, run, state.reviews)
+    kept = not dry_run and bool(commands) and (keep_accepted or not run.refused)
+    if kept:
+        texts = {files.JOURNAL: run.journal, files.LINE: run.plan}
+        if found.items:
+            texts[files.REVIEWS] = state.reviews.plus(found).text()
+        state.folder.write(texts)
+    return Outcome(tuple(commands), run, kept, found)
+
+
+def check_again(state: State, run: Run) -> None:
+    """The journal that is to be kept has all its edits, and makes the plan that is to be kept."""
+    again = state.engine.run(state.base, run.journal, view=False)
+    same = again.plan == run.plan and again.journal == run.journal
+    if not same or not agrees(state.journal, run.replies, read_journal(run.journal)):
+        raise Fault(
+            f"{state.engine.name} printed a journal that doesn't make its plan, or lacks an edit; nothing was changed",
+            "this is a fault of the engine: please report it with base.plan, journal and the commands",
+        )
+
+
+def after_of(state: State, outcome: Outcome) -> State:
+    """What the folder has, or would have, after the commands."""
+    run = outcome.run
+    reviews = state.reviews.plus(outcome.new_reviews)
+    return replace(state, journal_text=run.journal, line=run.plan, reviews=reviews, run=run)
+
+
+def restore(state: State) -> bool:
+    """Writes line.plan and the journal as the engine prints them. False where they are so already."""
+    if state.whole:
+        return False
+    state.folder.write({files.JOURNAL: state.run.journal, files.LINE: state.run.plan})
+    return True

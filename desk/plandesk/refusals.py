@@ -1,0 +1,77 @@
+"""The refusals of docs/FORMATS.md, in words for a person. The engine decides; this only explains."""
+
+from __future__ import annotations
+
+REFUSALS: dict[int, tuple[str, str, str]] = {
+    1: (
+        "BadLine",
+        "the line has no form that is allowed there",
+        "A misspelt variable, K left out, two blanks, or a blank at the end. "
+        "In a file: carriage returns or a byte-order mark.",
+    ),
+    2: (
+        "BadHex",
+        "a digit isn't hexadecimal, or the number of digits is odd",
+        "A blank or a carriage return at the end of the line.",
+    ),
+    3: (
+        "BadLength",
+        "there are more or fewer digits than there must be",
+        "A packet has as many bytes as its L_PACKET needs, a telegram 54 or 208 digits.",
+    ),
+    4: ("SpareBits", "a bit after the last one isn't zero", ""),
+    5: ("NotABalise", "the telegram isn't one from a balise to a train", "Q_UPDOWN is 0, or Q_MEDIA is 1."),
+    6: ("NoEnd", "the telegram ends without packet 255", ""),
+    7: ("PacketCut", "L_PACKET is below 23, or leads past the end", ""),
+    8: (
+        "LayoutMismatch",
+        "the fields of a known packet don't end at its L_PACKET",
+        "Or Q_DIFF is 3, or an insert has packet 255.",
+    ),
+    9: ("PacketZero", "NID_PACKET is 0", ""),
+    10: ("GroupSize", "a group has no telegram, or a ninth", ""),
+    11: ("HeaderDisagrees", "N_PIG, N_TOTAL, NID_C or NID_BG don't fit the group", ""),
+    12: ("NumberReserved", "16383 is no number for a group", ""),
+    13: ("GroupTwice", "the plan has a group with this identity already", ""),
+    14: ("NoSuchGroup", "no group has this identity", ""),
+    15: (
+        "NoSuchTelegram",
+        "the group has no such balise (N_PIG)",
+        "After a turn the balises count from the other end.",
+    ),
+    16: ("NoSuchPacket", "the telegram has no such packet, or no such place for one", "Packets count from 0."),
+    17: (
+        "NoSuchVariable",
+        "the packet or header has no such variable, or not this occurrence",
+        "Another packet than you think?",
+    ),
+    18: (
+        "Steering",
+        "the variable says what follows it, so it isn't set in place",
+        "Delete the packet, and insert one with other digits.",
+    ),
+    19: ("ValueTooWide", "the value doesn't fit the bits of the variable", ""),
+    20: ("NoRoom", "the telegram has too little room for the packet", ""),
+    21: ("NumberTaken", "a group or a link has this number already", "A link may name it though no group has it."),
+    22: ("SamePlace", "the packet stands there already", ""),
+    23: ("NothingToUndo", "no edit stands", ""),
+    24: ("NothingToRedo", "nothing was undone or struck, or a new edit discarded it", ""),
+    25: ("NoSuchEdit", "no standing edit has this serial", ""),
+    26: ("DependsOn", "a later edit depends on it", "Strike the later ones first, or leave it."),
+    27: (
+        "JournalMismatch",
+        "the journal doesn't fit the plan",
+        "It belongs to the plan first read (base), not to one printed later; or it was changed.",
+    ),
+    28: ("Worn", "this run has accepted 1,000,000 commands", "Go on in another run."),
+    29: ("InputTooLong", "a line has more than 4,096 bytes, or the input more than 64 MiB", ""),
+    30: ("OutOfMemory", "memory ran out", "Nothing was changed."),
+    31: ("ReadFault", "a read failed", ""),
+    32: ("WriteFault", "a write failed", "A full disk, or a reader that takes no more."),
+}
+"""Number to name, what it says, and what it usually is."""
+
+
+def text_of(number: int) -> str:
+    """What a refusal says."""
+    return REFUSALS[number][1] if number in REFUSALS else f"the engine answered {number}"

@@ -1,0 +1,145 @@
+"""Short forms of commands, written out in the engine's own words before it sees them.
+
+- `set 5.200 1 0 V_TSR 0 30km/h` and `.. L_TSR 0 450m`: a value with its unit, by Q_SCALE of the packet at that moment.
+- `add after 5.200 HEX ..`: the place by the group before it.
+- `put 65 5.200 1 1 NID_TSR=6 D_TSR=700m V_TSR=60km/h`: one insert; the engine makes the digits.
+
+What was written out is shown, and only that is run and kept.
+"""
+
+from __future__ import annotations
+
+from collections.abc import Sequence
+from dataclasses import dataclass
+
+from plandesk.amounts import NoAmount, has_unit, raw_value
+from plandesk.engine import Engine
+from plandesk.errors import Refusal
+from plandesk.explain import explain
+from plandesk.view import Groups, bits_of, digits_of, telegrams_of
+from plandesk.vocabulary import is_distance, packet_name
+
+EMPTY = {
+    5: "05408a000000000000",
+    21: "15406c00000000",
+    27: "1b40740000000000",
+    41: "29407e0000000000",
+    65: "41408e000000000000",
+    66: "42403e00",
+    136: "88404c0000",
+}
+"""The shortest form of each known packet with all values 0 (docs/FORMATS.md, Packets)."""
+PUT = "put PACKET C.N PIG AT VAR=VALUE .."
+SPARE = "5.100 0"
+SPARE_PLAN = f"plan 1\ngroup\na1007f80a0327f{'f' * 193}c\n"
+"""A telegram of version 2.1 with nothing in it."""
+
+
+@dataclass(frozen=True)
+class Written:
+    """The commands, and for each the place of the line that it comes from."""
+
+    commands: tuple[str, ...]
+    origins: tuple[int, ...]
+
+
+class Writer:
+    """Writes lines out one after another; a line is read in the plan that it meets."""
+
+    def __init__(self, engine: Engine, base: str, journal: str) -> None:
+        self.engine, self.base, self.journal = engine, base, journal
+        self.done: list[str] = []
+        self._met: Groups | None = None
+
+    def write_out(self, lines: Sequence[str]) -> Written:
+        for line in lines:
+            command = self._command(line)
+            if not _keeps_places(command):
+                self._met = None
+            self.done.append(command)
+        return Written(tuple(self.done), tuple(range(len(lines))))
+
+    def _command(self, line: str) -> str:
+        words = line.split(" ")
+        if words[0] == "put":
+            return _put(self.engine, words)
+        if words[:2] == ["add", "after"] and len(words) > 3:
+            place = self.met.places.get(words[2])
+            if place is None:
+                raise Refusal(f"`{line[:60]} ..`: the plan has no group {words[2]} then")
+            return " ".join(["add", str(place + 1), *words[3:]])
+        if words[0] == "set" and len(words) == 7 and has_unit(words[6]):
+            scale = _scale(self.met, words) if is_distance(words[4]) else None
+            return " ".join([*words[:6], str(_raw(words[4], words[6], scale, line))])
+        return line
+
+    @property
+    def met(self) -> Groups:
+        """The plan that the next command meets, but for values that no short form reads."""
+        if self._met is None:
+            self._met = self.engine.run(self.base, self.journal, self.done).groups
+        return self._met
+
+
+def _keeps_places(command: str) -> bool:
+    """Whether places and Q_SCALE of packets stay as they are."""
+    words = command.split(" ")
+    return words[0] == "seth" or words[0] == "set" and words[4:5] != ["Q_SCALE"]
+
+
+def _scale(groups: Groups, words: list[str]) -> int | None:
+    """Q_SCALE of the packet that a set addresses. 1 where it isn't there: the engine will refuse the command."""
+    group = groups.named(words[1])
+    try:
+        return group.telegrams[int(words[2])].packets[int(words[3])].scale if group else 1
+    except (ValueError, IndexError):
+        return 1
+
+
+def _raw(name: str, value: str, scale: int | None, line: str) -> int:
+    try:
+        return raw_value(name, value, scale)
+    except NoAmount as reason:
+        raise Refusal(f"`{line}`: {value} for {name}: {reason}") from None
+
+
+def _put(engine: Engine, words: list[str]) -> str:
+    """One insert. The engine makes the digits: it sets the variables of an empty packet in a spare telegram."""
+    line = " ".join(words)
+    if len(words) < 5 or not words[1].isdigit():
+        raise Refusal(f"`{line}`: the form is `{PUT}`")
+    number = int(words[1])
+    if number not in EMPTY:
+        known = ", ".join(map(str, EMPTY))
+        name = packet_name(number)
+        raise Refusal(f"`{line}`: `put` writes {known}. Packet {number} ({name}) takes an insert with its digits")
+    commands = [f"insert {SPARE} 0 {EMPTY[number]}", *_sets(_values(words[5:], line), line)]
+    run = engine.run(SPARE_PLAN, "", commands)
+    for command, reply in zip(commands, run.replies, strict=True):
+        if reply.refused:
+            raise Refusal(f"`{line}`: {explain(command, reply, run.groups)}")
+    length = run.groups[0].telegrams[0].packets[0].bits
+    bits = bits_of(telegrams_of(run.plan)[0][0], 830)[50 : 50 + length]
+    return f"insert {' '.join(words[2:5])} {digits_of(bits)}"
+
+
+def _values(words: Sequence[str], line: str) -> dict[str, str]:
+    """The values by variable. Distances with a unit are in metres, where Q_SCALE isn't given."""
+    given: dict[str, str] = {}
+    for word in words:
+        name, sign, value = word.partition("=")
+        if not sign or not value or name in given:
+            raise Refusal(f"`{line}`: {word} {'is given twice' if name in given else 'has not the form VAR=VALUE'}")
+        given[name] = value
+    if "Q_SCALE" not in given and any(is_distance(name) and has_unit(value) for name, value in given.items()):
+        return {"Q_SCALE": "1", **given}
+    return given
+
+
+def _sets(given: dict[str, str], line: str) -> list[str]:
+    scale = int(given["Q_SCALE"]) if given.get("Q_SCALE", "").isdigit() else 0
+    sets = []
+    for name, value in given.items():
+        digits = str(_raw(name, value, scale, line)) if has_unit(value) else value
+        sets.append(f"set {SPARE} 0 {name} 0 {digits}")
+    return sets

@@ -4,7 +4,7 @@
 # A part is right (status 0), wrong (1) or NOT RUN (2: something that it needs is missing, which it says). Parts whose
 # names match the expression WITHOUT, of the environment, are NOT RUN either.
 
-part_names=() part_commands=() part_ends=()
+part_names=() part_commands=() part_ends=() wrong_ends=()
 right=0 wrong=0 not_run=0
 logs=${CHECK_LOGS:-}
 
@@ -56,8 +56,20 @@ judge() {
     part_ends[index]=$(printf '%-7s %5d s  %s: %s' "$result" "$seconds" "${part_names[index]}" "$what")
     [ ! -t 2 ] || printf '\r\033[K' >&2
     echo "[$((index + 1))/${#part_names[@]}] ${part_ends[index]}"
-    [ "$result" != WRONG ] || cat "$log.out" "$log.err" | tail -n 100 | sed 's/^/    /'
+    [ "$result" != WRONG ] || wrong_part "${part_names[index]}" "$log"
     [ "$result" != "NOT RUN" ] || cat "$log.out" "$log.err" | tail -n 100 | grep -vxF -e "$what" | sed 's/^/    /'
+}
+
+# printed FILE LINES: the last lines of a file as a terminal shows them, without what a counter wrote over
+printed() {
+    sed 's/.*\r//' "$1" | grep -v '^ *$' | tail -n "$2" | sed 's/^/    /'
+}
+
+# wrong_part NAME LOG: shows what a wrong part printed, and notes the end of it for the verdict
+wrong_part() {
+    printed "$2.err" 100
+    printed "$2.out" 100
+    wrong_ends+=("$1:"$'\n'"$( (printed "$2.err" 4 && printed "$2.out" 10) | cut -c 1-160)")
 }
 
 run_part() {
@@ -94,6 +106,7 @@ run_parts() {
 verdict() {
     echo
     printf '%s\n' "${part_ends[@]}"
+    [ ${#wrong_ends[@]} = 0 ] || printf '\n%s\n' "${wrong_ends[@]}"
     echo
     if [ "$wrong$not_run" = 00 ]; then
         echo "All ${#part_names[@]} parts are right ($SECONDS s)."

@@ -24,7 +24,7 @@ LONGEST = 40
 LIMIT = round(float(os.environ.get("CHECK_SECONDS", "120")))
 LONGEST_INPUT = 67_108_864
 TOO_SHORT = 0.1
-"""Where a run takes less seconds than this, its growth is noise."""
+"""Where a run takes less seconds than this, its growth is noise. A run before it counts as half of this at least."""
 SLACK = 0.5
 AGAIN = 2
 """How often a run is made again where its time grew too fast: another task may have slowed it down."""
@@ -85,7 +85,7 @@ class Run(NamedTuple):
         """The power by which the time grew, with this many times the parts; none where it is noise."""
         if self.seconds < TOO_SHORT:
             return None
-        return math.log(self.seconds / max(before.seconds, TOO_SHORT / 10)) / math.log(parts)
+        return math.log(self.seconds / max(before.seconds, TOO_SHORT / 2)) / math.log(parts)
 
 
 def limited() -> None:

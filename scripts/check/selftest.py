@@ -185,6 +185,12 @@ def judged(task: Task) -> tuple[str, int]:
     return fault, NOT_RUN if done.returncode == NOT_RUN else WRONG
 
 
+def judged_again(task: Task) -> tuple[str, int]:
+    """The same, once more where it is wrong: another task may have held a run up. A check that can't fail shows twice."""
+    found = judged(task)
+    return judged(task) if found[1] == WRONG else found
+
+
 def main() -> int:
     if len(sys.argv) != 2 or not os.access(sys.argv[1], os.X_OK):
         raise Missing("usage: selftest.py PROGRAM")
@@ -194,7 +200,7 @@ def main() -> int:
         tasks = [*of_programs(os.path.abspath(sys.argv[1]), folder), *of_tests(folder)]
         ends = {RIGHT: 0, WRONG: 0, NOT_RUN: 0}
         with ThreadPoolExecutor(len(os.sched_getaffinity(0))) as pool:
-            for number, (fault, end) in enumerate(pool.map(judged, tasks), 1):
+            for number, (fault, end) in enumerate(pool.map(judged_again, tasks), 1):
                 ends[end] += 1
                 sys.stderr.write(f"\r{number} of {len(tasks)}")
                 if fault:

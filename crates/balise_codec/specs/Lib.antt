@@ -1,0 +1,12 @@
+pub mod Faults
+pub mod Stops
+pub mod Misfits
+pub mod Laws
+pub mod Traces
+pub mod Spelling
+pub use Rattle.balise_rules.specs.Variables
+pub use Rattle.balise_rules.specs.Bits
+pub use Rattle.balise_rules.specs.Forms
+pub use Rattle.balise_rules.specs.Packets
+pub use Rattle.balise_rules.specs.Packet
+pub use Rattle.balise_rules.specs.Telegram

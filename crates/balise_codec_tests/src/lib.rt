@@ -1,0 +1,5 @@
+//! Tests of balise_codec: packets spelt from their fields, values that aren't due, and bits that are no packet.
+#![tactic(auto)]
+
+#[cfg(test)]
+mod tests;

@@ -1,0 +1,6 @@
+//! The tests, by topic.
+
+mod misfits;
+mod packets;
+mod reaches;
+mod stops;

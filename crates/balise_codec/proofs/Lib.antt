@@ -4,3 +4,7 @@ pub mod MisfitWalk
 pub mod Fitting
 pub mod Made
 pub mod Tracing
+pub mod Placing
+pub mod Composing
+pub mod TelegramLaws
+pub mod HeadsRead

@@ -18,7 +18,7 @@ use Rattle.balise_layout.specs.LayoutLaws.{layout_reads}
 use Rattle.balise_layout.specs.Walks.{collect}
 use Rattle.balise_layout.proofs.Walks.{is_fit}
 use Rattle.balise_codec.specs.declared.trace.Due.{Due}
-use Rattle.balise_codec.specs.declared.trace.Due.TheVariants.{Field, End, NotSpare}
+use Rattle.balise_codec.specs.declared.trace.Due.TheVariants.{Field, End, Another}
 use Rattle.balise_codec.specs.Traces.{StopsAt, Stopped, Trace, Traced, stopped, end_of, with_next, trace}
 
 abbrev pub traced : Fields → List Bool → Due → Trace
@@ -58,7 +58,7 @@ pub trace_short : (v : Var) (next : ℕ → Form) (s : Trace) → length s.left 
 unfolding trace
 trace_short v next s h = let short : ltb (length s.left) (width_of v) ≡ true = lt-ltb _ _ h in rw short refl
 
-pub trace_never : (s : Trace) → trace never s ≡ stopped NotSpare s
+pub trace_never : (s : Trace) → trace never s ≡ stopped Another s
 unfolding trace
 trace_never s = refl
 
@@ -148,7 +148,7 @@ trace_fails shut s e t h = at s.left refl h
     at : (b : List Bool) → s.left ≡ b → end_of b s ≡ Err (e, t) → Fails shut s e t
     at [] q h = absurd cc
     at (x ∷ b) q h = at_once shut s End e t h (ap (read_form shut s.fields) q) (refl, omega (arith, ap length q))
-trace_fails never s e t h = at_once never s NotSpare e t h refl refl
+trace_fails never s e t h = at_once never s Another e t h refl refl
 trace_fails (valued v next) s e t h =
     let n = num (take (width_of v) s.left) in
     by (ltb (length s.left) (width_of v)) refl h (trace_fails (next n) (with_next v s) e t)

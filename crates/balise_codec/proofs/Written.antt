@@ -161,3 +161,10 @@ placed a c raw old at n e h =
 pub placed-long : (a c raw old : List Bool) → old ≡ ((a ++ bits 13 0) ++ c) ++ raw → length old ≡ length a + (13 + (length c + length raw))
 placed-long a c raw old e =
     omega (arith, ap length e, length-append ((a ++ bits 13 0) ++ c) raw, length-append (a ++ bits 13 0) c, length-append a (bits 13 0), length-bits 13 0)
+
+-- the same of a width by another name
+pub small_in : (n v w : ℕ) → v ≡ w → n / 2 ^ v ≡ 0 → n < 2 ^ w
+small_in n v w e h = subst (λ (k : ℕ). n < 2 ^ k) e (small n v h)
+
+pub large_in : (n v w : ℕ) → v ≡ w → n / 2 ^ v ≢ 0 → n < 2 ^ w → ⊥
+large_in n v w e h l = large n v h (subst (λ (k : ℕ). n < 2 ^ k) (sym e) l)

@@ -1,8 +1,12 @@
 pub mod Faults
 pub mod Stops
 pub mod Misfits
+pub mod Places
 pub mod Laws
+pub mod Telegrams
+pub mod TelegramLaws
 pub mod Traces
+pub mod Heads
 pub mod Spelling
 pub use Rattle.balise_rules.specs.Variables
 pub use Rattle.balise_rules.specs.Bits

@@ -9,16 +9,16 @@ use Rattle.balise_layout.specs.declared.fault.LayoutFault.{LayoutFault}
 use Rattle.balise_layout.specs.declared.fault.LayoutFault.TheVariants.{LayoutMismatch}
 use Rattle.balise_layout.specs.Collected.{all_keyed}
 use Rattle.balise_codec.specs.declared.trace.Due.{Due}
-use Rattle.balise_codec.specs.declared.trace.Due.TheVariants.{Field, End, NotSpare}
+use Rattle.balise_codec.specs.declared.trace.Due.TheVariants.{Field, End, Another}
 use Rattle.balise_codec.specs.declared.reach.Reach.{Reach}
 
 -- The fields are of the form as far as they go. After them stand these bits, which aren't what is due there: a variable
--- that they are too few for, the end, or a value before them that isn't spare.
+-- that they are too few for, the end, or another value of the field before them.
 abbrev pub StopsAt : Form → Fields → List Bool → Due → Type 0
 StopsAt (valued v next) (f ∷ fs) left due = (f.0.0 ≡ v) × IsTrue (fits (width_of v) f.1) × StopsAt (next f.1) fs left due
 StopsAt (valued v next) [] left due = (due ≡ Field v) × (length left < width_of v)
 StopsAt shut [] left due = (due ≡ End) × (0 < length left)
-StopsAt never [] left due = due ≡ NotSpare
+StopsAt never [] left due = due ≡ Another
 StopsAt done [] left due = ⊥
 StopsAt done (f ∷ fs) left due = ⊥
 StopsAt shut (f ∷ fs) left due = ⊥
@@ -62,7 +62,7 @@ with_next v s = record { fields = s.fields ++ ((v, count_of v s.fields), num (ta
 unfoldable pub trace : Form → Trace → Traced
 trace done s = Ok s
 trace shut s = end_of s.left s
-trace never s = stopped NotSpare s
+trace never s = stopped Another s
 trace (valued v next) s =
     if nat_lt (length s.left) (width_of v) then stopped (Field v) s
     else trace (next (num (take (width_of v) s.left))) (with_next v s)

@@ -1,8 +1,25 @@
-//! The laws of spelling. Each function does nothing: its contract is the law.
+//! The laws of fields and bits. Each function does nothing: its contract is the law.
 
 ghost use Rattle.balise_codec.specs.Laws.{FittingIsSpelt};
+ghost use Rattle.balise_codec.specs.TelegramLaws.{OneTelegram, ReadIsOf, RefusedIsNone, SpeltIsExplained};
 
 /// Values that fit are those of a packet, where their bits aren't too many and none stand after the fields of a known one.
 pub fn fitting_is_spelt()
     ensures { FittingIsSpelt }
+{}
+
+/// What is explained of a telegram is spelt as its bits, padding included: they are of its own fields, and no others are.
+pub fn explained_is_spelt()
+    ensures own { ReadIsOf }
+    ensures one { OneTelegram }
+{}
+
+/// What is spelt is explained as the same fields.
+pub fn spelt_is_explained()
+    ensures { SpeltIsExplained }
+{}
+
+/// Fields that are refused are no telegram's.
+pub fn refused_is_none()
+    ensures { RefusedIsNone }
 {}

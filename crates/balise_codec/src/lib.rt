@@ -1,20 +1,32 @@
 //! Packets and telegrams as lists of fields, and back.
 #![tactic(auto)]
 
+mod explain;
 mod fault;
+mod head;
+mod header;
 pub mod laws;
 mod misfit;
+mod placed;
 mod reach;
 mod spell;
 mod stop;
+mod telegram;
 mod trace;
 
 pub use balise_bits::Bits;
 pub use balise_layout::{LayoutFault, Packet};
 pub use balise_rules::Var;
+pub use balise_telegram::{Header, TelegramFault};
+pub use explain::{
+    PacketFields, TelegramFields, explain_header, explain_packets, explain_telegram,
+};
 pub use fault::SpellFault;
+pub use head::packet_fault;
 pub use misfit::{Misfit, find_misfit};
+pub use placed::Placed;
 pub use reach::{Reach, fields_to_fault};
 pub use spell::spell_packet;
 pub use stop::{Stop, packets_end};
+pub use telegram::{PacketValues, TelegramMisfit, spell_telegram};
 pub use trace::Due;

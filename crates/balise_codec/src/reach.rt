@@ -59,7 +59,7 @@ fn number_of(bits: &Bits, at: usize, end: usize) -> u32
 }
 
 // What was found, where the bits end at this place.
-fn reached(tracer: Tracer<'_>, end: usize) -> Reach
+pub(crate) fn reached(tracer: Tracer<'_>, end: usize) -> Reach
     requires { length tracer.left ≤ end }
     ensures at { result.at + length tracer.entry.left ≡ end }
     ensures due { result.due ≡ tracer.entry.due }

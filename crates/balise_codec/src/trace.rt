@@ -18,8 +18,8 @@ pub enum Due {
     Field(Var),
     /// The end, and bits are left.
     End,
-    /// Another value of the field before: its value is spare.
-    NotSpare,
+    /// Another value of the field before: its value is spare, or no packet's.
+    Another,
 }
 
 // Bits on their way along a packet's table.
@@ -114,7 +114,7 @@ impl<'a> Walk for Tracer<'a> {
     }
 
     fn spare(&mut self) -> LayoutFault {
-        self.due = Due::NotSpare;
+        self.due = Due::Another;
         LayoutFault::LayoutMismatch
     }
 }

@@ -3,4 +3,6 @@
 mod misfits;
 mod packets;
 mod reaches;
+mod spelt;
 mod stops;
+mod telegrams;

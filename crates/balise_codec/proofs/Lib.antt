@@ -8,3 +8,5 @@ pub mod Placing
 pub mod Composing
 pub mod TelegramLaws
 pub mod HeadsRead
+pub mod MisfitPlaces
+pub mod AllGiven

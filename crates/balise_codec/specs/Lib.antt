@@ -1,4 +1,5 @@
 pub mod Faults
+pub mod Given
 pub mod Stops
 pub mod Misfits
 pub mod Places

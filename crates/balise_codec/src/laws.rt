@@ -1,5 +1,6 @@
 //! The laws of fields and bits. Each function does nothing: its contract is the law.
 
+ghost use Rattle.balise_codec.specs.Given.{AllGiven};
 ghost use Rattle.balise_codec.specs.Laws.{FittingIsSpelt};
 ghost use Rattle.balise_codec.specs.TelegramLaws.{OneTelegram, ReadIsOf, RefusedIsNone, SpeltIsExplained};
 
@@ -22,4 +23,9 @@ pub fn spelt_is_explained()
 /// Fields that are refused are no telegram's.
 pub fn refused_is_none()
     ensures { RefusedIsNone }
+{}
+
+/// All values of a packet are given by it, L_PACKET among them.
+pub fn all_values_are_given()
+    ensures { AllGiven }
 {}

@@ -3,6 +3,7 @@
 
 mod explain;
 mod fault;
+mod given;
 mod head;
 mod header;
 pub mod laws;
@@ -22,6 +23,7 @@ pub use explain::{
     PacketFields, TelegramFields, explain_header, explain_packets, explain_telegram,
 };
 pub use fault::SpellFault;
+pub use given::spell_given;
 pub use head::packet_fault;
 pub use misfit::{Misfit, find_misfit};
 pub use placed::Placed;

@@ -1,7 +1,7 @@
 //! Packets spelt from their fields.
 
 use balise_bits::Bits;
-use balise_codec::{SpellFault, Var, spell_packet};
+use balise_codec::{Misfit, SpellFault, Var, spell_given, spell_packet};
 use std::alloc::Global;
 use std::process::Abort;
 
@@ -96,4 +96,43 @@ fn a_known_packet_has_no_rest(rt: HostRuntime) {
     let rest = first_bits(&rt, rt.alloc(), OPAQUE, 1);
     let fault = spell_packet(rt.alloc(), 33, &REVOCATION_VALUES, &rest).err();
     assert!(rt; fault == Some(SpellFault::BitsLeft));
+}
+
+// Values of packet 66 with L_PACKET, and the fault.
+const GIVEN: [(&[(Var, u32)], Option<SpellFault>); 5] = [
+    (
+        &[
+            (Var::NidPacket, 66),
+            (Var::QDir, 1),
+            (Var::LPacket, 31),
+            (Var::NidTsr, 5),
+        ],
+        None,
+    ),
+    (&REVOCATION_VALUES, None),
+    (
+        &[
+            (Var::NidPacket, 66),
+            (Var::QDir, 1),
+            (Var::LPacket, 30),
+            (Var::NidTsr, 5),
+        ],
+        Some(SpellFault::OtherLength(31)),
+    ),
+    (
+        &[(Var::NidPacket, 66), (Var::QDir, 1), (Var::LPacket, 31)],
+        Some(SpellFault::Misfit(3, Misfit::Missing(Var::NidTsr))),
+    ),
+    (
+        &[(Var::NidPacket, 66), (Var::QDir, 4), (Var::LPacket, 31)],
+        Some(SpellFault::Misfit(1, Misfit::TooWide)),
+    ),
+];
+
+#[test]
+fn a_length_that_is_given_is_compared(rt: HostRuntime) {
+    let none = Bits::new(rt.alloc());
+    for (values, fault) in &GIVEN {
+        assert!(rt; spell_given(rt.alloc(), 33, values, &none).err() == *fault);
+    }
 }

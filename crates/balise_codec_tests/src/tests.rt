@@ -1,5 +1,6 @@
 //! The tests, by topic.
 
+mod largest;
 mod misfits;
 mod packets;
 mod reaches;

@@ -40,7 +40,7 @@ const ROWS: [(&str, usize, usize); 5] = [
     ),
 ];
 
-fn bits_of(rt: &impl Abort, alloc: Global, digits: &str) -> Bits {
+pub(crate) fn bits_of(rt: &impl Abort, alloc: Global, digits: &str) -> Bits {
     Bits::from_hex(alloc, digits, 210).expect(rt, "digits")
 }
 
@@ -61,7 +61,7 @@ fn number(fields: &[Placed], i: usize) -> u32 {
     }
 }
 
-fn header_of(fields: &[Placed]) -> Header {
+pub(crate) fn header_of(fields: &[Placed]) -> Header {
     Header {
         q_updown: number(fields, 0),
         m_version: number(fields, 1),
@@ -89,7 +89,7 @@ fn values_of(rt: &impl Abort, alloc: Global, packet: &PacketFields) -> PacketVal
     }
 }
 
-fn spelt_again(rt: &impl Abort, bits: &Bits, telegram: &TelegramFields) -> Bits {
+pub(crate) fn spelt_again(rt: &impl Abort, bits: &Bits, telegram: &TelegramFields) -> Bits {
     let alloc = bits.allocator();
     let mut packets = Vec::new(alloc);
     for packet in telegram.packets.as_slice() {

@@ -9,6 +9,7 @@ ghost use Rattle.balise_telegram.specs.Faults.{refusal_of};
 use crate::fault::TelegramFault;
 use crate::header::Header;
 use crate::telegram::Telegram;
+use crate::telegram::contents::Contents;
 use balise_bits::Bits;
 use balise_layout::Packet;
 
@@ -30,8 +31,7 @@ impl Telegram {
         }
         check_packets(&bits, Header::version_in(&bits))?;
         Ok(Telegram {
-            packed: bits,
-            edited: None,
+            contents: Contents::Read(bits),
         })
     }
 

@@ -61,7 +61,7 @@ impl GroupReader {
             Ok(telegram) => telegram,
             Err(fault) => return Err(fault.refusal()),
         };
-        self.telegrams.push((place as u32, telegram))?;
+        self.telegrams.push(place as u32, telegram)?;
         Ok(())
     }
 

@@ -13,8 +13,11 @@ impl Group {
         ensures fault { IsOkUnless result Refusal.OutOfMemory }
     {
         let mut telegrams = OneOrMore::new(self.telegrams.allocator());
-        for (tag, telegram) in self.telegrams.as_slice() {
-            telegrams.push((*tag, telegram.copy()?))?;
+        for i in 0..self.telegrams.len() {
+            let Some((tag, telegram)) = self.telegrams.get(i) else {
+                break;
+            };
+            telegrams.push(tag, telegram.copy()?)?;
         }
         Ok(Group { telegrams })
     }

@@ -32,7 +32,7 @@ impl Group {
                 Ok(telegram) => telegram,
                 Err(fault) => return Err(fault.refusal()),
             };
-            read.push((tag, telegram))?;
+            read.push(tag, telegram)?;
             tag += 1;
         }
         Group::of_read(read)
@@ -68,7 +68,7 @@ fn agree(telegrams: &Telegrams, id: Id) -> bool
 {
     let last = telegrams.len().saturating_sub(1);
     for i in 0..telegrams.len() {
-        let telegram = &telegrams[i].1;
+        let telegram = &telegrams[i];
         let (place, total) = telegram.place_in_group();
         let own = telegram.identity();
         if (place as usize != i) | (total as usize != last) | (own != id) {

@@ -11,4 +11,5 @@ pub mod Narrow
 pub mod NarrowPlace
 pub mod Places
 pub mod Rows
+pub mod SmallPlace
 pub mod TagHashes

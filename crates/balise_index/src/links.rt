@@ -122,34 +122,17 @@ impl Links {
         let Some(narrow) = NarrowPlace::of(place) else {
             return Err(AllocError);
         };
-        match &mut self.held {
+        match &self.held {
             Held::Empty => {
                 self.held = Held::One(narrow);
+                Ok(())
             }
             Held::One(held) => {
                 self.held = one_with(*held, narrow);
+                Ok(())
             }
-            Held::Two(first, second) => {
-                let held = two_with(alloc, *first, *second, narrow)?;
-                self.held = held;
-            }
-            Held::Three(first, second, third) => {
-                let held = [first.narrow(), second.narrow(), third.narrow()];
-                let list = list_with(alloc, &held, narrow)?;
-                self.held = Held::Few(list);
-            }
-            Held::Few(list) => {
-                if list.len() < FEW {
-                    return list::insert(list, narrow);
-                }
-                let tree = tree_with(alloc, list, place)?;
-                self.held = Held::Many(tree);
-            }
-            Held::Many(tree) => {
-                tree.insert(place)?;
-            }
+            _ => insert_far(&mut self.held, alloc, narrow),
         }
-        Ok(())
     }
 
     /// Takes a place out. Takes no memory.
@@ -175,6 +158,45 @@ impl Links {
             }
         }
     }
+}
+
+// Puts a place in where it may take memory: a function of its own, as most are put in without any.
+#[inline(never)]
+fn insert_far(held: &mut Held, alloc: Global, place: NarrowPlace) -> Result<(), AllocError>
+    requires { IsOrdered compare_place (places_held held.old) }
+    ensures ordered { IsOrdered compare_place (places_held held.new) }
+    ensures put { OnOk result (Puts (places_held held.old) (places_held held.new) (wide_place place) true) }
+    ensures some { OnOk result (0 < btree_set_len (places_held held.new)) }
+    ensures unchanged { OnErr result (places_held held.new ≡ places_held held.old) }
+{
+    match held {
+        Held::Empty => {
+            *held = Held::One(place);
+        }
+        Held::One(one) => {
+            *held = one_with(*one, place);
+        }
+        Held::Two(first, second) => {
+            let three = two_with(alloc, *first, *second, place)?;
+            *held = three;
+        }
+        Held::Three(first, second, third) => {
+            let three = [first.narrow(), second.narrow(), third.narrow()];
+            let list = list_with(alloc, &three, place)?;
+            *held = Held::Few(list);
+        }
+        Held::Few(list) => {
+            if list.len() < FEW {
+                return list::insert(list, place);
+            }
+            let tree = tree_with(alloc, list, place.wide())?;
+            *held = Held::Many(tree);
+        }
+        Held::Many(tree) => {
+            tree.insert(place.wide())?;
+        }
+    }
+    Ok(())
 }
 
 // One place and another.

@@ -2,3 +2,4 @@ pub mod blocks
 pub mod identities
 pub mod order
 pub mod places
+pub mod tags

@@ -12,4 +12,5 @@ pub mod NarrowPlace
 pub mod Places
 pub mod Rows
 pub mod SmallPlace
+pub mod TagCode
 pub mod TagHashes

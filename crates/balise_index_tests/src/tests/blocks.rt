@@ -119,3 +119,51 @@ fn check_thousands(rt: &impl Abort, both: &mut Both) {
 fn thousands_of_values_stand_in_order(rt: HostRuntime) {
     check_thousands(&rt, &mut Both::new(rt.alloc()));
 }
+
+/// The last tags that have a code of their own, and the first and the last that have none.
+fn edges() -> [Tag; 8] {
+    [
+        Tag::Base(0),
+        Tag::Base(293999998),
+        Tag::Base(293999999),
+        Tag::Base(4294967295),
+        Tag::Fresh(0),
+        Tag::Fresh(4000000000),
+        Tag::Fresh(4000000001),
+        Tag::Fresh(4294967295),
+    ]
+}
+
+/// The place of a tag in the list, or the end.
+fn place_of(both: &Both, tag: Tag) -> usize {
+    for i in 0..both.list.len() {
+        if both.list[i].0 == tag {
+            return i;
+        }
+    }
+    both.list.len()
+}
+
+/// Puts each of these tags in among the others, and takes them out again.
+fn check_edges(rt: &impl Abort, both: &mut Both) {
+    for tag in &edges() {
+        let middle = both.list.len() / 2;
+        put_both(rt, both, middle, *tag);
+        assert!(rt; both.are_same());
+    }
+    for tag in &edges() {
+        let i = place_of(both, *tag);
+        take_both(rt, both, i);
+        assert!(rt; both.are_same());
+    }
+}
+
+#[test]
+fn tags_without_a_code_of_their_own(rt: HostRuntime) {
+    let mut both = Both::new(rt.alloc());
+    put_last(&rt, &mut both, 1, 400);
+    for _ in 0..3 {
+        check_edges(&rt, &mut both);
+        assert!(&rt; both.map.len() == 399);
+    }
+}

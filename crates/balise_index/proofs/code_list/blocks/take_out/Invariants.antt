@@ -1,7 +1,7 @@
 use Rattle.std.proofs.Common.{◌≡◌, remove, vec_len, vec_capacity}
 use Rattle.balise_index.specs.Blocks.{flat}
 use Rattle.balise_index.proofs.blocks.Starts.{Lowered}
-use Rattle.balise_index.proofs.tag_list.blocks.take_out.Given as goal
+use Rattle.balise_index.proofs.code_list.blocks.take_out.Given as goal
 
 abbrev pub invariant-loop-k : goal.invariant-loop-k
 invariant-loop-k l = record {

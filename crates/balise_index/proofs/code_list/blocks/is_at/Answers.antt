@@ -1,7 +1,7 @@
 use Rattle.std.proofs.Common.{◌+◌, ◌<◌, length, arith}
 use Rattle.std.proofs.lemmas.Bool.{ltb-true}
 use Rattle.balise_index.proofs.blocks.Laid.{found}
-use Rattle.balise_index.proofs.tag_list.blocks.is_at.Goals as goal
+use Rattle.balise_index.proofs.code_list.blocks.is_at.Goals as goal
 
 pub returns-then-b-count-2 : goal.returns-then-b-count-2
 returns-then-b-count-2 c =

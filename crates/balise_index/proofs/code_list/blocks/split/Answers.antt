@@ -1,6 +1,6 @@
 use Rattle.std.proofs.Common.{arith}
 use Rattle.balise_index.proofs.blocks.Laid.{found}
-use Rattle.balise_index.proofs.tag_list.blocks.split.Goals as goal
+use Rattle.balise_index.proofs.code_list.blocks.split.Goals as goal
 
 pub overflow_sub-at : goal.overflow_sub-at
 overflow_sub-at c =
@@ -9,7 +9,7 @@ overflow_sub-at c =
 pub cut_at-requires-clause-part : goal.cut_at-requires-clause-part
 cut_at-requires-clause-part c =
     let g = found c.args.b c.args.blocks.now.items c.index-2.result.now c.requires.laid c.requires.there.within c.index-2.ensures in
-    omega (arith, g.next, c.len-len.ensures, c.index-2.result.now.tags.ok.0)
+    omega (arith, g.next, c.len-len.ensures, c.index-2.result.now.codes.ok.0)
 
 pub returns-then-at-len-clause-there : goal.returns-then-at-len-clause-there
 returns-then-at-len-clause-there c =
@@ -25,12 +25,12 @@ pub returns-then-at-len-clause-room : goal.returns-then-at-len-clause-room
 returns-then-at-len-clause-room c =
     let g = found c.args.b c.args.blocks.now.items c.index-2.result.now c.requires.laid c.requires.there.within c.index-2.ensures in
     let cut = c.cut_at.ensures in
-    omega (arith, cut.second, cut.third, g.next, c.len-len.ensures, c.index-2.result.now.tags.ok.0)
+    omega (arith, cut.second, cut.third, g.next, c.len-len.ensures, c.index-2.result.now.codes.ok.0)
 
 pub cut_at-requires-2-clause-part : goal.cut_at-requires-2-clause-part
 cut_at-requires-2-clause-part c =
     let g = found c.args.b c.args.blocks.now.items c.index-2.result.now c.requires.laid c.requires.there.within c.index-2.ensures in
-    omega (arith, g.next, c.len-len.ensures, c.index-2.result.now.tags.ok.0)
+    omega (arith, g.next, c.len-len.ensures, c.index-2.result.now.codes.ok.0)
 
 pub returns-then-at-half-clause-there : goal.returns-then-at-half-clause-there
 returns-then-at-half-clause-there c =
@@ -45,7 +45,7 @@ pub returns-then-at-half-clause-room : goal.returns-then-at-half-clause-room
 returns-then-at-half-clause-room c =
     let g = found c.args.b c.args.blocks.now.items c.index-2.result.now c.requires.laid c.requires.there.within c.index-2.ensures in
     let cut = c.cut_at-2.ensures in
-    omega (arith, cut.second, cut.third, g.next, g.few, c.len-len.ensures, c.index-2.result.now.tags.ok.0)
+    omega (arith, cut.second, cut.third, g.next, g.few, c.len-len.ensures, c.index-2.result.now.codes.ok.0)
 
 pub returns-else-at-half-clause-there : goal.returns-else-at-half-clause-there
 returns-else-at-half-clause-there c =
@@ -60,4 +60,4 @@ pub returns-else-at-half-clause-room : goal.returns-else-at-half-clause-room
 returns-else-at-half-clause-room c =
     let g = found c.args.b c.args.blocks.now.items c.index-2.result.now c.requires.laid c.requires.there.within c.index-2.ensures in
     let cut = c.cut_at-2.ensures in
-    omega (arith, cut.first, cut.second, g.next, g.few, c.len-len.ensures, c.index-2.result.now.tags.ok.0)
+    omega (arith, cut.first, cut.second, g.next, g.few, c.len-len.ensures, c.index-2.result.now.codes.ok.0)

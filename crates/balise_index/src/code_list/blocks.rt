@@ -1,10 +1,9 @@
-//! Blocks of tags one after another.
+//! Blocks of codes one after another.
 
 ghost use Rattle.std.specs.Prelude.{◌≡◌, ◌≤◌, ◌<◌, ◌+◌, ◌-◌, ◌^◌, IsTrue, length, take, drop, insert, remove, [], vec_capacity, vec_len};
 ghost use Rattle.balise_index.specs.Blocks.{flat, before, Laid, IsAt, IsIn, IsCut, RoomIn};
 
-use crate::tag_list::{Block, MOST};
-use balise_rules::Tag;
+use crate::code_list::{Block, MOST};
 
 /// The last block that begins at a place or before it. Where each block was filled before the next was begun, it is seen
 /// at once.
@@ -55,9 +54,9 @@ fn halved(blocks: &Vec<Block>, i: usize) -> usize
     b
 }
 
-/// Cuts a full block in two, or begins another after it where a place is after all its tags. Returns the block that the
+/// Cuts a full block in two, or begins another after it where a place is after all its codes. Returns the block that the
 /// place is in.
-pub(super) fn split(blocks: &mut Vec<Block>, spare: Vec<Tag>, b: usize, i: usize) -> usize
+pub(super) fn split(blocks: &mut Vec<Block>, spare: Vec<u32>, b: usize, i: usize) -> usize
     requires laid { Laid 0 blocks.old.items }
     requires there { IsIn i b blocks.old.items }
     requires fits { length (flat blocks.old.items) < 2 ^ 63 }
@@ -70,7 +69,7 @@ pub(super) fn split(blocks: &mut Vec<Block>, spare: Vec<Tag>, b: usize, i: usize
     ensures room { RoomIn result blocks.new.items }
 {
     let at = i - blocks[b].start;
-    let len = blocks[b].tags.len();
+    let len = blocks[b].codes.len();
     if at == len {
         cut_at(blocks, spare, b, len);
         return b + 1;
@@ -80,8 +79,8 @@ pub(super) fn split(blocks: &mut Vec<Block>, spare: Vec<Tag>, b: usize, i: usize
     if at > half { b + 1 } else { b }
 }
 
-// Cuts a block in two: all but its first tags go to a block of their own after it.
-fn cut_at(blocks: &mut Vec<Block>, spare: Vec<Tag>, b: usize, cut: usize)
+// Cuts a block in two: all but its first codes go to a block of their own after it.
+fn cut_at(blocks: &mut Vec<Block>, spare: Vec<u32>, b: usize, cut: usize)
     requires laid { Laid 0 blocks.old.items }
     requires within { b < length blocks.old.items }
     requires part { before b blocks.old.items + cut ≤ before (b + 1) blocks.old.items }
@@ -92,46 +91,46 @@ fn cut_at(blocks: &mut Vec<Block>, spare: Vec<Tag>, b: usize, cut: usize)
     ensures { IsCut b cut blocks.old.items blocks.new.items }
 {
     let start = blocks[b].start + cut;
-    let tags = take_rest(&mut blocks[b].tags, spare, cut);
-    let _ = blocks.insert(b + 1, Block { start, tags });
+    let codes = take_rest(&mut blocks[b].codes, spare, cut);
+    let _ = blocks.insert(b + 1, Block { start, codes });
 }
 
-// Takes out all but the first tags, into a list that has room.
-fn take_rest(tags: &mut Vec<Tag>, room: Vec<Tag>, first: usize) -> Vec<Tag>
-    requires within { first ≤ length tags.old.items }
-    requires few { length tags.old.items ≤ 512 }
+// Takes out all but the first codes, into a list that has room.
+fn take_rest(codes: &mut Vec<u32>, room: Vec<u32>, first: usize) -> Vec<u32>
+    requires within { first ≤ length codes.old.items }
+    requires few { length codes.old.items ≤ 512 }
     requires empty { room.items ≡ [] }
     requires room { 512 ≤ vec_capacity room }
-    ensures first { tags.new.items ≡ take first tags.old.items }
-    ensures rest { result.items ≡ drop first tags.old.items }
-    ensures same { vec_capacity tags.new ≡ vec_capacity tags.old }
+    ensures first { codes.new.items ≡ take first codes.old.items }
+    ensures rest { result.items ≡ drop first codes.old.items }
+    ensures same { vec_capacity codes.new ≡ vec_capacity codes.old }
     ensures room { 512 ≤ vec_capacity result }
 {
     let mut rest = room;
-    let _ = rest.extend_from_slice(&tags.as_slice()[first..]);
-    tags.truncate(first);
+    let _ = rest.extend_from_slice(&codes.as_slice()[first..]);
+    codes.truncate(first);
     rest
 }
 
-/// Puts a tag in among those of a block that isn't full.
-pub(super) fn put_in(blocks: &mut Vec<Block>, b: usize, i: usize, tag: Tag)
+/// Puts a code in among those of a block that isn't full.
+pub(super) fn put_in(blocks: &mut Vec<Block>, b: usize, i: usize, code: u32)
     requires laid { Laid 0 blocks.old.items }
     requires there { IsIn i b blocks.old.items }
     requires fits { length (flat blocks.old.items) < 2 ^ 63 }
     requires room { RoomIn b blocks.old.items }
     ensures laid { Laid 0 blocks.new.items }
-    ensures put { flat blocks.new.items ≡ insert (flat blocks.old.items) i tag }
+    ensures put { flat blocks.new.items ≡ insert (flat blocks.old.items) i code }
     ensures len { vec_len blocks.new ≡ vec_len blocks.old }
     ensures capacity { vec_capacity blocks.new ≡ vec_capacity blocks.old }
 {
     let at = i - blocks[b].start;
-    let _ = blocks[b].tags.insert(at, tag);
+    let _ = blocks[b].codes.insert(at, code);
     for k in b + 1..blocks.len() {
         blocks[k].start += 1;
     }
 }
 
-/// Takes a tag out of those of a block.
+/// Takes a code out of those of a block.
 pub(super) fn take_out(blocks: &mut Vec<Block>, b: usize, i: usize)
     requires laid { Laid 0 blocks.old.items }
     requires there { IsIn i b blocks.old.items }
@@ -142,7 +141,7 @@ pub(super) fn take_out(blocks: &mut Vec<Block>, b: usize, i: usize)
     ensures capacity { vec_capacity blocks.new ≡ vec_capacity blocks.old }
 {
     let at = i - blocks[b].start;
-    let _ = blocks[b].tags.remove(at);
+    let _ = blocks[b].codes.remove(at);
     for k in b + 1..blocks.len() {
         blocks[k].start -= 1;
     }

@@ -1,6 +1,6 @@
 use Rattle.std.proofs.Common.{◌-◌, ◌<◌, ◌≤◌, length}
 use Rattle.balise_index.specs.Blocks.{before}
-use Rattle.balise_index.proofs.tag_list.blocks.halved.Given as goal
+use Rattle.balise_index.proofs.code_list.blocks.halved.Given as goal
 
 abbrev pub invariant-halves : goal.invariant-halves
 invariant-halves l = record {

@@ -1,8 +1,8 @@
 use Rattle.std.proofs.Common.{◌≡◌, ◌∙◌, ◌+◌, ◌-◌, ◌<◌, length, remove, arith, refl, ap, ℕ}
-use Rattle.balise_index.specs.declared.tag_list.Block.{Block}
+use Rattle.balise_index.specs.declared.code_list.Block.{Block}
 use Rattle.balise_index.proofs.blocks.Laid.{found, Like}
 use Rattle.balise_index.proofs.blocks.Starts.{lowered_all, lowered_first, lowered_next, lowered_start, same_next, taken_first}
-use Rattle.balise_index.proofs.tag_list.blocks.take_out.Goals as goal
+use Rattle.balise_index.proofs.code_list.blocks.take_out.Goals as goal
 
 pub overflow_sub-at : goal.overflow_sub-at
 overflow_sub-at c =
@@ -13,19 +13,19 @@ remove-requires c =
     let bs = c.args.blocks.now.items in
     let f = found c.args.b bs c.index.result.now c.requires.laid c.requires.there.within c.index.ensures in
     let m = found c.args.b bs c.index_mut.result.now c.requires.laid c.requires.there.within c.index_mut.ensures.value in
-    omega (arith, f.start, m.next, c.requires.less, c.requires.there.begun, c.index_mut.result.now.tags.ok.0)
+    omega (arith, f.start, m.next, c.requires.less, c.requires.there.begun, c.index_mut.result.now.codes.ok.0)
 
 pub loop-k-init : goal.loop-k-init
 loop-k-init c =
     let bs = c.args.blocks.now.items in
     let x = c.index_mut.result.now in
-    let y : Block = record { start = x.start; tags = c.remove.new.self } in
+    let y : Block = record { start = x.start; codes = c.remove.new.self } in
     let m = found c.args.b bs x c.requires.laid c.requires.there.within c.index_mut.ensures.value in
-    let less : length x.tags.items ≡ length y.tags.items + 1 = omega (arith, c.remove.ensures.len, x.tags.ok.0, c.remove.new.self.ok.0) in
+    let less : length x.codes.items ≡ length y.codes.items + 1 = omega (arith, c.remove.ensures.len, x.codes.ok.0, c.remove.new.self.ok.0) in
     let like : Like x y = record { start = refl; few = omega (arith, less, m.few); room = omega (arith, m.room, c.remove.ensures.capacity) } in
     let f = found c.args.b bs c.index.result.now c.requires.laid c.requires.there.within c.index.ensures in
     let start : c.index.result.now.start ≡ x.start = omega (arith, f.start, m.start) in
-    let items = c.remove.ensures.items ∙ ap (λ (n : ℕ). remove x.tags.items (c.args.i - n)) start in
+    let items = c.remove.ensures.items ∙ ap (λ (n : ℕ). remove x.codes.items (c.args.i - n)) start in
     record {
       len = refl;
       capacity = refl;

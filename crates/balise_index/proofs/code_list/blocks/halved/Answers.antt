@@ -1,6 +1,6 @@
 use Rattle.std.proofs.Common.{◌+◌, ◌-◌, ◌/◌, ◌<◌, length, arith, ℕ}
 use Rattle.balise_index.proofs.blocks.Laid.{found}
-use Rattle.balise_index.proofs.tag_list.blocks.halved.Goals as goal
+use Rattle.balise_index.proofs.code_list.blocks.halved.Goals as goal
 
 pub halves-preserved-then-index-i : goal.halves-preserved-then-index-i
 halves-preserved-then-index-i c =

@@ -2,8 +2,7 @@
 
 ghost use Rattle.std.specs.Prelude.{◌≡◌, IfOk, IsOkUnless};
 
-use balise_bits::Bits;
-use balise_layout::Packet;
+use balise_plan::{Bits, Packet};
 use balise_rules::{Id, Refusal};
 
 /// A packet once more.

@@ -5,8 +5,7 @@ ghost use Rattle.balise_rules.specs.Behind.{anchor_of, anchored};
 ghost use Rattle.balise_edits.specs.Edits.{edit_of};
 
 use crate::copying::{copy_placed_packet, copy_telegrams};
-use balise_bits::Bits;
-use balise_layout::Packet;
+use balise_plan::{Bits, Packet};
 use balise_rules::{Refusal, Tag, Var};
 
 /// An edit of a plan, by tags: `g` of a group, `t` of a telegram, `p` of a packet. `after` is the anchor, directly

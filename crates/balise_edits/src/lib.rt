@@ -19,10 +19,10 @@ mod path;
 mod reviewing;
 
 pub use applying::{again, apply, take_back};
-pub use balise_commands::{Line, LineEdit, Noted};
+pub use balise_commands::{Command, Line, LineEdit, Noted};
 pub use balise_plan::{
-    Bits, Group, GroupTag, Id, LinkPlace, Packet, PacketTag, Plan, Refusal, Refusal as EditFault,
-    Spot, Tag, Telegram, Var,
+    Address, Bits, Group, GroupReader, GroupTag, Id, LinkPlace, Links, Packet, PacketTag, Place,
+    Plan, Refusal, Refusal as EditFault, Spot, Tag, Telegram, Var,
 };
 pub use balise_rules::{ReviewLine, Reviewed};
 pub use counting::count_apart;

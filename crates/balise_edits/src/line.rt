@@ -8,9 +8,8 @@ ghost use Rattle.balise_edits.specs.Edits.{edit_of};
 use crate::copying::copy_telegrams;
 use crate::edit::Edit;
 use crate::entry::Entry;
-use balise_bits::Bits;
 use balise_commands::{Line, LineEdit, Noted};
-use balise_layout::Packet;
+use balise_plan::{Bits, Packet};
 use balise_rules::Refusal;
 use std::alloc::Global;
 

@@ -6,9 +6,8 @@ ghost use Rattle.balise_rules.specs.Plan.{read_group, IsSoundGroup};
 
 use crate::group::{Group, Telegrams};
 use crate::one_or_more::OneOrMore;
-use balise_bits::Bits;
 use balise_rules::Refusal;
-use balise_telegram::Telegram;
+use balise_telegram::{Bits, Telegram};
 use std::alloc::Global;
 use std::marker::Model;
 

@@ -5,8 +5,7 @@ ghost use Rattle.balise_edits.specs.Notes.{kind_of, with_group, with_packet, OfD
 
 use crate::entry::Entry;
 use crate::note::Note;
-use balise_layout::Packet;
-use balise_plan::Group;
+use balise_plan::{Group, Packet};
 
 impl Entry {
     /// The packet that was taken out, if the entry has one; it has none then.

@@ -15,8 +15,7 @@ use crate::edit::Edit;
 use crate::entry::Entry;
 use crate::naming::add_packet;
 use crate::note::{Note, TakenPacket};
-use balise_layout::Packet;
-use balise_plan::{Plan, Spot};
+use balise_plan::{Packet, Plan, Spot};
 use balise_rules::{Refusal, Tag};
 use std::alloc::Global;
 

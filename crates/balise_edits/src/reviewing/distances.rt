@@ -8,10 +8,8 @@ ghost use Rattle.balise_rules.specs.Variables.{is_distance};
 ghost use Rattle.balise_layout.specs.Collected.{all_keyed};
 ghost use Rattle.balise_edits.specs.Reviews.{distances, packet_lines, telegram_lines};
 
-use balise_layout::is_known;
-use balise_plan::Group;
+use balise_plan::{Group, PacketRef, Telegram, is_known};
 use balise_rules::{Id, Refusal, ReviewLine, Reviewed, Var};
-use balise_telegram::{PacketRef, Telegram};
 
 /// Lists those of a group as it will be once turned, its telegrams from the last to the first.
 pub(crate) fn add_distances(found: &mut Vec<ReviewLine>, group: &Group) -> Result<(), Refusal>

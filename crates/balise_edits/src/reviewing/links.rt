@@ -9,9 +9,8 @@ ghost use Rattle.balise_rules.specs.Plan.{country_of, identity_of, IsSound, IsSo
 ghost use Rattle.balise_rules.specs.Review.{distance_of, lines_at};
 ghost use Rattle.balise_edits.specs.Reviews.{group_links, links_of, named_in, packet_links, telegram_links, HasLinking, HasPlaces};
 
-use balise_plan::{Group, Links, Plan};
+use balise_plan::{Group, Links, PacketRef, Plan, Telegram};
 use balise_rules::{Id, Refusal, ReviewLine, Reviewed, Tag, Var};
-use balise_telegram::{PacketRef, Telegram};
 use std::collections::BTreeSet;
 
 /// Lists the links to an identity, of the plan as it will be once a group is turned. Only the groups that have such a

@@ -12,8 +12,7 @@ ghost use Rattle.balise_rules.specs.Opening.{edit_in, last_serial};
 use crate::digits::packet_in;
 use crate::edited::EditedPlan;
 use crate::history::History;
-use balise_edits::{Edit, Entry, Line, LineEdit, Noted, apply};
-use balise_plan::Plan;
+use balise_edits::{Edit, Entry, Line, LineEdit, Noted, Plan, apply};
 use balise_rules::Refusal;
 
 // Whether two lines say the same of the plan before their edits.

@@ -11,8 +11,8 @@ ghost use Rattle.balise_telegram.specs.Moving.{TakesOut};
 
 use crate::group::{Group, Telegrams};
 use crate::links::change::Change;
-use balise_layout::Packet;
 use balise_rules::{Id, Refusal, Tag, Var};
+use balise_telegram::Packet;
 
 impl Group {
     /// Sets a field of a packet of one telegram.

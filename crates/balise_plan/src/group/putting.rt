@@ -12,9 +12,8 @@ ghost use Rattle.balise_telegram.specs.Changes.{OrWants};
 
 use crate::group::Group;
 use balise_index::Spot;
-use balise_layout::Packet;
 use balise_rules::{Refusal, Tag, Var};
-use balise_telegram::{Telegram, TelegramFault};
+use balise_telegram::{Packet, Telegram, TelegramFault};
 
 impl Group {
     /// NID_C of one telegram, of 10 bits.

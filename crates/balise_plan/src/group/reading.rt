@@ -6,9 +6,8 @@ ghost use Rattle.balise_rules.specs.Plan.{agree_from, read_group, IsSoundGroup};
 
 use crate::group::{Group, Telegrams, identity};
 use crate::one_or_more::OneOrMore;
-use balise_bits::Bits;
 use balise_rules::{Id, NO_GROUP, Refusal};
-use balise_telegram::Telegram;
+use balise_telegram::{Bits, Telegram};
 use std::alloc::Global;
 
 impl Group {

@@ -15,8 +15,8 @@ use crate::links::packet::{add_packet, forget_packet};
 use crate::packet_place::PacketPlace;
 use crate::plan::Plan;
 use balise_index::Spot;
-use balise_layout::Packet;
 use balise_rules::{Refusal, Tag};
+use balise_telegram::Packet;
 
 impl Plan {
     /// Puts a packet into a telegram under a tag that is new there. The packet is spelt in the telegram's version.

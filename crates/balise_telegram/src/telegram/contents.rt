@@ -7,7 +7,7 @@ ghost use Rattle.balise_telegram.specs.Shown.{kept_of, packed_of, IsOver, Stands
 
 use crate::fault::TelegramFault;
 use crate::telegram::edited::{Edited, edited_read};
-use balise_bits::Bits;
+use balise_layout::Bits;
 use std::mem;
 
 /// The bits that a telegram shows: alone, as they were read, or beside what is kept of its edits.

@@ -10,7 +10,7 @@ ghost use Rattle.balise_telegram.specs.declared.telegram.walking.Place.{Place};
 use crate::PacketTag;
 use crate::fault::TelegramFault;
 use crate::telegram::walking::{Place, ends, walk};
-use balise_bits::Bits;
+use balise_layout::Bits;
 use std::alloc::Global;
 
 /// The tags of a telegram's packets in order, its ground, which are the bits that it shows where no packet stands, and

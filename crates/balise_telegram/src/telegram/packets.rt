@@ -19,8 +19,7 @@ use crate::telegram::Telegram;
 use crate::telegram::contents::{Contents, EditedBits};
 use crate::telegram::edited::Edited;
 use crate::telegram::walking::{Place, first};
-use balise_bits::Bits;
-use balise_layout::Packet;
+use balise_layout::{Bits, Packet};
 
 impl Telegram {
     /// How many bits of padding it shows, which is the room for further packets.

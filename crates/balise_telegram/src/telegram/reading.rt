@@ -10,8 +10,7 @@ use crate::fault::TelegramFault;
 use crate::header::Header;
 use crate::telegram::Telegram;
 use crate::telegram::contents::Contents;
-use balise_bits::Bits;
-use balise_layout::Packet;
+use balise_layout::{Bits, Packet};
 
 impl Telegram {
     /// The telegram that these bits are, its packets tagged `Base` by their places, from 0. Takes no memory.

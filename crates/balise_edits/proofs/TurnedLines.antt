@@ -11,7 +11,8 @@ use Rattle.balise_rules.specs.declared.variable.Var.TheVariants.{NidPacket, NidB
 use Rattle.balise_rules.specs.declared.review.Reviewed.{Reviewed}
 use Rattle.balise_rules.specs.declared.review.Reviewed.TheVariants.{Field, Opaque}
 use Rattle.balise_rules.specs.declared.review.ReviewLine.{ReviewLine}
-use Rattle.balise_rules.specs.Edits.{TurnGroup, field_after, packet_after, telegram_after, group_after}
+use Rattle.balise_rules.specs.Edits.{field_after, packet_after, telegram_after, group_after}
+use Rattle.balise_rules.specs.declared.tagged_edit.TaggedEdit.TheVariants.{TurnGroup}
 use Rattle.balise_rules.specs.Forms.{Fields}
 use Rattle.balise_rules.specs.Names.{calls, elements_among}
 use Rattle.balise_rules.specs.Notes.{noted}

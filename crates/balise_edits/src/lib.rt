@@ -26,7 +26,7 @@ pub use balise_plan::{
 };
 pub use balise_rules::{ReviewLine, Reviewed};
 pub use counting::count_apart;
-pub use edit::Edit;
+pub use edit::{Edit, copy_edit};
 pub use entry::Entry;
 pub use independence::{apart, independent, re_anchor, stands_behind};
 pub use listing::{changed_places, needed_places};

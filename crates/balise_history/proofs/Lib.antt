@@ -22,3 +22,4 @@ pub mod Fitting
 pub mod Tested
 pub mod TestedTo
 pub mod Resolved
+mod Mismatching

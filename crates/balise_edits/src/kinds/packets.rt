@@ -3,7 +3,7 @@
 ghost use Rattle.std.specs.Prelude.{◌≡◌, ◌<◌, ◌^◌, Option, IfOk};
 ghost use Rattle.balise_rules.specs.declared.tag.Tag.{Tag};
 ghost use Rattle.balise_rules.specs.Accepting.{Spelt, Unused};
-ghost use Rattle.balise_rules.specs.Edits.{DeletePacket, InsertPacket, MovePacket};
+ghost use Rattle.balise_rules.specs.declared.tagged_edit.TaggedEdit.TheVariants.{DeletePacket, InsertPacket, MovePacket};
 ghost use Rattle.balise_rules.specs.Notes.{noted};
 ghost use Rattle.balise_rules.specs.Packet.{Packet};
 ghost use Rattle.balise_plan.specs.Held.{Does};

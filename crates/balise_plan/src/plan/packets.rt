@@ -1,7 +1,7 @@
 //! Packets of a plan put in, taken out and moved.
 
 ghost use Rattle.std.specs.Prelude.{◌≡◌, IfOk, Some, None};
-ghost use Rattle.balise_rules.specs.Edits.{DeletePacket, MovePacket};
+ghost use Rattle.balise_rules.specs.declared.tagged_edit.TaggedEdit.TheVariants.{DeletePacket, MovePacket};
 ghost use Rattle.balise_rules.specs.Notes.{noted};
 ghost use Rattle.balise_rules.specs.Packet.{IsSpelt};
 ghost use Rattle.balise_rules.specs.Plan.{telegram_at};

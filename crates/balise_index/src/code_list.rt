@@ -1,4 +1,4 @@
-//! Codes of codes in order, in blocks, so that one put in or taken out moves few others.
+//! Codes in order, in blocks, so that one put in or taken out moves few others.
 
 mod block_names;
 mod blocks;

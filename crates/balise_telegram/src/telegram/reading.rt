@@ -53,19 +53,18 @@ fn check_packets(bits: &Bits, version: u32) -> Result<(), TelegramFault>
 {
     let mut at = 50;
     'packets: loop {
-        if bits.len() - at < 8 {
-            return Err(TelegramFault::NoEnd);
-        }
-        let number = bits.number(at, 8);
-        if number == 255 {
-            return Ok(());
-        }
-        if number == 0 {
-            return Err(TelegramFault::PacketZero);
-        }
+        // It reads the number too. So packet 255, which is none, is looked for only where it finds a fault.
         let end = match Packet::check(bits, at, version) {
             Ok(end) => end,
-            Err(fault) => return Err(TelegramFault::from(fault)),
+            Err(fault) => {
+                if bits.len() - at < 8 {
+                    return Err(TelegramFault::NoEnd);
+                }
+                if bits.number(at, 8) == 255 {
+                    return Ok(());
+                }
+                return Err(TelegramFault::from(fault));
+            }
         };
         at = end;
     }

@@ -12,7 +12,7 @@ use Rattle.balise_rules.specs.Packet.{Packet, field_of, value, IsSpelt}
 use Rattle.balise_rules.specs.Telegram.{Telegram, version_of}
 use Rattle.balise_rules.specs.Plan.{Plan, country_of, telegram_at, IsSound}
 use Rattle.balise_rules.specs.Names.{country_at, is_real}
-use Rattle.balise_rules.specs.declared.tagged_edit.TaggedEdit.TheVariants.{SetVar}
+use Rattle.balise_rules.specs.Edits.{SetVar}
 use Rattle.balise_rules.specs.Notes.{noted, note_at, set_note, names_set}
 use Rattle.balise_rules.specs.Accepting.{Accepted}
 use Rattle.balise_rules.proofs.Accepted.{accepted_here}

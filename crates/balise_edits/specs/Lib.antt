@@ -5,3 +5,4 @@ pub mod Needs
 pub mod Homes
 pub mod Anchors
 pub mod Standing
+pub mod Reviews

@@ -4,7 +4,6 @@ use Rattle.balise_rules.specs.declared.identity.Id.{Id}
 use Rattle.balise_rules.specs.Packet.{Packet}
 use Rattle.balise_rules.specs.Plan.{Group}
 use Rattle.balise_rules.specs.Edits as rules
-use Rattle.balise_rules.specs.declared.tagged_edit.TaggedEdit.TheVariants as variants
 use Rattle.balise_rules.specs.Notes as notes
 use Rattle.balise_rules.specs.Notes.{nothing}
 use Rattle.balise_edits.specs.declared.note.Names.{Names}
@@ -45,15 +44,15 @@ pub data Kind : Type 0 where
 
 -- the kind of note that an edit has
 abbrev pub kind_of : rules.Edit → Kind
-kind_of (variants.SetVar g t p v k n) = OfField
-kind_of (variants.SetHead g t v n) = OfHeader
-kind_of (variants.InsertPacket g t a x) = OfInsertion
-kind_of (variants.DeletePacket g t p) = OfDeletion
-kind_of (variants.MovePacket g t p a) = OfMove
-kind_of (variants.AddGroup a bs) = OfAddition
-kind_of (variants.DropGroup g) = OfRemoval
-kind_of (variants.Renumber g n) = OfGroup
-kind_of (variants.TurnGroup g) = OfGroup
+kind_of (rules.SetVar g t p v k n) = OfField
+kind_of (rules.SetHead g t v n) = OfHeader
+kind_of (rules.InsertPacket g t a x) = OfInsertion
+kind_of (rules.DeletePacket g t p) = OfDeletion
+kind_of (rules.MovePacket g t p a) = OfMove
+kind_of (rules.AddGroup a bs) = OfAddition
+kind_of (rules.DropGroup g) = OfRemoval
+kind_of (rules.Renumber g n) = OfGroup
+kind_of (rules.TurnGroup g) = OfGroup
 
 -- the kind of a note
 abbrev pub kind_in : Note → Kind
@@ -79,6 +78,6 @@ with_group ys m = record m { group = ys }
 
 -- whether an edit takes something out of the plan
 abbrev pub takes_out : rules.Edit → Bool
-takes_out (variants.DeletePacket g t p) = true
-takes_out (variants.DropGroup g) = true
+takes_out (rules.DeletePacket g t p) = true
+takes_out (rules.DropGroup g) = true
 takes_out e = false

@@ -2,7 +2,8 @@
 
 ghost use Rattle.std.specs.Prelude.{◌≡◌, IfOk, IsOkUnless};
 
-use balise_plan::{Bits, Packet};
+use balise_bits::Bits;
+use balise_layout::Packet;
 use balise_rules::{Id, Refusal};
 
 /// A packet once more.

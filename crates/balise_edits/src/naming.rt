@@ -3,7 +3,7 @@
 ghost use Rattle.std.specs.Prelude.{◌≡◌, ◌++◌, [], ◌∷◌, filter, slice_get, Some, None, IfOk, IsOkUnless, OnOk};
 ghost use Rattle.balise_rules.specs.declared.variable.Var.TheVariants.{NidBg, QLinkorientation};
 ghost use Rattle.balise_rules.specs.Accepting.{Accepted};
-ghost use Rattle.balise_rules.specs.declared.tagged_edit.TaggedEdit.TheVariants.{SetVar};
+ghost use Rattle.balise_rules.specs.Edits.{SetVar};
 ghost use Rattle.balise_rules.specs.Names.{is_real, names_in, names_in_packets, names_of};
 ghost use Rattle.balise_rules.specs.Notes.{noted};
 ghost use Rattle.balise_rules.specs.Plan.{country_of, telegram_at, IsSound};

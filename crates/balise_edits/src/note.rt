@@ -4,7 +4,8 @@ ghost use Rattle.std.specs.Prelude.{◌≡◌, IfOk, IsOkUnless};
 ghost use Rattle.balise_edits.specs.Notes.{kind_in, names_in, note_of};
 
 use crate::copying::{copy_names, copy_packet, copy_placed_names};
-use balise_plan::{Group, Packet};
+use balise_layout::Packet;
+use balise_plan::Group;
 use balise_rules::{Id, Refusal, Tag};
 
 /// The identities that a setting has to do with: the old and the new one of a link, or of an orientation the link's.

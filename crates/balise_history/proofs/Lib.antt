@@ -22,4 +22,3 @@ pub mod Fitting
 pub mod Tested
 pub mod TestedTo
 pub mod Resolved
-mod Mismatching

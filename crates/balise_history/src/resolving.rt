@@ -12,8 +12,12 @@ ghost use Rattle.balise_rules.specs.Tags.{same_tag};
 ghost use Rattle.balise_rules.specs.Telegram.{Telegram};
 
 use crate::digits::packet_in;
-use balise_edits::{Bits, Command, Edit, Plan, Telegram};
+use balise_bits::Bits;
+use balise_commands::Command;
+use balise_edits::Edit;
+use balise_plan::Plan;
 use balise_rules::{Address, Id, Place, Refusal, Tag};
+use balise_telegram::Telegram;
 
 // The tag of the group of an identity.
 fn group_at(plan: &Plan, id: Id) -> Result<Tag, Refusal>

@@ -2,4 +2,3 @@ pub mod blocks
 pub mod identities
 pub mod order
 pub mod places
-pub mod tags

@@ -11,6 +11,4 @@ pub mod Narrow
 pub mod NarrowPlace
 pub mod Places
 pub mod Rows
-pub mod SmallPlace
-pub mod TagCode
 pub mod TagHashes

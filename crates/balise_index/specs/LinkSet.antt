@@ -1,21 +1,19 @@
--- A set of places: none, one, two, three, in a list or in a tree.
+-- A set of places: none, one, two, in a list or in a tree.
 use Rattle.std.specs.Prelude.{◌≡◌, ℕ, Bool, false, cond, List, [], ◌∷◌, Option, Some, None}
 use Rattle.std.specs.List.{position_or_len}
 use Rattle.std.specs.Ordering.{is_le}
 use Rattle.balise_index.specs.declared.link_place.LinkPlace.{LinkPlace}
 use Rattle.balise_index.specs.declared.links.Held.{Held}
-use Rattle.balise_index.specs.declared.links.Held.TheVariants.{Empty, One, Two, Three, Few, Many}
+use Rattle.balise_index.specs.declared.links.Held.TheVariants.{Empty, One, Two, Few, Many}
 use Rattle.balise_index.specs.declared.links.iter.Left.{Left}
 use Rattle.balise_index.specs.declared.links.iter.Left.TheVariants as left
 use Rattle.balise_index.specs.NarrowPlace.{wide_place, wide_places}
-use Rattle.balise_index.specs.SmallPlace.{narrow_place}
 use Rattle.balise_index.specs.Places.{Links, among, compare_place, is_place}
 
 abbrev pub places_held : Held → Links
 places_held Empty = record { keys = [] }
 places_held (One n) = record { keys = wide_place n ∷ [] }
 places_held (Two n m) = record { keys = wide_place n ∷ wide_place m ∷ [] }
-places_held (Three a b c) = record { keys = wide_place (narrow_place a) ∷ wide_place (narrow_place b) ∷ wide_place (narrow_place c) ∷ [] }
 places_held (Few list) = record { keys = wide_places list.items }
 places_held (Many tree) = tree
 
@@ -24,7 +22,6 @@ abbrev pub places_left : Left → List LinkPlace
 places_left left.Nothing = []
 places_left (left.One n) = wide_place n ∷ []
 places_left (left.Two n m) = wide_place n ∷ wide_place m ∷ []
-places_left (left.Three a b c) = wide_place (narrow_place a) ∷ wide_place (narrow_place b) ∷ wide_place (narrow_place c) ∷ []
 places_left (left.Few list) = wide_places list.now
 places_left (left.Many rest) = rest
 

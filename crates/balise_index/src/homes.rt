@@ -35,9 +35,9 @@ impl Homes {
 
     // Notes the block that was begun last for all tags in it.
     fn move_to_last<V>(&mut self, order: &TagList, held: &TagMap<V>) {
-        let (name, codes) = order.begun_last();
-        for code in codes {
-            if let Some(k) = held.get_index_of(&order.tag(*code)) {
+        let (name, tags) = order.begun_last();
+        for tag in tags {
+            if let Some(k) = held.get_index_of(tag) {
                 if let Some(block) = self.blocks.get_mut(k) {
                     *block = name;
                 }

@@ -1,14 +1,12 @@
 //! Containers under tags and identities: a map that keeps an order, a map from identities, and sets of link places.
 #![tactic(auto)]
 
-mod code_list;
 mod homes;
 mod identity_map;
 mod link_place;
 mod links;
 mod ordered_map;
 mod spot;
-mod tag_code;
 mod tag_hasher;
 mod tag_list;
 mod tag_search;

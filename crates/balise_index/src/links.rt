@@ -3,7 +3,6 @@
 mod iter;
 mod list;
 mod narrow;
-mod small;
 
 ghost use Rattle.std.specs.Prelude.{◌≡◌, ◌<◌, [], ◌∷◌, length, IfOk, OnErr, OnOk, IsTrue, ◌↔◌, true, false};
 ghost use Rattle.std.specs.List.Sorted.{IsStrictlySortedBy};
@@ -11,12 +10,10 @@ ghost use Rattle.std.specs.BTreeSet.{btree_set_len, contains, IsEmpty, IsOrdered
 ghost use Rattle.balise_index.specs.LinkSet.{places_held, Puts, PutsIn};
 ghost use Rattle.balise_index.specs.NarrowPlace.{wide_place, wide_places};
 ghost use Rattle.balise_index.specs.Places.{compare_place};
-ghost use Rattle.balise_index.specs.SmallPlace.{narrow_place};
 
 use crate::link_place::LinkPlace;
 pub use iter::Places;
 use narrow::NarrowPlace;
-use small::SmallPlace;
 use std::alloc::{AllocError, Global};
 use std::cmp::Ordering;
 use std::collections::BTreeSet;
@@ -28,14 +25,13 @@ pub struct Links {
     held: Held,
 }
 
-/// Up to three places by themselves, as most identities are named so often: three if each has a small form. A few in a list,
-/// which takes little more memory than they need; more in a tree, where a change moves few of them.
+/// One place or two by themselves, as most identities are named once or twice; a few in a list, which takes little more
+/// memory than they need; more in a tree, where a change moves few of them.
 #[derive(Drop)]
 pub(crate) enum Held {
     Empty,
     One(NarrowPlace),
     Two(NarrowPlace, NarrowPlace),
-    Three(SmallPlace, SmallPlace, SmallPlace),
     Few(Vec<NarrowPlace>),
     Many(BTreeSet<LinkPlace>),
 }
@@ -64,7 +60,6 @@ impl Links {
             Held::Empty => 0,
             Held::One(_) => 1,
             Held::Two(_, _) => 2,
-            Held::Three(_, _, _) => 3,
             Held::Few(list) => list.len(),
             Held::Many(tree) => tree.len(),
         }
@@ -86,11 +81,6 @@ impl Links {
             Held::One(held) => place.cmp(&held.wide()).is_eq(),
             Held::Two(first, second) => {
                 place.cmp(&first.wide()).is_eq() || place.cmp(&second.wide()).is_eq()
-            }
-            Held::Three(first, second, third) => {
-                place.cmp(&first.narrow().wide()).is_eq()
-                    || place.cmp(&second.narrow().wide()).is_eq()
-                    || place.cmp(&third.narrow().wide()).is_eq()
             }
             Held::Few(list) => list::contains(list, place),
             Held::Many(tree) => tree.contains(place),
@@ -122,17 +112,29 @@ impl Links {
         let Some(narrow) = NarrowPlace::of(place) else {
             return Err(AllocError);
         };
-        match &self.held {
+        match &mut self.held {
             Held::Empty => {
                 self.held = Held::One(narrow);
-                Ok(())
             }
             Held::One(held) => {
                 self.held = one_with(*held, narrow);
-                Ok(())
             }
-            _ => insert_far(&mut self.held, alloc, narrow),
+            Held::Two(first, second) => {
+                let list = list_with(alloc, *first, *second, narrow)?;
+                self.held = Held::Few(list);
+            }
+            Held::Few(list) => {
+                if list.len() < FEW {
+                    return list::insert(list, narrow);
+                }
+                let tree = tree_with(alloc, list, place)?;
+                self.held = Held::Many(tree);
+            }
+            Held::Many(tree) => {
+                tree.insert(place)?;
+            }
         }
+        Ok(())
     }
 
     /// Takes a place out. Takes no memory.
@@ -149,54 +151,12 @@ impl Links {
             Held::Two(first, second) => {
                 self.held = two_without(*first, *second, place);
             }
-            Held::Three(first, second, third) => {
-                self.held = three_without(*first, *second, *third, place);
-            }
             Held::Few(list) => list::remove(list, place),
             Held::Many(tree) => {
                 let _ = tree.remove(place);
             }
         }
     }
-}
-
-// Puts a place in where it may take memory: a function of its own, as most are put in without any.
-#[inline(never)]
-fn insert_far(held: &mut Held, alloc: Global, place: NarrowPlace) -> Result<(), AllocError>
-    requires { IsOrdered compare_place (places_held held.old) }
-    ensures ordered { IsOrdered compare_place (places_held held.new) }
-    ensures put { OnOk result (Puts (places_held held.old) (places_held held.new) (wide_place place) true) }
-    ensures some { OnOk result (0 < btree_set_len (places_held held.new)) }
-    ensures unchanged { OnErr result (places_held held.new ≡ places_held held.old) }
-{
-    match held {
-        Held::Empty => {
-            *held = Held::One(place);
-        }
-        Held::One(one) => {
-            *held = one_with(*one, place);
-        }
-        Held::Two(first, second) => {
-            let three = two_with(alloc, *first, *second, place)?;
-            *held = three;
-        }
-        Held::Three(first, second, third) => {
-            let three = [first.narrow(), second.narrow(), third.narrow()];
-            let list = list_with(alloc, &three, place)?;
-            *held = Held::Few(list);
-        }
-        Held::Few(list) => {
-            if list.len() < FEW {
-                return list::insert(list, place);
-            }
-            let tree = tree_with(alloc, list, place.wide())?;
-            *held = Held::Many(tree);
-        }
-        Held::Many(tree) => {
-            tree.insert(place.wide())?;
-        }
-    }
-    Ok(())
 }
 
 // One place and another.
@@ -227,86 +187,21 @@ fn two_without(first: NarrowPlace, second: NarrowPlace, place: &LinkPlace) -> He
     Held::Two(first, second)
 }
 
-// Two places and another.
-fn two_with(
-    alloc: Global,
-    first: NarrowPlace,
-    second: NarrowPlace,
-    place: NarrowPlace,
-) -> Result<Held, AllocError>
-    requires { IsStrictlySortedBy compare_place (wide_place first ∷ wide_place second ∷ []) }
-    ensures ordered { IfOk result (λ held. IsOrdered compare_place (places_held held)) }
-    ensures put { IfOk result (λ held. PutsIn (wide_place first ∷ wide_place second ∷ []) (places_held held).keys (wide_place place) true) }
-    ensures some { IfOk result (λ held. 0 < btree_set_len (places_held held)) }
-{
-    match place.wide().cmp(&first.wide()) {
-        Ordering::Less => three(alloc, place, first, second),
-        Ordering::Equal => Ok(Held::Two(first, second)),
-        Ordering::Greater => match place.wide().cmp(&second.wide()) {
-            Ordering::Less => three(alloc, first, place, second),
-            Ordering::Equal => Ok(Held::Two(first, second)),
-            Ordering::Greater => three(alloc, first, second, place),
-        },
-    }
-}
-
-// Three places: by themselves where each has a small form, else as a list.
-fn three(
-    alloc: Global,
-    first: NarrowPlace,
-    second: NarrowPlace,
-    third: NarrowPlace,
-) -> Result<Held, AllocError>
-    ensures { IfOk result (λ held. places_held held ≡ record { keys = wide_place first ∷ wide_place second ∷ wide_place third ∷ [] }) }
-{
-    if let (Some(a), Some(b), Some(c)) = (
-        SmallPlace::of(first),
-        SmallPlace::of(second),
-        SmallPlace::of(third),
-    ) {
-        return Ok(Held::Three(a, b, c));
-    }
-    let list = Vec::from_array(alloc, [first, second, third])?;
-    Ok(Held::Few(list))
-}
-
-// What is left of three places without one.
-fn three_without(
-    first: SmallPlace,
-    second: SmallPlace,
-    third: SmallPlace,
-    place: &LinkPlace,
-) -> Held
-    requires { IsStrictlySortedBy compare_place (wide_place (narrow_place first) ∷ wide_place (narrow_place second) ∷ wide_place (narrow_place third) ∷ []) }
-    ensures ordered { IsOrdered compare_place (places_held result) }
-    ensures put { PutsIn (wide_place (narrow_place first) ∷ wide_place (narrow_place second) ∷ wide_place (narrow_place third) ∷ []) (places_held result).keys place.now false }
-{
-    if place.cmp(&first.narrow().wide()).is_eq() {
-        return Held::Two(second.narrow(), third.narrow());
-    }
-    if place.cmp(&second.narrow().wide()).is_eq() {
-        return Held::Two(first.narrow(), third.narrow());
-    }
-    if place.cmp(&third.narrow().wide()).is_eq() {
-        return Held::Two(first.narrow(), second.narrow());
-    }
-    Held::Three(first, second, third)
-}
-
-// A few places and another as a list.
+// Two places and another as a list.
 fn list_with(
     alloc: Global,
-    held: &[NarrowPlace],
+    first: NarrowPlace,
+    second: NarrowPlace,
     place: NarrowPlace,
 ) -> Result<Vec<NarrowPlace>, AllocError>
-    requires few { length held.now < 64 }
-    requires sorted { IsStrictlySortedBy compare_place (wide_places held.now) }
+    requires { IsStrictlySortedBy compare_place (wide_place first ∷ wide_place second ∷ []) }
     ensures ordered { IfOk result (λ list. IsStrictlySortedBy compare_place (wide_places list.items)) }
-    ensures put { IfOk result (λ list. PutsIn (wide_places held.now) (wide_places list.items) (wide_place place) true) }
+    ensures put { IfOk result (λ list. PutsIn (wide_place first ∷ wide_place second ∷ []) (wide_places list.items) (wide_place place) true) }
     ensures some { IfOk result (λ list. 0 < length (wide_places list.items)) }
 {
-    let mut list = Vec::with_capacity(alloc, held.len() + 1)?;
-    list.extend_from_slice(held)?;
+    let mut list = Vec::with_capacity(alloc, 3)?;
+    list.push(first)?;
+    list.push(second)?;
     list::insert(&mut list, place)?;
     Ok(list)
 }

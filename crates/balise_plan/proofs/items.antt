@@ -2,4 +2,3 @@ pub mod Inserted
 pub mod KeyPlaces
 pub mod OneChanged
 pub mod Places
-pub mod TagPlaces

@@ -11,8 +11,7 @@ use Rattle.balise_rules.specs.Telegram.{Telegram, version_of}
 use Rattle.balise_rules.specs.Plan.{Group, telegram_at, country_of, IsSoundTelegram}
 use Rattle.balise_rules.specs.Doing.{refusal, when}
 use Rattle.balise_rules.specs.Notes.{noted}
-use Rattle.balise_rules.specs.Edits.{telegram_after}
-use Rattle.balise_rules.specs.declared.tagged_edit.TaggedEdit.TheVariants.{DeletePacket, MovePacket}
+use Rattle.balise_rules.specs.Edits.{DeletePacket, telegram_after, MovePacket}
 use Rattle.balise_rules.proofs.Tests.{tag_test, split_keys}
 use Rattle.balise_rules.proofs.Cases.{unsome}
 use Rattle.balise_rules.proofs.Lists.{find-without, find-without_same}

@@ -6,8 +6,9 @@ ghost use Rattle.balise_rules.specs.Plan.{read_group, IsSoundGroup};
 
 use crate::group::{Group, Telegrams};
 use crate::one_or_more::OneOrMore;
+use balise_bits::Bits;
 use balise_rules::Refusal;
-use balise_telegram::{Bits, Telegram};
+use balise_telegram::Telegram;
 use std::alloc::Global;
 use std::marker::Model;
 
@@ -60,7 +61,7 @@ impl GroupReader {
             Ok(telegram) => telegram,
             Err(fault) => return Err(fault.refusal()),
         };
-        self.telegrams.push(place as u32, telegram)?;
+        self.telegrams.push((place as u32, telegram))?;
         Ok(())
     }
 

@@ -9,11 +9,13 @@ mod one_or_more;
 mod packet_place;
 mod plan;
 
+pub use balise_bits::Bits;
 pub use balise_index::{LinkPlace, Links, Places, Spot};
+pub use balise_layout::{Id, NO_GROUP, Packet, Var};
 pub use balise_rules::{
-    Address, Id, Place, Refusal, Refusal as PlanFault, Tag, Tag as GroupTag, Tag as PacketTag, Var,
+    Address, Place, Refusal, Refusal as PlanFault, Tag, Tag as GroupTag, Tag as PacketTag,
 };
-pub use balise_telegram::{Bits, NO_GROUP, Packet, PacketRef, Telegram, TelegramFault, is_known};
+pub use balise_telegram::{PacketRef, Telegram, TelegramFault};
 pub use group::Group;
 pub use group_reader::GroupReader;
 pub use plan::Plan;

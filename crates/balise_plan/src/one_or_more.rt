@@ -1,33 +1,34 @@
-//! A list of items under tags. An only item under tag 0 takes no memory of its own, and its tag no room.
+//! A list whose item, where it is the only one, takes no memory of its own.
 
-ghost use Rattle.std.specs.Prelude.{◌≡◌, ◌<◌, ◌++◌, [], ◌∷◌, eqb, length, option_map, position, reverse, slice_get, slice_index_or, OnErr, OnOk};
+ghost use Rattle.std.specs.Prelude.{◌≡◌, ◌<◌, ◌++◌, [], ◌∷◌, length, reverse, slice_index_or, OnErr, OnOk};
 ghost use Rattle.std.specs.Borrow.{sem};
-ghost use Rattle.balise_plan.specs.OneOrMore.{items_held, tag_at};
+ghost use Rattle.std.specs.Mem.{FitsInMemory};
+ghost use Rattle.balise_plan.specs.OneOrMore.{items_held};
 
 use std::alloc::{AllocError, Global};
 use std::marker::Model;
-use std::mem;
 use std::ops::{Index, IndexMut};
+use std::{mem, slice};
 
-/// Items in order, each under a tag.
+/// Items in order.
 #[derive(Drop)]
 pub(crate) struct OneOrMore<T> {
     held: Held<T>,
     alloc: Global,
 }
 
-/// One item under tag 0 by itself; none, more than one, and one under another tag in a list.
+/// One item by itself; none, and more than one, in a list.
 #[derive(Drop)]
 enum Held<T> {
     One(T),
-    Listed(Vec<(u32, T)>),
+    Listed(Vec<T>),
 }
 
 impl<T> Model for OneOrMore<T> {
-    ghost use Rattle.std.specs.Prelude.{ℕ, List};
+    ghost use Rattle.std.specs.Prelude.{List};
     ghost use Rattle.balise_plan.specs.OneOrMore.{items_held};
 
-    ghost Value = { List (ℕ × T) };
+    ghost Value = { List T };
 
     ghost view = { λ l. items_held l.held };
 }
@@ -58,36 +59,14 @@ impl<T> OneOrMore<T> {
         }
     }
 
-    /// The item at a place, with its tag.
-    pub(crate) fn get(&self, i: usize) -> Option<(u32, &T)>
-        ensures { option_map (λ p. (p.0, p.1.now)) result ≡ slice_get self.now i }
+    /// The items.
+    pub(crate) fn as_slice(&self) -> &[T]
+        requires { FitsInMemory T.row }
+        ensures { result.now ≡ self.now }
     {
         match &self.held {
-            Held::One(item) => {
-                if i > 0 {
-                    return None;
-                }
-                Some((0, item))
-            }
-            Held::Listed(list) => match list.get(i) {
-                Some((tag, item)) => Some((*tag, item)),
-                None => None,
-            },
-        }
-    }
-
-    /// The place of the item with this tag.
-    pub(crate) fn place_of(&self, tag: u32) -> Option<usize>
-        ensures { result ≡ position (λ q. eqb tag q.0) self.now }
-    {
-        match &self.held {
-            Held::One(_) => {
-                if tag == 0 {
-                    return Some(0);
-                }
-                None
-            }
-            Held::Listed(list) => list.iter().position(|q| tag == q.0),
+            Held::One(item) => slice::from_ref(item),
+            Held::Listed(list) => list.as_slice(),
         }
     }
 
@@ -102,37 +81,37 @@ impl<T> OneOrMore<T> {
 }
 
 impl<T: Drop> OneOrMore<T> {
-    /// Puts an item in at the end. The first takes no memory if its tag is 0. Out of memory, all stays.
+    /// Puts an item in at the end. The first takes no memory. Out of memory, all stays.
     #[inline(always)]
-    pub(crate) fn push(&mut self, tag: u32, item: T) -> Result<(), AllocError>
-        ensures ok { OnOk result (self.new ≡ self.old ++ (tag, item) ∷ []) }
+    pub(crate) fn push(&mut self, item: T) -> Result<(), AllocError>
+        ensures ok { OnOk result (self.new ≡ self.old ++ item ∷ []) }
         ensures err { OnErr result (self.new ≡ self.old) }
     {
-        if (tag == 0) & (self.len() == 0) {
+        if self.len() == 0 {
             // No item is ever taken out, so an empty list is that of `new`, which has no memory to give back.
             mem::forget(mem::replace(&mut self.held, Held::One(item)));
             return Ok(());
         }
-        self.push_next(tag, item)
+        self.push_next(item)
     }
 
-    // The same in a list.
+    // The same where there is an item already.
     #[inline(never)]
-    fn push_next(&mut self, tag: u32, item: T) -> Result<(), AllocError>
-        ensures ok { OnOk result (self.new ≡ self.old ++ (tag, item) ∷ []) }
+    fn push_next(&mut self, item: T) -> Result<(), AllocError>
+        ensures ok { OnOk result (self.new ≡ self.old ++ item ∷ []) }
         ensures err { OnErr result (self.new ≡ self.old) }
     {
         if let Held::Listed(list) = &mut self.held {
             list.reserve_exact(1)?;
-            let _ = list.push((tag, item));
+            let _ = list.push(item);
             return Ok(());
         }
         let mut list = Vec::with_capacity(self.alloc, 2)?;
         let held = mem::replace(&mut self.held, Held::Listed(Vec::new(self.alloc)));
         if let Held::One(first) = held {
-            let _ = list.push((0, first));
+            let _ = list.push(first);
         }
-        let _ = list.push((tag, item));
+        let _ = list.push(item);
         self.held = Held::Listed(list);
         Ok(())
     }
@@ -145,11 +124,11 @@ impl<T> Held<T> {
     fn at_mut(&mut self, i: usize) -> &mut T
         requires { i < length (items_held self.old) }
         ensures* writes_back { sem 𝓛 (lends_held T.row self.entry i result) }
-        ensures value { (tag_at (items_held self.old) i, result.now) ≡ slice_index_or (items_held self.old) i (tag_at (items_held self.old) i, result.now) }
+        ensures value { result.now ≡ slice_index_or (items_held self.old) i result.now }
     {
         match self {
             Held::One(item) => item,
-            Held::Listed(list) => &mut list[i].1,
+            Held::Listed(list) => &mut list[i],
         }
     }
 }
@@ -159,12 +138,12 @@ impl<T> Index<usize> for OneOrMore<T> {
 
     ghost can_index = { λ l i. i < length l };
 
-    ghost index_gives = { λ l i x. (tag_at l i, x) ≡ slice_index_or l i (tag_at l i, x) };
+    ghost index_gives = { λ l i x. x ≡ slice_index_or l i x };
 
     fn index(&self, i: usize) -> &T {
         match &self.held {
             Held::One(item) => item,
-            Held::Listed(list) => &list[i].1,
+            Held::Listed(list) => &list[i],
         }
     }
 }
@@ -175,7 +154,7 @@ impl<T> IndexMut<usize> for OneOrMore<T> {
     fn index_mut(&mut self, i: usize) -> &mut T
         requires { i < length self.old }
         ensures* writes_back { sem 𝓛 (lends_item T.row self.entry i result) }
-        ensures value { (tag_at self.old i, result.now) ≡ slice_index_or self.old i (tag_at self.old i, result.now) }
+        ensures value { result.now ≡ slice_index_or self.old i result.now }
     {
         self.held.at_mut(i)
     }

@@ -11,7 +11,6 @@ pub mod Steady
 pub mod Telegram
 pub mod Plan
 pub mod Names
-pub mod Parts
 pub mod Edits
 pub mod Notes
 pub mod Doing

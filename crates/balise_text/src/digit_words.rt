@@ -7,7 +7,7 @@ ghost use Rattle.balise_text.specs.DigitWords.{bits_due, telegrams_in};
 ghost use Rattle.balise_text.specs.Left.{left};
 
 use crate::words::Words;
-use balise_commands::{Bits, BitsFault};
+use balise_bits::{Bits, BitsFault};
 use std::alloc::Global;
 
 impl<'a> Words<'a> {

@@ -5,7 +5,8 @@ ghost use Rattle.balise_edits.specs.Notes.{kind_of, with_group, with_packet, OfD
 
 use crate::entry::Entry;
 use crate::note::Note;
-use balise_plan::{Group, Packet};
+use balise_layout::Packet;
+use balise_plan::Group;
 
 impl Entry {
     /// The packet that was taken out, if the entry has one; it has none then.

@@ -2,7 +2,7 @@
 
 ghost use Rattle.std.specs.Prelude.{◌≡◌, ◌<◌, ◌^◌, ℕ, false, IfOk, IsOk};
 ghost use Rattle.balise_rules.specs.declared.variable.Var.TheVariants.{NidBg};
-ghost use Rattle.balise_rules.specs.declared.tagged_edit.TaggedEdit.TheVariants.{SetHead, SetVar};
+ghost use Rattle.balise_rules.specs.Edits.{SetHead, SetVar};
 ghost use Rattle.balise_rules.specs.Tags.{same_var};
 ghost use Rattle.balise_rules.specs.Notes.{noted};
 ghost use Rattle.balise_plan.specs.Held.{Does, DoesAlways};

@@ -3,7 +3,7 @@
 ghost use Rattle.std.specs.Prelude.{◌≡◌, ◌<◌, ◌^◌, Option, IfOk};
 ghost use Rattle.balise_rules.specs.declared.tag.Tag.{Tag};
 ghost use Rattle.balise_rules.specs.Accepting.{Spelt, Unused};
-ghost use Rattle.balise_rules.specs.declared.tagged_edit.TaggedEdit.TheVariants.{DeletePacket, InsertPacket, MovePacket};
+ghost use Rattle.balise_rules.specs.Edits.{DeletePacket, InsertPacket, MovePacket};
 ghost use Rattle.balise_rules.specs.Notes.{noted};
 ghost use Rattle.balise_rules.specs.Packet.{Packet};
 ghost use Rattle.balise_plan.specs.Held.{Does};
@@ -15,7 +15,8 @@ use crate::edit::Edit;
 use crate::entry::Entry;
 use crate::naming::add_packet;
 use crate::note::{Note, TakenPacket};
-use balise_plan::{Packet, Plan, Spot};
+use balise_layout::Packet;
+use balise_plan::{Plan, Spot};
 use balise_rules::{Refusal, Tag};
 use std::alloc::Global;
 

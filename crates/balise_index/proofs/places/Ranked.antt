@@ -250,20 +250,3 @@ ordered-above w x g = ordered-below x w (after w x (ap is_le g))
 
 pub keeps-two : (w x y : LinkPlace) → is_place w x ≡ false → is_place w y ≡ false → PutsIn (x ∷ y ∷ []) (x ∷ y ∷ []) w false
 keeps-two w x y d e = keeps w (x ∷ y ∷ []) (ap (λ b. b || (is_place w y || false)) d ∙ ap (λ b. b || false) e)
-
--- ---- three places by themselves
-
-pub ordered-first : (w x y : LinkPlace) → compare_place w x ≡ Less → IsStrictlySortedBy compare_place (x ∷ y ∷ []) → IsStrictlySortedBy compare_place (w ∷ x ∷ y ∷ [])
-unfolding IsStrictlySortedBy
-ordered-first w x y l s = ((l, under-all w x (y ∷ []) l s.0), s)
-
-pub ordered-second : (w x y : LinkPlace) → compare_place w x ≡ Greater → compare_place w y ≡ Less → IsStrictlySortedBy compare_place (x ∷ y ∷ []) → IsStrictlySortedBy compare_place (x ∷ w ∷ y ∷ [])
-unfolding IsStrictlySortedBy
-ordered-second w x y g l s = ((after w x (ap is_le g), s.0), ((l, tt), (tt, tt)))
-
-pub ordered-third : (w x y : LinkPlace) → compare_place w y ≡ Greater → IsStrictlySortedBy compare_place (x ∷ y ∷ []) → IsStrictlySortedBy compare_place (x ∷ y ∷ w ∷ [])
-unfolding IsStrictlySortedBy
-ordered-third w x y g s = let l = after w y (ap is_le g) in ((s.0.0, (place.total-law.trans x y w s.0.0 l, tt)), ((l, tt), (tt, tt)))
-
-pub keeps-three : (w x y z : LinkPlace) → is_place w x ≡ false → is_place w y ≡ false → is_place w z ≡ false → PutsIn (x ∷ y ∷ z ∷ []) (x ∷ y ∷ z ∷ []) w false
-keeps-three w x y z d e f = keeps w (x ∷ y ∷ z ∷ []) (ap (λ b. b || (is_place w y || (is_place w z || false))) d ∙ ap (λ b. b || (is_place w z || false)) e ∙ ap (λ b. b || false) f)

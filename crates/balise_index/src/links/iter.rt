@@ -7,7 +7,6 @@ ghost use Rattle.balise_index.specs.LinkSet.{places_held};
 use crate::link_place::LinkPlace;
 use crate::links::Held;
 use crate::links::narrow::NarrowPlace;
-use crate::links::small::SmallPlace;
 use std::collections::btree_set;
 use std::iter::FusedIterator;
 use std::marker::Model;
@@ -24,7 +23,6 @@ pub(crate) enum Left<'a> {
     Nothing,
     One(NarrowPlace),
     Two(NarrowPlace, NarrowPlace),
-    Three(SmallPlace, SmallPlace, SmallPlace),
     Few(&'a [NarrowPlace]),
     Many(btree_set::Iter<'a, LinkPlace>),
 }
@@ -54,9 +52,6 @@ impl<'a> Places<'a> {
             Held::Two(first, second) => Places {
                 left: Left::Two(*first, *second),
             },
-            Held::Three(first, second, third) => Places {
-                left: Left::Three(*first, *second, *third),
-            },
             Held::Few(list) => Places {
                 left: Left::Few(list.as_slice()),
             },
@@ -85,11 +80,6 @@ impl<'a> Iterator for Places<'a> {
             Left::Two(first, second) => {
                 let place = first.wide();
                 self.left = Left::One(*second);
-                Some(place)
-            }
-            Left::Three(first, second, third) => {
-                let place = first.narrow().wide();
-                self.left = Left::Two(second.narrow(), third.narrow());
                 Some(place)
             }
             Left::Few(places) => {

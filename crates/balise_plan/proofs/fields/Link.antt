@@ -20,7 +20,7 @@ use Rattle.balise_rules.specs.Plan as rules
 use Rattle.balise_rules.specs.Doing.{refusal, first_of, when, too_wide}
 use Rattle.balise_rules.specs.Names.{country_at, is_it, is_real}
 use Rattle.balise_rules.specs.Notes.{note_at, noted, set_note}
-use Rattle.balise_rules.specs.declared.tagged_edit.TaggedEdit.TheVariants.{SetVar}
+use Rattle.balise_rules.specs.Edits.{SetVar}
 use Rattle.balise_rules.proofs.Tests.{split_on, test-sym, tag_test, key_test, nat_test}
 use Rattle.balise_rules.proofs.Cases.{found, unsome}
 use Rattle.balise_rules.proofs.Found.{group_sound}

@@ -17,8 +17,7 @@ use Rattle.balise_rules.specs.Packet.{Packet}
 use Rattle.balise_rules.specs.Accepting.{Accepted}
 use Rattle.balise_rules.specs.Doing.{refusal}
 use Rattle.balise_rules.specs.Notes.{noted}
-use Rattle.balise_rules.specs.Edits.{effect, field_after, telegram_after, head_after, group_after}
-use Rattle.balise_rules.specs.declared.tagged_edit.TaggedEdit.TheVariants.{SetVar, SetHead}
+use Rattle.balise_rules.specs.Edits.{SetVar, effect, field_after, telegram_after, head_after, group_after, SetHead}
 use Rattle.balise_rules.proofs.Tests.{split_on, var_test}
 use Rattle.balise_edit_laws.proofs.Refusing.{refused_exactly}
 use Rattle.balise_edit_laws.proofs.SoundKept.{groups_kept, sound_parts}

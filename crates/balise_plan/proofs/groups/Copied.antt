@@ -1,5 +1,5 @@
 -- Groups of a sound plan copied one after another: each is new among those before it.
-use Rattle.std.proofs.Common.{◌≡◌, ◌∙◌, ℕ, zero, suc, ◌+◌, ◌<◌, ◌≤◌, Bool, true, false, ◌&&◌, List, [], ◌∷◌, ◌++◌, Some, None, length, insert, take, slice_get, refl, sym, ap, subst, arith, length-take}
+use Rattle.std.proofs.Common.{◌≡◌, ◌∙◌, ℕ, zero, suc, ◌+◌, ◌<◌, ◌≤◌, Bool, true, false, ◌&&◌, List, [], ◌∷◌, Some, None, length, insert, take, slice_get, refl, sym, ap, subst, arith, length-take}
 use Rattle.std.specs.BTreeSet as set
 use Rattle.std.proofs.lemmas.List.{take_all}
 use Rattle.balise_rules.specs.declared.tag.Tag.{Tag}
@@ -37,12 +37,6 @@ insert-next : {A : Type 0} (xs : List A) (i : ℕ) (x : A) → slice_get xs i �
 insert-next [] i x e = absurd cc
 insert-next (y ∷ ys) zero x e = ap (λ z. z ∷ []) (sym (unsome e))
 insert-next (y ∷ ys) (suc i) x e = ap (λ l. y ∷ l) (insert-next ys i x e) ∙ ap (λ k. take k (y ∷ ys)) (let k : suc (i + 1) ≡ suc i + 1 = omega arith in k)
-
--- the same at the end
-pub take-next : {A : Type 0} (xs : List A) (i : ℕ) (x : A) → slice_get xs i ≡ Some x → take i xs ++ x ∷ [] ≡ take (i + 1) xs
-take-next [] i x e = absurd cc
-take-next (y ∷ ys) zero x e = ap (λ z. z ∷ []) (sym (unsome e))
-take-next (y ∷ ys) (suc i) x e = ap (λ l. y ∷ l) (take-next ys i x e) ∙ ap (λ k. take k (y ∷ ys)) (let k : suc (i + 1) ≡ suc i + 1 = omega arith in k)
 
 -- the first groups are copied, and the indexes say what a walk over them does
 pub record Copied (plan : Plan) (i : ℕ) (ids : IndexOf Tag) (names : IndexOf (set.BTreeSet LinkPlace)) (groups : Plan) : Type 0 where

@@ -13,7 +13,7 @@ use Rattle.balise_rules.specs.Plan.{Group, IsSound, IsSoundGroup, identity_of, g
 use Rattle.balise_rules.specs.Plan as rules
 use Rattle.balise_rules.specs.Names.{is_real}
 use Rattle.balise_rules.specs.Doing.{when}
-use Rattle.balise_rules.specs.declared.tagged_edit.TaggedEdit.TheVariants.{DropGroup}
+use Rattle.balise_rules.specs.Edits.{DropGroup}
 use Rattle.balise_rules.specs.Notes.{noted, note_drop}
 use Rattle.balise_rules.specs.declared.refusal.Refusal.TheVariants.{NoSuchGroup}
 use Rattle.balise_rules.proofs.Tests.{split_keys, test-sym, tag_test, id_test}

@@ -22,8 +22,7 @@ use Rattle.balise_rules.specs.Names.{is_real, country_at, is_named}
 use Rattle.balise_rules.specs.Accepting.{Accepted}
 use Rattle.balise_rules.specs.Doing.{refusal, taken, renumbered, first_of, when}
 use Rattle.balise_rules.specs.Notes.{note_group}
-use Rattle.balise_rules.specs.Edits.{effect, field_after, telegram_after, head_after, group_after}
-use Rattle.balise_rules.specs.declared.tagged_edit.TaggedEdit.TheVariants.{Renumber}
+use Rattle.balise_rules.specs.Edits.{Renumber, effect, field_after, telegram_after, head_after, group_after}
 use Rattle.balise_rules.proofs.Tests.{split_on, split_keys, tag_test, nat_test, var_test, id_test, flip_no}
 use Rattle.balise_rules.proofs.Lists.{find-each}
 use Rattle.balise_rules.proofs.Cases.{unsome}

@@ -12,7 +12,7 @@ use Rattle.balise_rules.specs.Telegram.{Telegram}
 use Rattle.balise_rules.specs.Plan.{Group, IsSound, IsSoundTelegram, country_of, identity_of, telegram_at}
 use Rattle.balise_rules.specs.Plan as rules
 use Rattle.balise_rules.specs.Names.{is_real}
-use Rattle.balise_rules.specs.declared.tagged_edit.TaggedEdit.TheVariants.{TurnGroup}
+use Rattle.balise_rules.specs.Edits.{TurnGroup}
 use Rattle.balise_rules.proofs.Tests.{split_on, test-sym, tag_test}
 use Rattle.balise_rules.proofs.Cases.{unsome}
 use Rattle.balise_rules.proofs.AllItems.{all-each_found}

@@ -14,8 +14,7 @@ use Rattle.balise_rules.specs.Plan as rules
 use Rattle.balise_rules.specs.Names.{is_real}
 use Rattle.balise_rules.specs.Accepting.{Accepted}
 use Rattle.balise_rules.specs.Notes.{note_group}
-use Rattle.balise_rules.specs.Edits.{effect, field_after, telegram_after, head_after, group_after}
-use Rattle.balise_rules.specs.declared.tagged_edit.TaggedEdit.TheVariants.{TurnGroup}
+use Rattle.balise_rules.specs.Edits.{TurnGroup, effect, field_after, telegram_after, head_after, group_after}
 use Rattle.balise_rules.proofs.Tests.{tag_test, nat_test}
 use Rattle.balise_rules.proofs.Lists.{find-each}
 use Rattle.balise_rules.proofs.Distincts.{distinct-each}

@@ -13,11 +13,8 @@ impl Group {
         ensures fault { IsOkUnless result Refusal.OutOfMemory }
     {
         let mut telegrams = OneOrMore::new(self.telegrams.allocator());
-        for i in 0..self.telegrams.len() {
-            let Some((tag, telegram)) = self.telegrams.get(i) else {
-                break;
-            };
-            telegrams.push(tag, telegram.copy()?)?;
+        for (tag, telegram) in self.telegrams.as_slice() {
+            telegrams.push((*tag, telegram.copy()?))?;
         }
         Ok(Group { telegrams })
     }

@@ -8,8 +8,8 @@ ghost use Rattle.balise_plan.specs.Links.{AreFull};
 use crate::links::names::{add, forget};
 use crate::packet_place::PacketPlace;
 use balise_index::{IdentityMap, Links};
+use balise_layout::PacketRef;
 use balise_rules::{Id, NO_GROUP};
-use balise_telegram::PacketRef;
 use std::alloc::{AllocError, Global};
 
 /// Notes the links of a packet in a telegram of this country. Where memory runs out, some of them may be noted.

@@ -1,7 +1,7 @@
 //! Groups of a plan put in and taken out.
 
 ghost use Rattle.std.specs.Prelude.{◌≡◌, IfOk, Some, None, option_map, slice_get};
-ghost use Rattle.balise_rules.specs.declared.tagged_edit.TaggedEdit.TheVariants.{DropGroup};
+ghost use Rattle.balise_rules.specs.Edits.{DropGroup};
 ghost use Rattle.balise_rules.specs.Notes.{noted};
 ghost use Rattle.balise_rules.specs.Plan.{IsSoundGroup};
 ghost use Rattle.balise_rules.specs.Tagged.{find};

@@ -9,9 +9,9 @@ use crate::group::Group;
 use crate::group_places::{is_taken, put_at};
 use crate::group_reader::GroupReader;
 use crate::plan::Plan;
+use balise_bits::Bits;
 use balise_index::{IdentityMap, OrderedMap};
 use balise_rules::{Refusal, Tag};
-use balise_telegram::Bits;
 use std::alloc::Global;
 
 impl Plan {

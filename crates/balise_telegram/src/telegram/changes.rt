@@ -27,7 +27,6 @@ impl Telegram {
     ) -> Result<u32, TelegramFault>
         ensures { SetsField tag var k value self.old result self.new }
     {
-        let bits = self.packed();
         let Some(packet) = self.bits_of(tag) else {
             return Err(TelegramFault::NoSuchPacket);
         };
@@ -41,7 +40,7 @@ impl Telegram {
         if value >> width != 0 {
             return Err(TelegramFault::ValueTooWide);
         }
-        let old = bits.number(at, width);
+        let old = self.packed.number(at, width);
         self.put_field(at, var, value);
         Ok(old)
     }
@@ -81,7 +80,7 @@ impl Telegram {
         ensures { self.new ≡ with_head var value self.old }
     {
         if let Some(place) = head_place(var) {
-            self.contents.put(place, var.width(), value);
+            self.packed.put(place, var.width(), value);
         }
     }
 
@@ -90,11 +89,10 @@ impl Telegram {
     pub fn flip_dir(&mut self, tag: PacketTag)
         ensures { self.new ≡ with_changed tag turned self.old }
     {
-        let bits = self.packed();
         let Some(packet) = self.bits_of(tag) else {
             return;
         };
-        let dir = bits.number(packet + 8, 2);
+        let dir = self.packed.number(packet + 8, 2);
         if dir < 2 {
             self.put_field(packet + 8, Var::QDir, 1 - dir);
         }
@@ -105,12 +103,11 @@ impl Telegram {
     pub fn flip_link(&mut self, tag: PacketTag, k: u32)
         ensures { self.new ≡ with_changed tag (flipped k) self.old }
     {
-        let bits = self.packed();
         let Some(packet) = self.bits_of(tag) else {
             return;
         };
         if let Some(at) = self.place_in(packet, Var::QLinkorientation, k) {
-            let old = bits.number(at, 1);
+            let old = self.packed.number(at, 1);
             self.put_field(at, Var::QLinkorientation, 1 - old);
         }
     }
@@ -136,6 +133,6 @@ impl Telegram {
         requires fits { value < 2 ^ width_of var }
         ensures { (tag : Tag) (k : ℕ) → place_from 50 tag (var, k) self.old.packets ≡ Some at → self.new ≡ with_field tag var k value self.old }
     {
-        self.contents.put(at, var.width(), value);
+        self.packed.put(at, var.width(), value);
     }
 }

@@ -1,5 +1,5 @@
 use Rattle.std.proofs.Common.{sym, ◌∙◌}
-use Rattle.balise_rules.specs.declared.tagged_edit.TaggedEdit.TheVariants.{SetHead}
+use Rattle.balise_rules.specs.Edits.{SetHead}
 use Rattle.balise_plan.proofs.fields.Other.{refused, answered}
 use Rattle.balise_plan.proofs.plans.Pushed.{changed-to, kept-by}
 use Rattle.balise_plan.proofs.plans.Outcomes.{does, refuses}

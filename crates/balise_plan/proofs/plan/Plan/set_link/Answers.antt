@@ -2,7 +2,7 @@ use Rattle.std.proofs.Common.{rules, ◌≡◌, None, inl, inr, subst, sym, refl
 use Rattle.balise_rules.specs.declared.refusal.Refusal.TheVariants.{OutOfMemory, ValueTooWide}
 use Rattle.balise_rules.specs.declared.variable.Var.TheVariants.{NidBg}
 use Rattle.balise_rules.specs.Doing.{refusal}
-use Rattle.balise_rules.specs.declared.tagged_edit.TaggedEdit.TheVariants.{SetVar}
+use Rattle.balise_rules.specs.Edits.{SetVar}
 use Rattle.balise_rules.specs.Notes.{noted}
 use Rattle.balise_index.specs.declared.link_place.LinkPlace.{LinkPlace}
 use Rattle.balise_plan.specs.Links.{Keeps}

@@ -1,6 +1,6 @@
 use Rattle.std.proofs.Common.{◌∙◌, inr, refl, sym}
 use Rattle.balise_rules.specs.declared.refusal.Refusal.TheVariants.{NoSuchTelegram}
-use Rattle.balise_rules.specs.declared.tagged_edit.TaggedEdit.TheVariants.{DeletePacket}
+use Rattle.balise_rules.specs.Edits.{DeletePacket}
 use Rattle.balise_plan.proofs.plans.Pushed.{changed-to, kept-by}
 use Rattle.balise_plan.proofs.plans.Outcomes.{does, fails, left-alone}
 use Rattle.balise_plan.proofs.packets.{untold, untaken, taken}

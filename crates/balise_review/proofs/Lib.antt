@@ -1,4 +1,0 @@
-pub mod FoundLines
-pub mod Gathering
-pub mod Linked
-pub mod TurnedLines

@@ -16,8 +16,8 @@ use Rattle.balise_text.specs.declared.plan_line.PlanLine.{PlanLine}
 use Rattle.balise_cli.specs.Output.{InGroup}
 use Rattle.balise_cli.specs.Phases.{EndMayRunOut, LineMayRunOut, is_telegram, phase_at}
 use Rattle.balise_cli.specs.PlanRead.{WasRead, with_line}
-use Rattle.balise_cli.specs.declared.plan_reader.Place.{Place}
-use Rattle.balise_cli.specs.declared.plan_reader.Place.TheVariants as place
+use Rattle.balise_cli.specs.declared.plan_reader.PlanStage.{PlanStage}
+use Rattle.balise_cli.specs.declared.plan_reader.PlanStage.TheVariants as stage
 
 push_last : (p : Result Plan Refusal) (gs : List (List (List Bool))) (bs : List (List Bool)) → pushed_all p (gs ++ bs ∷ []) ≡ pushed_all (pushed_all p gs) (bs ∷ [])
 push_last p [] bs = refl
@@ -46,17 +46,17 @@ ends_sound : (plan : Plan) (ys : Group) (r : Refusal) → r ≡ OutOfMemory → 
 ends_sound plan ys r is (inl w) = w.1
 ends_sound plan ys r is (inr w) = absurd (never_out plan ys (w ∙ ap (λ (q : Refusal). Err q) is))
 
-module _ (at : Place) (plan : Plan) (g : ℕ) (ys zs : Group) (r : Refusal) (here : at ≡ place.InGroup g ys) (same : zs ≡ ys) (is : r ≡ OutOfMemory) (out : ((r ≡ OutOfMemory) × IsOk (with_read plan zs)) ⊎ (with_read plan zs ≡ Err r)) where
+module _ (at : PlanStage) (plan : Plan) (g : ℕ) (ys zs : Group) (r : Refusal) (here : at ≡ stage.InGroup g ys) (same : zs ≡ ys) (is : r ≡ OutOfMemory) (out : ((r ≡ OutOfMemory) × IsOk (with_read plan zs)) ⊎ (with_read plan zs ≡ Err r)) where
   ends_here : IsOk (with_read plan ys)
   ends_here = subst (λ (xs : Group). IsOk (with_read plan xs)) same (ends_sound plan zs r is out)
 
   -- at a line that isn't a telegram's
   pub line_ends : (kind is_kind : PlanLine) → kind ≡ is_kind → false ≡ is_telegram kind → LineMayRunOut (phase_at at plan) (is_telegram is_kind)
-  line_ends kind is_kind e h = subst (λ (a : Place). LineMayRunOut (phase_at a plan) (is_telegram is_kind)) (sym here) (subst (LineMayRunOut (InGroup plan g ys)) (h ∙ ap is_telegram e) ends_here)
+  line_ends kind is_kind e h = subst (λ (a : PlanStage). LineMayRunOut (phase_at a plan) (is_telegram is_kind)) (sym here) (subst (LineMayRunOut (InGroup plan g ys)) (h ∙ ap is_telegram e) ends_here)
 
   -- at the input's end
   pub input_ends : EndMayRunOut (phase_at at plan)
-  input_ends = subst (λ (a : Place). EndMayRunOut (phase_at a plan)) (sym here) ends_here
+  input_ends = subst (λ (a : PlanStage). EndMayRunOut (phase_at a plan)) (sym here) ends_here
 
 -- a line of digits more
 pub added_read : (ys zs : Group) (line : Text) → WereRead ys → with_line ys line ≡ Ok zs → WereRead zs

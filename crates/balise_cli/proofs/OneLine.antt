@@ -18,8 +18,8 @@ use Rattle.balise_cli.specs.PlanTexts.{end_text}
 use Rattle.balise_cli.specs.Private.{DidAnswer, answer_text}
 use Rattle.balise_cli.specs.Phases.{DidPart, DidSome, DidStep, EndMayRunOut, LineMayRunOut, WrittenOfEnd, WrittenOfLine, WroteSuch, is_telegram, last_text, phase_at}
 use Rattle.balise_cli.specs.declared.answers.Answer.{Answer}
-use Rattle.balise_cli.specs.declared.plan_reader.Place.{Place}
-use Rattle.balise_cli.specs.declared.plan_reader.Place.TheVariants.{Between, First, InGroup}
+use Rattle.balise_cli.specs.declared.plan_reader.PlanStage.{PlanStage}
+use Rattle.balise_cli.specs.declared.plan_reader.PlanStage.TheVariants.{Between, First, InGroup}
 use Rattle.balise_cli.specs.declared.fault.RunFault.{RunFault}
 use Rattle.balise_cli.specs.declared.fault.RunFault.TheVariants.{InputTooLong, OutOfMemory, ReadFault, WriteFault}
 use Rattle.balise_cli.specs.declared.status.Status.TheVariants.{SomeRefused}
@@ -99,7 +99,7 @@ abbrev pub IsReading : Phase → Type 0
 IsReading (Commands s refused) = ⊥
 IsReading _ = Unit {0}
 
-pub plan_reading : (at : Place) (plan : Plan) → IsReading (phase_at at plan)
+pub plan_reading : (at : PlanStage) (plan : Plan) → IsReading (phase_at at plan)
 plan_reading First plan = tt
 plan_reading Between plan = tt
 plan_reading (InGroup g ys) plan = tt

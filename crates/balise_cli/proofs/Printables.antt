@@ -13,9 +13,10 @@ use Rattle.balise_rules.specs.Accepting.{Accepted, AcceptedAt, AcceptedIn, Spelt
 use Rattle.balise_rules.specs.Bits.{bits, fits, zeros}
 use Rattle.balise_rules.specs.Digits.{fill}
 use Rattle.balise_rules.specs.Doing.{done}
-use Rattle.balise_rules.specs.Edits.{Edit, Item, SetVar, SetHead, InsertPacket, DeletePacket, MovePacket, AddGroup, DropGroup, Renumber, TurnGroup, group_of}
+use Rattle.balise_rules.specs.Edits.{Edit, Item, group_of}
+use Rattle.balise_rules.specs.declared.tagged_edit.TaggedEdit.TheVariants.{SetVar, SetHead, InsertPacket, DeletePacket, MovePacket, AddGroup, DropGroup, Renumber, TurnGroup}
 use Rattle.balise_rules.specs.Forms.{Fields, Form, Matches, Numbered, count_of, spelling}
-use Rattle.balise_rules.specs.Journal.{LineSetVar, LineSetHead, LineInsertPacket, LineDeletePacket, LineMovePacket, LineAddGroup, LineDropGroup, LineRenumber, Nothing, Value, Number, BeforePacket, BeforeGroup, line_edit, line_of, noted_of, whole_bytes}
+use Rattle.balise_rules.specs.Journal.{Nothing, Value, Number, BeforePacket, BeforeGroup, line_edit, line_of, noted_of, whole_bytes}
 use Rattle.balise_rules.specs.Notes.{Note, note_at, note_drop, note_group, note_in, noted, set_note}
 use Rattle.balise_rules.specs.Packet.{Packet, IsSpelt, bits_of, field_of, value, width}
 use Rattle.balise_rules.specs.Packets.{packet}
@@ -133,7 +134,7 @@ noted_there e plan g t q h = h ∙ ap (note_at e) q.is
 
 -- ---- the kinds of edits
 
-setting : (g : Tag) (t : ℕ) (p : Tag) (v : Var) (k n : ℕ) (plan : Plan) → IsSound plan → SmallPlan plan → Accepted (SetVar g t p v k n) plan → ArePrintable (LineSetVar g t p v k n) (Value (noted (SetVar g t p v k n) plan).old)
+setting : (g : Tag) (t : ℕ) (p : Tag) (v : Var) (k n : ℕ) (plan : Plan) → IsSound plan → SmallPlan plan → Accepted (SetVar g t p v k n) plan → ArePrintable (SetVar g t p v k n) (Value (noted (SetVar g t p v k n) plan).old)
 setting g t p v k n plan sound small a =
     let e = SetVar g t p v k n in
     let q = asked e g t plan sound small a.1 in
@@ -148,7 +149,7 @@ setting g t p v k n plan sound small a =
       subst IsNumber (sym old) (field_small (packet (version_of q.y)) here.0.fields here.0.rest spelt.form v k),
     )
 
-header_setting : (g : Tag) (t : ℕ) (v : Var) (n : ℕ) (plan : Plan) → IsSound plan → SmallPlan plan → Accepted (SetHead g t v n) plan → ArePrintable (LineSetHead g t v n) (Value (noted (SetHead g t v n) plan).old)
+header_setting : (g : Tag) (t : ℕ) (v : Var) (n : ℕ) (plan : Plan) → IsSound plan → SmallPlan plan → Accepted (SetHead g t v n) plan → ArePrintable (SetHead g t v n) (Value (noted (SetHead g t v n) plan).old)
 header_setting g t v n plan sound small a =
     let e = SetHead g t v n in
     let q = asked e g t plan sound small a.1 in
@@ -164,13 +165,13 @@ bytes_whole version x s =
     let least = (front_of version x s).least in
     (omega (arith, size, least), ap (λ (n : ℕ). n % 8) size ∙ whole (width x))
 
-insertion : (g : Tag) (t : ℕ) (at : Option Tag) (x : Packet) (plan : Plan) → IsSound plan → SmallPlan plan → Accepted (InsertPacket g t at x) plan → Spelt (InsertPacket g t at x) plan → ArePrintable (LineInsertPacket g t at (whole_bytes x)) Nothing
+insertion : (g : Tag) (t : ℕ) (at : Option Tag) (x : Packet) (plan : Plan) → IsSound plan → SmallPlan plan → Accepted (InsertPacket g t at x) plan → Spelt (InsertPacket g t at x) plan → ArePrintable (InsertPacket g t at (whole_bytes x)) Nothing
 insertion g t at x plan sound small a spelt =
     let q = asked (InsertPacket g t at x) g t plan sound small a.1 in
     let here : AcceptedIn (InsertPacket g t at x) q.y = q.accepted in
     (q.group, q.telegram, spot_small q.y.packets q.tags at here.0, bytes_whole (version_of q.y) x (spelt q.y q.is))
 
-deletion : (g : Tag) (t : ℕ) (p : Tag) (plan : Plan) → IsSound plan → SmallPlan plan → Accepted (DeletePacket g t p) plan → ArePrintable (LineDeletePacket g t p) (BeforePacket (noted (DeletePacket g t p) plan).before)
+deletion : (g : Tag) (t : ℕ) (p : Tag) (plan : Plan) → IsSound plan → SmallPlan plan → Accepted (DeletePacket g t p) plan → ArePrintable (DeletePacket g t p) (BeforePacket (noted (DeletePacket g t p) plan).before)
 deletion g t p plan sound small a =
     let e = DeletePacket g t p in
     let q = asked e g t plan sound small a.1 in
@@ -178,7 +179,7 @@ deletion g t p plan sound small a =
     let next : behind same_tag p q.y.packets ≡ (noted e plan).before = sym (ap (λ (m : Note). m.before) (noted_there e plan g t q refl)) in
     (q.group, q.telegram, tag_small q.y.packets q.tags p here.0 here.1, behind_small q.y.packets q.tags p (noted e plan).before next)
 
-moving : (g : Tag) (t : ℕ) (p : Tag) (at : Option Tag) (plan : Plan) → IsSound plan → SmallPlan plan → Accepted (MovePacket g t p at) plan → ArePrintable (LineMovePacket g t p at) (BeforePacket (noted (MovePacket g t p at) plan).before)
+moving : (g : Tag) (t : ℕ) (p : Tag) (at : Option Tag) (plan : Plan) → IsSound plan → SmallPlan plan → Accepted (MovePacket g t p at) plan → ArePrintable (MovePacket g t p at) (BeforePacket (noted (MovePacket g t p at) plan).before)
 moving g t p at plan sound small a =
     let e = MovePacket g t p at in
     let q = asked e g t plan sound small a.1 in
@@ -197,7 +198,7 @@ lengths_read n (b ∷ bs) ys h = by (λ zs d. lengths_read (suc n) bs zs d) (rea
     by again (Ok z) e (Err x) d k = absurd cc
     by again (Ok z) e (Ok zs) d k = All-cons (λ (c : List Bool). IsLength (length c)) b bs (telegram_read b z e).size (again zs d)
 
-adding : (at : Option Tag) (bs : List (List Bool)) (plan : Plan) → SmallPlan plan → Accepted (AddGroup at bs) plan → ArePrintable (LineAddGroup at bs) Nothing
+adding : (at : Option Tag) (bs : List (List Bool)) (plan : Plan) → SmallPlan plan → Accepted (AddGroup at bs) plan → ArePrintable (AddGroup at bs) Nothing
 adding at bs plan small a =
     let r = telegrams_of bs (group_of bs) a.0 in
     (spot_small plan small.groups at a.1.0, (r.0, lengths_read 0 bs (group_of bs) r.2))
@@ -207,12 +208,12 @@ number_small : (ys : Group) → IsSoundGroup ys → IsNumber (identity_of ys).nu
 number_small [] s = omega arith
 number_small (y ∷ ys) s = field_small header y.1.head [] s.telegrams.0.header NidBg 0
 
-renumbering : (g : Tag) (n : ℕ) (plan : Plan) → IsSound plan → SmallPlan plan → Accepted (Renumber g n) plan → ArePrintable (LineRenumber g n) (Number (noted (Renumber g n) plan).old)
+renumbering : (g : Tag) (n : ℕ) (plan : Plan) → IsSound plan → SmallPlan plan → Accepted (Renumber g n) plan → ArePrintable (Renumber g n) (Number (noted (Renumber g n) plan).old)
 renumbering g n plan sound small a =
     let old : (noted (Renumber g n) plan).old ≡ (identity_of a.1.0).number = ap (λ (o : Option Group). (note_group o).old) a.1.1 in
     (tag_small plan small.groups g a.1.0 a.1.1, value_small NidBg n a.0.0, subst IsNumber (sym old) (number_small a.1.0 (group_sound plan sound g a.1.0 a.1.1)))
 
-dropping : (g : Tag) (plan : Plan) → SmallPlan plan → Accepted (DropGroup g) plan → ArePrintable (LineDropGroup g) (BeforeGroup (noted (DropGroup g) plan).before)
+dropping : (g : Tag) (plan : Plan) → SmallPlan plan → Accepted (DropGroup g) plan → ArePrintable (DropGroup g) (BeforeGroup (noted (DropGroup g) plan).before)
 dropping g plan small a =
     let next : behind same_tag g plan ≡ (noted (DropGroup g) plan).before = sym (ap (λ (o : Option Group). (note_drop (behind same_tag g plan) o).before) a.1.1) in
     (tag_small plan small.groups g a.1.0 a.1.1, behind_small plan small.groups g (noted (DropGroup g) plan).before next)

@@ -9,7 +9,8 @@ use Rattle.balise_rules.specs.declared.refusal.Refusal.TheVariants.{GroupSize, H
 use Rattle.balise_rules.specs.declared.tag.Tag.{Tag}
 use Rattle.balise_rules.specs.declared.tag.Tag.TheVariants.{Base, Fresh}
 use Rattle.balise_rules.specs.Doing.{done}
-use Rattle.balise_rules.specs.Edits.{Item, SetVar, InsertPacket, DeletePacket, MovePacket, AddGroup, DropGroup, group_after, group_of, packet_after, packets_change}
+use Rattle.balise_rules.specs.Edits.{Item, group_after, group_of, packet_after, packets_change}
+use Rattle.balise_rules.specs.declared.tagged_edit.TaggedEdit.TheVariants.{SetVar, InsertPacket, DeletePacket, MovePacket, AddGroup, DropGroup}
 use Rattle.balise_rules.specs.Notes.{noted}
 use Rattle.balise_rules.specs.Packet.{Packet, IsSpelt}
 use Rattle.balise_rules.specs.Plan.{Group, Plan, IsSound, agree_from, checked_group, country_of, group_named, identity_of, pushed, pushed_all, read_group, read_telegrams, reserved, with_group, with_telegrams}

@@ -27,8 +27,8 @@ use Rattle.balise_cli.specs.declared.journal_reader.JournalEnd.TheVariants as jo
 use Rattle.balise_cli.specs.declared.journal_reader.JournalReader.{JournalReader}
 use Rattle.balise_cli.specs.declared.journal_reader.JournalStep.{JournalStep}
 use Rattle.balise_cli.specs.declared.journal_reader.JournalStep.TheVariants as step
-use Rattle.balise_cli.specs.declared.plan_reader.Place.{Place}
-use Rattle.balise_cli.specs.declared.plan_reader.Place.TheVariants as place
+use Rattle.balise_cli.specs.declared.plan_reader.PlanStage.{PlanStage}
+use Rattle.balise_cli.specs.declared.plan_reader.PlanStage.TheVariants as stage
 use Rattle.balise_cli.specs.declared.plan_reader.PlanEnd.{PlanEnd}
 use Rattle.balise_cli.specs.declared.plan_reader.PlanEnd.TheVariants as plan
 use Rattle.balise_cli.specs.declared.plan_reader.PlanReader.{PlanReader}
@@ -37,13 +37,13 @@ use Rattle.balise_cli.specs.declared.status.Status.TheVariants.{SomeRefused}
 
 -- The phases.
 
-abbrev pub phase_at : Place → Plan → Phase
-phase_at place.First p = Header
-phase_at place.Between p = Between p
-phase_at (place.InGroup g ys) p = InGroup p g ys
+abbrev pub phase_at : PlanStage → Plan → Phase
+phase_at stage.First p = Header
+phase_at stage.Between p = Between p
+phase_at (stage.InGroup g ys) p = InGroup p g ys
 
 abbrev pub plan_phase : PlanReader → Phase
-plan_phase r = phase_at r.place r.plan
+plan_phase r = phase_at r.stage r.plan
 
 abbrev pub journal_phase : JournalReader → Phase
 journal_phase r = InJournal r.section r.opening.state

@@ -21,7 +21,7 @@ use std::mem;
 /// Where the next line of the plan stands: it is the first; it comes between groups; or it comes in a group, whose own
 /// line has this number.
 #[derive(Drop)]
-pub(crate) enum Place {
+pub(crate) enum PlanStage {
     First,
     Between,
     InGroup(u64, GroupReader),
@@ -39,7 +39,7 @@ pub(crate) enum PlanEnd {
 #[derive(Drop)]
 pub(crate) struct PlanReader {
     plan: BasePlan,
-    place: Place,
+    stage: PlanStage,
 }
 
 // Adds the telegram of a line. A ninth line isn't looked at.
@@ -104,7 +104,7 @@ impl PlanReader {
     {
         PlanReader {
             plan: BasePlan::new(alloc),
-            place: Place::First,
+            stage: PlanStage::First,
         }
     }
 
@@ -115,7 +115,7 @@ impl PlanReader {
         match kind {
             PlanLine::FirstLine => {
                 self.plan = BasePlan::new(alloc);
-                self.place = Place::Between;
+                self.stage = PlanStage::Between;
                 None
             }
             _ => Some(PlanEnd::Bad(number, Refusal::BadLine)),
@@ -134,7 +134,7 @@ impl PlanReader {
     {
         match kind {
             PlanLine::GroupLine => {
-                self.place = Place::InGroup(number, GroupReader::new(alloc));
+                self.stage = PlanStage::InGroup(number, GroupReader::new(alloc));
                 None
             }
             PlanLine::EditsLine => Some(PlanEnd::Edits),
@@ -159,10 +159,10 @@ impl PlanReader {
         ensures takes { OnErr result (LineMayRunOut (plan_phase self.old) (is_telegram (plan_line_of line.now))) }
     {
         let kind = read_plan_line(line);
-        match &mut self.place {
-            Place::First => Ok(self.read_first(alloc, number, kind)),
-            Place::Between => Ok(self.read_between(alloc, number, kind, line)),
-            Place::InGroup(group_number, group) => {
+        match &mut self.stage {
+            PlanStage::First => Ok(self.read_first(alloc, number, kind)),
+            PlanStage::Between => Ok(self.read_between(alloc, number, kind, line)),
+            PlanStage::InGroup(group_number, group) => {
                 if is_telegram(kind) {
                     return read_telegram(alloc, group, number, line);
                 }
@@ -188,10 +188,10 @@ impl PlanReader {
         ensures fault { IfErr result (λ e. e ≡ RunFault.OutOfMemory) }
         ensures takes { OnErr result (EndMayRunOut (plan_phase self.old)) }
     {
-        match &mut self.place {
-            Place::First => Ok((number, Refusal::BadLine)),
-            Place::Between => Ok((number, Refusal::BadLine)),
-            Place::InGroup(group_number, group) => {
+        match &mut self.stage {
+            PlanStage::First => Ok((number, Refusal::BadLine)),
+            PlanStage::Between => Ok((number, Refusal::BadLine)),
+            PlanStage::InGroup(group_number, group) => {
                 match self.plan.push(mem::replace(group, GroupReader::new(alloc))) {
                     Ok(()) => Ok((number, Refusal::BadLine)),
                     Err(Refusal::OutOfMemory) => Err(RunFault::OutOfMemory),

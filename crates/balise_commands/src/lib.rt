@@ -4,7 +4,7 @@
 mod command;
 mod line;
 
-pub use balise_bits::Bits;
-pub use balise_rules::{Id, Tag, Var};
+pub use balise_bits::{Bits, BitsFault, hex_value};
+pub use balise_rules::{Id, Tag, TaggedEdit, Var};
 pub use command::Command;
 pub use line::{Line, LineEdit, Noted};

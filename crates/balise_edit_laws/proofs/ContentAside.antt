@@ -1,7 +1,7 @@
 -- Places don't look at the content that was taken out.
 -- By going through the nine kinds of edits.
 use Rattle.std.proofs.Common.{◌≡◌, refl}
-use Rattle.balise_rules.specs.Edits.{SetVar, SetHead, InsertPacket, DeletePacket, MovePacket, AddGroup, DropGroup, Renumber, TurnGroup}
+use Rattle.balise_rules.specs.declared.tagged_edit.TaggedEdit.TheVariants.{SetVar, SetHead, InsertPacket, DeletePacket, MovePacket, AddGroup, DropGroup, Renumber, TurnGroup}
 use Rattle.balise_rules.specs.Paths.{Entry, changes, needs}
 use Rattle.balise_edit_laws.specs.Content.{taken, ContentAside}
 

@@ -13,7 +13,8 @@ use Rattle.balise_rules.specs.Tags.{Key, same_var, same_key}
 use Rattle.balise_rules.specs.Forms.{Fields}
 use Rattle.balise_rules.specs.Names.{country_at, calls, is_it}
 use Rattle.balise_rules.specs.Accepting.{Lawful}
-use Rattle.balise_rules.specs.Edits.{Edit, SetVar, Renumber, TurnGroup, field_after}
+use Rattle.balise_rules.specs.Edits.{Edit, field_after}
+use Rattle.balise_rules.specs.declared.tagged_edit.TaggedEdit.TheVariants.{SetVar, Renumber, TurnGroup}
 use Rattle.balise_rules.proofs.Tests.{split_on, var_test, key_test}
 use Rattle.balise_rules.proofs.Lists.{find-each}
 use Rattle.balise_rules.proofs.Cases.{found}

@@ -17,7 +17,8 @@ use Rattle.balise_rules.specs.Names.{country_at, is_it}
 use Rattle.balise_rules.specs.Notes.{noted, note_at, note_group, set_note}
 use Rattle.balise_rules.specs.Doing.{done}
 use Rattle.balise_rules.specs.Accepting.{Accepted}
-use Rattle.balise_rules.specs.Edits.{SetVar, SetHead, Renumber, telegram_after}
+use Rattle.balise_rules.specs.Edits.{telegram_after}
+use Rattle.balise_rules.specs.declared.tagged_edit.TaggedEdit.TheVariants.{SetVar, SetHead, Renumber}
 use Rattle.balise_rules.specs.Back.{back}
 use Rattle.balise_rules.proofs.Tests.{split_on, tag_test, key_test, var_test}
 use Rattle.balise_rules.proofs.Cases.{parts4}

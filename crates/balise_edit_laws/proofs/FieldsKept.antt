@@ -16,7 +16,8 @@ use Rattle.balise_rules.specs.Packets.{packet}
 use Rattle.balise_rules.specs.Packet.{Packet, IsSpelt}
 use Rattle.balise_rules.specs.Names.{country_at, calls, is_it}
 use Rattle.balise_rules.specs.Accepting.{Lawful}
-use Rattle.balise_rules.specs.Edits.{Edit, SetVar, SetHead, Renumber, TurnGroup, exchanged, field_after, packet_after}
+use Rattle.balise_rules.specs.Edits.{Edit, exchanged, field_after, packet_after}
+use Rattle.balise_rules.specs.declared.tagged_edit.TaggedEdit.TheVariants.{SetVar, SetHead, Renumber, TurnGroup}
 use Rattle.balise_rules.proofs.Tests.{var_test}
 use Rattle.balise_rules.proofs.Cases.{parts4}
 use Rattle.balise_rules.proofs.Values.{value_kept}

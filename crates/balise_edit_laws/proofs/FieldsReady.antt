@@ -11,7 +11,8 @@ use Rattle.balise_rules.specs.Tags.{same_tag, same_key}
 use Rattle.balise_rules.specs.Packets.{packet}
 use Rattle.balise_rules.specs.Telegram.{header, version_of}
 use Rattle.balise_rules.specs.Plan.{Plan, country_of, telegram_at}
-use Rattle.balise_rules.specs.Edits.{Item, SetVar, SetHead, field_after, packet_after, head_after, telegram_after}
+use Rattle.balise_rules.specs.Edits.{Item, field_after, packet_after, head_after, telegram_after}
+use Rattle.balise_rules.specs.declared.tagged_edit.TaggedEdit.TheVariants.{SetVar, SetHead}
 use Rattle.balise_rules.specs.Notes.{noted, note_at, set_note}
 use Rattle.balise_rules.specs.Doing.{done}
 use Rattle.balise_rules.specs.Accepting.{Accepted}

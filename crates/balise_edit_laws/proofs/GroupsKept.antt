@@ -12,7 +12,8 @@ use Rattle.balise_rules.specs.Packet.{IsSpelt}
 use Rattle.balise_rules.specs.Telegram.{Telegram, version_of}
 use Rattle.balise_rules.specs.Plan.{Group, reserved, country_of, identity_of, IsSoundTelegram, SoundFrom, IsSoundGroup}
 use Rattle.balise_rules.specs.Accepting.{Lawful}
-use Rattle.balise_rules.specs.Edits.{Edit, Item, TurnGroup, packets_change, telegram_after, in_order, group_after}
+use Rattle.balise_rules.specs.Edits.{Edit, Item, packets_change, telegram_after, in_order, group_after}
+use Rattle.balise_rules.specs.declared.tagged_edit.TaggedEdit.TheVariants.{TurnGroup}
 use Rattle.balise_rules.proofs.Tests.{split_on, nat_test}
 use Rattle.balise_rules.proofs.Distincts.{distinct-each}
 use Rattle.balise_rules.proofs.Each.{found_later, length-each}

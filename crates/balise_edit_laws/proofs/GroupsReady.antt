@@ -14,7 +14,8 @@ use Rattle.balise_rules.specs.Packet.{Packet}
 use Rattle.balise_rules.specs.Telegram.{Telegram, header}
 use Rattle.balise_rules.specs.Plan.{Group, Plan, country_of, identity_of, IsSoundGroup}
 use Rattle.balise_rules.specs.Names.{country_at}
-use Rattle.balise_rules.specs.Edits.{AddGroup, DropGroup, Renumber, TurnGroup, group_of, field_after, packet_after, group_after}
+use Rattle.balise_rules.specs.Edits.{group_of, field_after, packet_after, group_after}
+use Rattle.balise_rules.specs.declared.tagged_edit.TaggedEdit.TheVariants.{AddGroup, DropGroup, Renumber, TurnGroup}
 use Rattle.balise_rules.specs.Notes.{Note, noted, note_drop, note_group}
 use Rattle.balise_rules.specs.Doing.{done, renumbered}
 use Rattle.balise_rules.specs.Accepting.{Accepted, NoGroup, NoName, Stands}

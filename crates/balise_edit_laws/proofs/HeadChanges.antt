@@ -12,7 +12,8 @@ use Rattle.balise_rules.specs.Tags.{same_var}
 use Rattle.balise_rules.specs.Forms.{Fields}
 use Rattle.balise_rules.specs.Packet.{value}
 use Rattle.balise_rules.specs.Accepting.{Lawful}
-use Rattle.balise_rules.specs.Edits.{Edit, SetHead, Renumber, TurnGroup, head_after}
+use Rattle.balise_rules.specs.Edits.{Edit, head_after}
+use Rattle.balise_rules.specs.declared.tagged_edit.TaggedEdit.TheVariants.{SetHead, Renumber, TurnGroup}
 use Rattle.balise_rules.proofs.Tests.{split_on, var_test}
 use Rattle.balise_rules.proofs.Untouched.{KeepsHead, value_untouched}
 

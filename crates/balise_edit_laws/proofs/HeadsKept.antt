@@ -18,7 +18,8 @@ use Rattle.balise_rules.specs.Packet.{value}
 use Rattle.balise_rules.specs.Telegram.{Telegram, header, is_balise}
 use Rattle.balise_rules.specs.Plan.{IsSoundTelegram}
 use Rattle.balise_rules.specs.Accepting.{Lawful}
-use Rattle.balise_rules.specs.Edits.{Edit, SetVar, SetHead, Renumber, TurnGroup, exchanged, head_after}
+use Rattle.balise_rules.specs.Edits.{Edit, exchanged, head_after}
+use Rattle.balise_rules.specs.declared.tagged_edit.TaggedEdit.TheVariants.{SetVar, SetHead, Renumber, TurnGroup}
 use Rattle.balise_rules.proofs.Tests.{split_on}
 use Rattle.balise_rules.proofs.Values.{value-each, value_found}
 use Rattle.balise_rules.proofs.Tables.{header_steady}

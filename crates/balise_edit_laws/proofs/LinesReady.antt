@@ -8,12 +8,13 @@ use Rattle.balise_rules.specs.declared.tag.Tag.{Tag}
 use Rattle.balise_rules.specs.Packet.{Packet, IsSpelt}
 use Rattle.balise_rules.specs.Telegram.{Telegram, version_of}
 use Rattle.balise_rules.specs.Plan.{Plan, telegram_at}
-use Rattle.balise_rules.specs.Edits.{Edit, Item, InsertPacket}
+use Rattle.balise_rules.specs.Edits.{Edit, Item}
+use Rattle.balise_rules.specs.declared.tagged_edit.TaggedEdit.TheVariants.{InsertPacket, SetVar, SetHead, DeletePacket, MovePacket, AddGroup, DropGroup, Renumber, TurnGroup}
 use Rattle.balise_rules.specs.Notes.{noted}
 use Rattle.balise_rules.specs.Doing.{refusal}
 use Rattle.balise_rules.specs.Accepting.{Spelt}
 use Rattle.balise_rules.specs.Addresses.{packet_in}
-use Rattle.balise_rules.specs.Journal.{Line, LineEdit, LineSetVar, LineSetHead, LineInsertPacket, LineDeletePacket, LineMovePacket, LineAddGroup, LineDropGroup, LineRenumber, LineTurnGroup, Noted, Nothing, Value, Number, BeforePacket, BeforeGroup, noted_of, same_noted}
+use Rattle.balise_rules.specs.Journal.{Line, LineEdit, Noted, Nothing, Value, Number, BeforePacket, BeforeGroup, noted_of, same_noted}
 use Rattle.balise_rules.specs.Opening.{or_nothing, packet_for, inserting, edit_in, fits_line, if_fits, item_of}
 use Rattle.balise_rules.proofs.Tests.{tag_test, spot_one}
 use Rattle.balise_rules.proofs.Cases.{unsome}
@@ -43,15 +44,15 @@ inserted g t a plan None h e q = absurd cc
 inserted g t a plan (Some x) h e q = subst (λ f. Spelt f plan) (unsome q) (h x refl)
 
 line_spelt : (l : LineEdit) → (plan : Plan) → (e : Edit) → edit_in l plan ≡ Some e → Spelt e plan
-line_spelt (LineInsertPacket g t a b) plan e h = inserted g t a plan (option_and_then (packet_for b) (telegram_at g t plan)) (packet_of b (telegram_at g t plan)) e h
-line_spelt (LineSetVar g t p v k n) plan e h = subst (λ f. Spelt f plan) (unsome h) tt
-line_spelt (LineSetHead g t v n) plan e h = subst (λ f. Spelt f plan) (unsome h) tt
-line_spelt (LineDeletePacket g t p) plan e h = subst (λ f. Spelt f plan) (unsome h) tt
-line_spelt (LineMovePacket g t p a) plan e h = subst (λ f. Spelt f plan) (unsome h) tt
-line_spelt (LineAddGroup a bs) plan e h = subst (λ f. Spelt f plan) (unsome h) tt
-line_spelt (LineDropGroup g) plan e h = subst (λ f. Spelt f plan) (unsome h) tt
-line_spelt (LineRenumber g n) plan e h = subst (λ f. Spelt f plan) (unsome h) tt
-line_spelt (LineTurnGroup g) plan e h = subst (λ f. Spelt f plan) (unsome h) tt
+line_spelt (InsertPacket g t a b) plan e h = inserted g t a plan (option_and_then (packet_for b) (telegram_at g t plan)) (packet_of b (telegram_at g t plan)) e h
+line_spelt (SetVar g t p v k n) plan e h = subst (λ f. Spelt f plan) (unsome h) tt
+line_spelt (SetHead g t v n) plan e h = subst (λ f. Spelt f plan) (unsome h) tt
+line_spelt (DeletePacket g t p) plan e h = subst (λ f. Spelt f plan) (unsome h) tt
+line_spelt (MovePacket g t p a) plan e h = subst (λ f. Spelt f plan) (unsome h) tt
+line_spelt (AddGroup a bs) plan e h = subst (λ f. Spelt f plan) (unsome h) tt
+line_spelt (DropGroup g) plan e h = subst (λ f. Spelt f plan) (unsome h) tt
+line_spelt (Renumber g n) plan e h = subst (λ f. Spelt f plan) (unsome h) tt
+line_spelt (TurnGroup g) plan e h = subst (λ f. Spelt f plan) (unsome h) tt
 
 noted_same : (m n : Noted) → same_noted m n ≡ true → m ≡ n
 noted_same Nothing Nothing h = refl

@@ -13,7 +13,8 @@ use Rattle.balise_rules.specs.Plan.{Plan, telegram_at, IsSound}
 use Rattle.balise_rules.specs.Notes.{noted, note_at}
 use Rattle.balise_rules.specs.Doing.{done}
 use Rattle.balise_rules.specs.Accepting.{Accepted, AcceptedAt, AcceptedIn, Unused}
-use Rattle.balise_rules.specs.Edits.{InsertPacket, DeletePacket, MovePacket, telegram_after}
+use Rattle.balise_rules.specs.Edits.{telegram_after}
+use Rattle.balise_rules.specs.declared.tagged_edit.TaggedEdit.TheVariants.{InsertPacket, DeletePacket, MovePacket}
 use Rattle.balise_rules.specs.Back.{back, with_packets, put_back}
 use Rattle.balise_rules.proofs.Tests.{split_on, tag_test}
 use Rattle.balise_rules.proofs.ListsBack.{without-put_same, put_before-without}

@@ -10,7 +10,8 @@ use Rattle.balise_rules.specs.Tags.{same_tag}
 use Rattle.balise_rules.specs.Packet.{Packet, width, IsSpelt}
 use Rattle.balise_rules.specs.Telegram.{used}
 use Rattle.balise_rules.specs.Accepting.{Lawful}
-use Rattle.balise_rules.specs.Edits.{Edit, Item, SetVar, InsertPacket, DeletePacket, MovePacket, packet_after, packets_change}
+use Rattle.balise_rules.specs.Edits.{Edit, Item, packet_after, packets_change}
+use Rattle.balise_rules.specs.declared.tagged_edit.TaggedEdit.TheVariants.{SetVar, InsertPacket, DeletePacket, MovePacket}
 use Rattle.balise_rules.proofs.Tests.{tag_test}
 use Rattle.balise_rules.proofs.Distincts.{distinct-each, distinct-without, distinct-put, distinct-move}
 use Rattle.balise_rules.proofs.Each.{each-id}

@@ -11,7 +11,8 @@ use Rattle.balise_rules.specs.Tags.{same_tag}
 use Rattle.balise_rules.specs.Packet.{Packet, width, IsSpelt}
 use Rattle.balise_rules.specs.Telegram.{Telegram, used}
 use Rattle.balise_rules.specs.Plan.{Group, Plan, telegram_at}
-use Rattle.balise_rules.specs.Edits.{Item, InsertPacket, DeletePacket, MovePacket, in_order, telegram_after, group_after}
+use Rattle.balise_rules.specs.Edits.{Item, in_order, telegram_after, group_after}
+use Rattle.balise_rules.specs.declared.tagged_edit.TaggedEdit.TheVariants.{InsertPacket, DeletePacket, MovePacket}
 use Rattle.balise_rules.specs.Notes.{Note, noted, note_at, note_in}
 use Rattle.balise_rules.specs.Doing.{done}
 use Rattle.balise_rules.specs.Accepting.{Accepted, Stands}

@@ -21,7 +21,8 @@ use Rattle.balise_rules.specs.Telegram.{Telegram, version_of}
 use Rattle.balise_rules.specs.Plan.{Plan, Group, identity_of, telegram_at, group_named, IsSound}
 use Rattle.balise_rules.specs.Doing.{refusal}
 use Rattle.balise_rules.specs.Accepting.{Unused, Spelt}
-use Rattle.balise_rules.specs.Edits.{Edit, SetVar, SetHead, InsertPacket, DeletePacket, MovePacket, AddGroup, DropGroup, Renumber, TurnGroup}
+use Rattle.balise_rules.specs.Edits.{Edit}
+use Rattle.balise_rules.specs.declared.tagged_edit.TaggedEdit.TheVariants.{SetVar, SetHead, InsertPacket, DeletePacket, MovePacket, AddGroup, DropGroup, Renumber, TurnGroup}
 use Rattle.balise_edit_laws.specs.TakenBack.{IsReady}
 use Rattle.balise_rules.proofs.Tests.{split_on, tag_test, nat_test}
 use Rattle.balise_rules.proofs.Cases.{unsome, unok, unless}

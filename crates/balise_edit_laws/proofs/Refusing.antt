@@ -17,7 +17,8 @@ use Rattle.balise_rules.specs.Plan.{Plan, Group, reserved, identity_of, telegram
 use Rattle.balise_rules.specs.Names.{is_named}
 use Rattle.balise_rules.specs.Doing.{renumbered, refusal, first_of, when, taken, group_fault, no_group, in_telegram, same_place}
 use Rattle.balise_rules.specs.Accepting.{Accepted, Stands, NoGroup}
-use Rattle.balise_rules.specs.Edits.{Edit, SetVar, SetHead, InsertPacket, DeletePacket, MovePacket, AddGroup, DropGroup, Renumber, TurnGroup, group_of, group_or_none}
+use Rattle.balise_rules.specs.Edits.{Edit, group_of, group_or_none}
+use Rattle.balise_rules.specs.declared.tagged_edit.TaggedEdit.TheVariants.{SetVar, SetHead, InsertPacket, DeletePacket, MovePacket, AddGroup, DropGroup, Renumber, TurnGroup}
 use Rattle.balise_rules.proofs.Cases.{found}
 use Rattle.balise_rules.proofs.Found.{stood}
 use Rattle.balise_rules.proofs.Accepted.{there, is_there, isnt, stands_to, stands_from, accepted_here, accepted_at}

@@ -12,7 +12,8 @@ use Rattle.balise_rules.specs.Plan.{Plan, Group, reserved, identity_of, telegram
 use Rattle.balise_rules.specs.Notes.{noted}
 use Rattle.balise_rules.specs.Doing.{done, renumbered}
 use Rattle.balise_rules.specs.Accepting.{Accepted, AcceptedAt, AcceptedIn, Lawful}
-use Rattle.balise_rules.specs.Edits.{Edit, Item, SetVar, InsertPacket, AddGroup, DropGroup, Renumber, group_of, group_after}
+use Rattle.balise_rules.specs.Edits.{Edit, Item, group_of, group_after}
+use Rattle.balise_rules.specs.declared.tagged_edit.TaggedEdit.TheVariants.{SetVar, InsertPacket, AddGroup, DropGroup, Renumber}
 use Rattle.balise_edit_laws.specs.TakenBack.{IsReady}
 use Rattle.balise_rules.proofs.Tests.{split_on, split_keys, flip_no, tag_test, id_test}
 use Rattle.balise_rules.proofs.Distincts.{distinct-each, distinct-without, distinct-put}

@@ -14,7 +14,8 @@ use Rattle.balise_rules.specs.Plan.{Plan, telegram_at, IsSound}
 use Rattle.balise_rules.specs.Notes.{noted}
 use Rattle.balise_rules.specs.Doing.{done}
 use Rattle.balise_rules.specs.Accepting.{Accepted, Lawful, Unused, Spelt}
-use Rattle.balise_rules.specs.Edits.{Edit, Item, InsertPacket, AddGroup, DropGroup, group_of, group_after}
+use Rattle.balise_rules.specs.Edits.{Edit, Item, group_of, group_after}
+use Rattle.balise_rules.specs.declared.tagged_edit.TaggedEdit.TheVariants.{InsertPacket, AddGroup, DropGroup}
 use Rattle.balise_edit_laws.specs.TakenBack.{IsReady}
 use Rattle.balise_rules.proofs.Tests.{split_keys, tag_test}
 use Rattle.balise_rules.proofs.Lists.{find-put, find-without, find-without_same, find-each}

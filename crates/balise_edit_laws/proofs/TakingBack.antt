@@ -9,7 +9,8 @@ use Rattle.balise_rules.specs.Plan.{Plan, IsSound}
 use Rattle.balise_rules.specs.Notes.{noted, note_drop}
 use Rattle.balise_rules.specs.Doing.{done}
 use Rattle.balise_rules.specs.Accepting.{Accepted, Unused}
-use Rattle.balise_rules.specs.Edits.{Item, SetVar, SetHead, InsertPacket, DeletePacket, MovePacket, AddGroup, DropGroup, Renumber, TurnGroup, group_of}
+use Rattle.balise_rules.specs.Edits.{Item, group_of}
+use Rattle.balise_rules.specs.declared.tagged_edit.TaggedEdit.TheVariants.{SetVar, SetHead, InsertPacket, DeletePacket, MovePacket, AddGroup, DropGroup, Renumber, TurnGroup}
 use Rattle.balise_rules.specs.Back.{back, put_back}
 use Rattle.balise_rules.proofs.Tests.{tag_test}
 use Rattle.balise_rules.proofs.ListsBack.{without-put_same, put_before-without}

@@ -20,7 +20,8 @@ use Rattle.balise_rules.specs.Plan.{Plan, Group, country_of, telegram_at, IsSoun
 use Rattle.balise_rules.specs.Names.{calls}
 use Rattle.balise_rules.specs.Notes.{noted}
 use Rattle.balise_rules.specs.Doing.{done}
-use Rattle.balise_rules.specs.Edits.{TurnGroup, exchanged, head_after, telegram_after, in_order, group_after}
+use Rattle.balise_rules.specs.Edits.{exchanged, head_after, telegram_after, in_order, group_after}
+use Rattle.balise_rules.specs.declared.tagged_edit.TaggedEdit.TheVariants.{TurnGroup}
 use Rattle.balise_rules.specs.Back.{back}
 use Rattle.balise_rules.proofs.Tests.{split_on, tag_test, nat_test, var_test}
 use Rattle.balise_rules.proofs.Reversed.{each-reverse}

@@ -14,7 +14,8 @@ use Rattle.balise_rules.specs.Plan.{Plan, Group, country_of, telegram_at, IsSoun
 use Rattle.balise_rules.specs.Notes.{noted}
 use Rattle.balise_rules.specs.Doing.{done}
 use Rattle.balise_rules.specs.Accepting.{Unused}
-use Rattle.balise_rules.specs.Edits.{Item, SetVar, InsertPacket, DeletePacket, MovePacket, AddGroup, DropGroup, group_of, packet_after, packets_change, telegram_after, group_after}
+use Rattle.balise_rules.specs.Edits.{Item, group_of, packet_after, packets_change, telegram_after, group_after}
+use Rattle.balise_rules.specs.declared.tagged_edit.TaggedEdit.TheVariants.{SetVar, InsertPacket, DeletePacket, MovePacket, AddGroup, DropGroup}
 use Rattle.balise_edit_laws.specs.TakenBack.{IsReady}
 use Rattle.balise_rules.proofs.Tests.{split_on, split_keys, tag_test, nat_test}
 use Rattle.balise_rules.proofs.Lists.{find-put, find-without, find-without_same, find-each}

@@ -15,7 +15,8 @@ use Rattle.balise_rules.specs.Packets.{counted, link, linking, gradient, gradien
 use Rattle.balise_rules.specs.Packet.{Packet, read_body, IsSpelt}
 use Rattle.balise_rules.specs.Telegram.{header, read_packets, read_header, read_telegram, version_of}
 use Rattle.balise_rules.specs.Plan.{Plan, IsSound, read_telegrams, read_group, read_plan, telegram_at}
-use Rattle.balise_rules.specs.Edits.{Edit, group_of, SetVar, InsertPacket, Renumber, TurnGroup}
+use Rattle.balise_rules.specs.Edits.{Edit, group_of}
+use Rattle.balise_rules.specs.declared.tagged_edit.TaggedEdit.TheVariants.{SetVar, InsertPacket, Renumber, TurnGroup}
 use Rattle.balise_rules.specs.Doing.{refusal}
 use Rattle.balise_rules.specs.Accepting.{Unused, Spelt}
 use Rattle.balise_rules.specs.Addresses.{packet_in}

@@ -5,7 +5,7 @@ use Rattle.balise_rules.specs.declared.refusal.Refusal.TheVariants.{NumberTaken}
 use Rattle.balise_rules.specs.declared.tag.Tag.TheVariants.{Base}
 use Rattle.balise_rules.specs.Packet.{Packet}
 use Rattle.balise_rules.specs.Plan.{Plan}
-use Rattle.balise_rules.specs.Edits.{SetVar, InsertPacket, Renumber, TurnGroup}
+use Rattle.balise_rules.specs.declared.tagged_edit.TaggedEdit.TheVariants.{SetVar, InsertPacket, Renumber, TurnGroup}
 use Rattle.balise_rules.specs.Doing.{refusal}
 use Rattle.balise_rules.specs.Addresses.{packet_in}
 use Rattle.balise_rules.specs.Examples.{Text, plan_of, word, linking_100, three}

@@ -5,7 +5,8 @@ use Rattle.balise_rules.specs.declared.variable.Var.TheVariants.{NidBg, QLinkori
 use Rattle.balise_rules.specs.declared.identity.Id.{Id}
 use Rattle.balise_rules.specs.declared.tag.Tag.{Tag}
 use Rattle.balise_rules.specs.Tags.{same_tag, same_var}
-use Rattle.balise_rules.specs.Edits.{Edit, SetVar, SetHead, InsertPacket, DeletePacket, MovePacket, AddGroup, DropGroup, Renumber, TurnGroup}
+use Rattle.balise_rules.specs.Edits.{Edit}
+use Rattle.balise_rules.specs.declared.tagged_edit.TaggedEdit.TheVariants.{SetVar, SetHead, InsertPacket, DeletePacket, MovePacket, AddGroup, DropGroup, Renumber, TurnGroup}
 use Rattle.balise_rules.specs.Paths.{Path, Entry, At, Nth, Of, Turn, After, Front, Whose, anchor, neighbour, changes, needs, ids, meet, meets_any, any_meets, room_apart, apart}
 use Rattle.balise_rules.specs.Behind.{anchored}
 use Rattle.balise_rules.proofs.Tests.{equal_yes, flip_no, split_keys, test-sym, tag_test, nat_test}

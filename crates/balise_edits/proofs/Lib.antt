@@ -12,7 +12,3 @@ pub mod Oriented
 pub mod SetNames
 pub mod Bare
 pub mod Items
-pub mod FoundLines
-pub mod Gathering
-pub mod Linked
-pub mod TurnedLines

@@ -4,7 +4,7 @@ use Rattle.std.specs.Prelude.{Option, Some, None, slice_get}
 use Rattle.balise_rules.specs.declared.variable.Var.TheVariants.{NidBg, QLinkorientation, QDir, MDup}
 use Rattle.balise_rules.specs.declared.identity.Id.{Id}
 use Rattle.balise_rules.specs.Tags.{same_var}
-use Rattle.balise_rules.specs.Edits.{SetVar, SetHead}
+use Rattle.balise_rules.specs.declared.tagged_edit.TaggedEdit.TheVariants.{SetVar, SetHead}
 use Rattle.balise_rules.specs.Paths.{Part, Path, Entry, At, Nth, Of, Turn, Whose, same_part, changes, needs, ids, meet, meets_any, any_meets, room_apart, apart}
 use Rattle.balise_edits.specs.Needs.{needed_place, needed_names, listed, left_out, but, clear}
 use Rattle.balise_edits.proofs.Steps.{drop-here, drop-none}

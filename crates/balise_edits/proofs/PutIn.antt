@@ -7,7 +7,8 @@ use Rattle.balise_rules.specs.Tags.{same_tag}
 use Rattle.balise_rules.specs.Packet.{Packet}
 use Rattle.balise_rules.specs.Telegram.{Telegram}
 use Rattle.balise_rules.specs.Plan.{Group, Plan, identity_of, read_group}
-use Rattle.balise_rules.specs.Edits.{AddGroup, InsertPacket, group_of, group_or_none}
+use Rattle.balise_rules.specs.Edits.{group_of, group_or_none}
+use Rattle.balise_rules.specs.declared.tagged_edit.TaggedEdit.TheVariants.{AddGroup, InsertPacket}
 use Rattle.balise_rules.specs.Back.{in_packets, with_packets}
 use Rattle.balise_rules.specs.Names.{names_in}
 use Rattle.balise_rules.specs.Notes.{noted, nothing}

@@ -12,8 +12,8 @@ use Rattle.balise_rules.specs.Packet.{Packet, field_of, value, IsSpelt}
 use Rattle.balise_rules.specs.Telegram.{Telegram, version_of}
 use Rattle.balise_rules.specs.Plan.{Plan, country_of, telegram_at, IsSound}
 use Rattle.balise_rules.specs.Names.{country_at, is_real}
-use Rattle.balise_rules.specs.Edits.{SetVar}
-use Rattle.balise_rules.specs.Notes.{noted, note_at, set_note, names_set}
+use Rattle.balise_rules.specs.declared.tagged_edit.TaggedEdit.TheVariants.{SetVar}
+use Rattle.balise_rules.specs.Notes.{noted, note_at, nothing, set_note, names_set}
 use Rattle.balise_rules.specs.Accepting.{Accepted}
 use Rattle.balise_rules.proofs.Accepted.{accepted_here}
 use Rattle.balise_rules.proofs.Cases.{unsome}
@@ -21,6 +21,7 @@ use Rattle.balise_rules.proofs.Found.{packet_spelt, stood}
 use Rattle.balise_rules.proofs.Values.{value_found}
 use Rattle.balise_telegram.specs.Packed.{links_at, links_found}
 use Rattle.balise_plan.proofs.LinksAt.{links-at}
+use Rattle.balise_edits.specs.Notes.{with_names, with_old}
 use Rattle.balise_edits.proofs.Oriented.{numbered_link}
 
 -- the variables of an element that name it, or say which way it is passed
@@ -94,3 +95,15 @@ number_names g t p k n plan link i sound acc item some =
     let m = named g t p NidBg k n plan link sound (inl refl) acc item in
     let same : i ≡ link_in (country_of m.telegram) k m.linked.packet.fields = unsome (sym some ∙ m.is) in
     ap (λ j. filter is_real (j ∷ record { country = j.country; number = n } ∷ [])) same ∙ sym (noted_names g t p NidBg k n plan m.telegram m.linked.packet m.stands m.linked.has)
+
+-- What a setting notes is an old value and identities, and nothing else.
+form_in : (v : Var) (k n c : ℕ) (o : Option Packet) → with_old (set_note v k n c o).old (with_names (set_note v k n c o).names nothing) ≡ set_note v k n c o
+form_in v k n c None = refl
+form_in v k n c (Some x) = refl
+
+form_at : (g : Tag) (t : ℕ) (p : Tag) (v : Var) (k n : ℕ) (o : Option Telegram) → let m = note_at (SetVar g t p v k n) o in with_old m.old (with_names m.names nothing) ≡ m
+form_at g t p v k n None = refl
+form_at g t p v k n (Some y) = form_in v k n (country_of y) (find same_tag p y.packets)
+
+pub noted_form : (g : Tag) (t : ℕ) (p : Tag) (v : Var) (k n : ℕ) (plan : Plan) → let m = noted (SetVar g t p v k n) plan in with_old m.old (with_names m.names nothing) ≡ m
+noted_form g t p v k n plan = form_at g t p v k n (telegram_at g t plan)

@@ -5,7 +5,8 @@ use Rattle.balise_rules.specs.declared.identity.Id.{Id}
 use Rattle.balise_rules.specs.Tagged.{find}
 use Rattle.balise_rules.specs.Tags.{same_tag}
 use Rattle.balise_rules.specs.Plan.{Plan, identity_of, IsSound}
-use Rattle.balise_rules.specs.Edits.{Edit, Item, Renumber, TurnGroup, group_after}
+use Rattle.balise_rules.specs.Edits.{Edit, Item, group_after}
+use Rattle.balise_rules.specs.declared.tagged_edit.TaggedEdit.TheVariants.{Renumber, TurnGroup}
 use Rattle.balise_rules.specs.Notes.{Note, noted, note_group}
 use Rattle.balise_rules.specs.Doing.{done, refusal}
 use Rattle.balise_rules.specs.Back.{back}

@@ -5,4 +5,3 @@ pub mod Needs
 pub mod Homes
 pub mod Anchors
 pub mod Standing
-pub mod Reviews

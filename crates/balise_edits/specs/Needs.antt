@@ -3,7 +3,7 @@ use Rattle.std.specs.Prelude.{Bool, false, cond, ◌&&◌, not, List, [], ◌∷
 use Rattle.balise_rules.specs.declared.variable.Var.TheVariants.{NidBg, QLinkorientation, QDir, MDup}
 use Rattle.balise_rules.specs.declared.identity.Id.{Id}
 use Rattle.balise_rules.specs.Tags.{same_var}
-use Rattle.balise_rules.specs.Edits.{SetVar, SetHead, InsertPacket, DeletePacket, AddGroup, DropGroup}
+use Rattle.balise_rules.specs.declared.tagged_edit.TaggedEdit.TheVariants.{SetVar, SetHead, InsertPacket, DeletePacket, AddGroup, DropGroup}
 use Rattle.balise_rules.specs.Paths.{Path, Entry, At, Nth, Of, Turn, After, changes, needs, any_meets, room_apart}
 use Rattle.balise_rules.specs.Behind.{same_path}
 

@@ -2,8 +2,7 @@
 
 ghost use Rattle.std.specs.Prelude.{◌≡◌, IfOk, IsOkUnless};
 
-use balise_bits::Bits;
-use balise_layout::Packet;
+use balise_plan::{Bits, Packet};
 use balise_rules::{Id, Refusal};
 
 /// A packet once more.
@@ -44,13 +43,4 @@ pub(crate) fn copy_names(names: &Vec<Id>) -> Result<Vec<Id>, Refusal>
     ensures fault { IsOkUnless result Refusal.OutOfMemory }
 {
     Ok(Vec::from_slice(*names.allocator(), names)?)
-}
-
-/// Identities that have a place of their own once more.
-pub(crate) fn copy_placed_names(names: &Box<Vec<Id>>) -> Result<Box<Vec<Id>>, Refusal>
-    ensures ok { IfOk result (λ copied. copied.value.items ≡ names.now.value.items) }
-    ensures fault { IsOkUnless result Refusal.OutOfMemory }
-{
-    let copied = copy_names(names)?;
-    Ok(Box::new(*Box::allocator(names), copied)?)
 }

@@ -9,7 +9,7 @@ ghost use Rattle.balise_edits.specs.Edits.{edit_of};
 ghost use Rattle.balise_edits.specs.Homes.{home_of, number_at};
 ghost use Rattle.balise_edits.specs.Notes.{note_of, Suits};
 
-use crate::edit::Edit;
+use crate::edit::{Edit, copy_edit};
 use crate::home::Home;
 use crate::note::Note;
 use balise_rules::{Refusal, Tag};
@@ -70,7 +70,7 @@ impl Entry {
         ensures ok { IfOk result (λ entry. entry ≡ self.now) }
         ensures fault { IsOkUnless result Refusal.OutOfMemory }
     {
-        let mut done = placed(self.allocator(), self.done.edit.copy()?)?;
+        let mut done = placed(self.allocator(), copy_edit(&self.done.edit)?)?;
         done.note = self.done.note.copy()?;
         Ok(Entry {
             serial: self.serial,

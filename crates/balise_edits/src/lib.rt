@@ -16,19 +16,17 @@ mod naming;
 mod note;
 mod overlaps;
 mod path;
-mod reviewing;
 
 pub use applying::{again, apply, take_back};
-pub use balise_commands::{Line, LineEdit, Noted};
+pub use balise_commands::{Command, Line, LineEdit, Noted};
 pub use balise_plan::{
-    Bits, Group, GroupTag, Id, LinkPlace, Packet, PacketTag, Plan, Refusal, Refusal as EditFault,
-    Spot, Tag, Telegram, Var,
+    Address, Bits, Group, GroupReader, GroupTag, Id, LinkPlace, Links, Packet, PacketTag, Place,
+    Plan, Refusal, Refusal as EditFault, Spot, Tag, Telegram, Var,
 };
-pub use balise_rules::{ReviewLine, Reviewed};
+pub use balise_review::{ReviewLine, Reviewed, review};
 pub use counting::count_apart;
-pub use edit::Edit;
+pub use edit::{Edit, copy_edit};
 pub use entry::Entry;
 pub use independence::{apart, independent, re_anchor, stands_behind};
 pub use listing::{changed_places, needed_places};
 pub use path::{InGroup, InPacket, InTelegram, Path};
-pub use reviewing::review;

@@ -8,9 +8,8 @@ ghost use Rattle.balise_edits.specs.Edits.{edit_of};
 use crate::copying::copy_telegrams;
 use crate::edit::Edit;
 use crate::entry::Entry;
-use balise_bits::Bits;
 use balise_commands::{Line, LineEdit, Noted};
-use balise_layout::Packet;
+use balise_plan::{Bits, Packet};
 use balise_rules::Refusal;
 use std::alloc::Global;
 
@@ -28,54 +27,15 @@ fn whole_bytes(alloc: Global, packet: &Packet) -> Result<Bits, Refusal>
     Ok(bits)
 }
 
-impl Edit {
-    // The edit as a line has it.
-    fn line(&self, alloc: Global) -> Result<LineEdit, Refusal>
-        ensures ok { IfOk result (λ line. line_edit_of line ≡ line_edit (edit_of self.now)) }
-        ensures fault { IsOkUnless result Refusal.OutOfMemory }
-    {
-        match *self {
-            Edit::SetVar {
-                g,
-                t,
-                p,
-                var,
-                k,
-                value,
-            } => Ok(LineEdit::SetVar {
-                g,
-                t,
-                p,
-                var,
-                k,
-                value,
-            }),
-            Edit::SetHead { g, t, var, value } => Ok(LineEdit::SetHead { g, t, var, value }),
-            Edit::InsertPacket {
-                g,
-                t,
-                after,
-                ref packet,
-            } => Ok(LineEdit::InsertPacket {
-                g,
-                t,
-                after,
-                packet: whole_bytes(alloc, packet)?,
-            }),
-            Edit::DeletePacket { g, t, p } => Ok(LineEdit::DeletePacket { g, t, p }),
-            Edit::MovePacket { g, t, p, after } => Ok(LineEdit::MovePacket { g, t, p, after }),
-            Edit::AddGroup {
-                after,
-                ref telegrams,
-            } => Ok(LineEdit::AddGroup {
-                after,
-                telegrams: copy_telegrams(telegrams)?,
-            }),
-            Edit::DropGroup { g } => Ok(LineEdit::DropGroup { g }),
-            Edit::Renumber { g, number } => Ok(LineEdit::Renumber { g, number }),
-            Edit::TurnGroup { g } => Ok(LineEdit::TurnGroup { g }),
-        }
-    }
+// The edit as a line has it.
+fn line_edit(alloc: Global, edit: &Edit) -> Result<LineEdit, Refusal>
+    ensures ok { IfOk result (λ line. line_edit_of line ≡ line_edit (edit_of edit.now)) }
+    ensures fault { IsOkUnless result Refusal.OutOfMemory }
+{
+    edit.as_ref().try_map(
+        |_, _, packet| whole_bytes(alloc, packet),
+        |telegrams| copy_telegrams(telegrams),
+    )
 }
 
 impl Entry {
@@ -100,7 +60,7 @@ impl Entry {
         ensures ok { IfOk result (λ line. line_in line ≡ line_of self.now) }
         ensures fault { IsOkUnless result Refusal.OutOfMemory }
     {
-        let edit = self.edit().line(self.allocator())?;
+        let edit = line_edit(self.allocator(), self.edit())?;
         let noted = self.noted();
         Ok(Line {
             serial: self.serial(),

@@ -1,15 +1,16 @@
 //! The identities that packets and groups name, in order, but for number 16383, which names nothing.
 
-ghost use Rattle.std.specs.Prelude.{◌≡◌, ◌++◌, [], ◌∷◌, filter, slice_get, Some, None, IfOk, IsOkUnless, OnOk};
+ghost use Rattle.std.specs.Prelude.{◌≡◌, ◌++◌, [], ◌∷◌, false, filter, slice_get, Some, None, IfOk, IsOkUnless, OnOk};
 ghost use Rattle.balise_rules.specs.declared.variable.Var.TheVariants.{NidBg, QLinkorientation};
 ghost use Rattle.balise_rules.specs.Accepting.{Accepted};
-ghost use Rattle.balise_rules.specs.Edits.{SetVar};
+ghost use Rattle.balise_rules.specs.declared.tagged_edit.TaggedEdit.TheVariants.{SetVar};
 ghost use Rattle.balise_rules.specs.Names.{is_real, names_in, names_in_packets, names_of};
 ghost use Rattle.balise_rules.specs.Notes.{noted};
 ghost use Rattle.balise_rules.specs.Plan.{country_of, telegram_at, IsSound};
+ghost use Rattle.balise_rules.specs.Tags.{same_var};
 ghost use Rattle.balise_rules.specs.Telegram.{Telegram};
 ghost use Rattle.balise_telegram.specs.Packed.{links_at};
-ghost use Rattle.balise_edits.specs.Notes.{names_in as names_held};
+ghost use Rattle.balise_edits.specs.Notes.{are_two, names_in as names_held};
 
 use crate::note::Names;
 use balise_plan::{Group, PacketRef, Plan, Telegram};
@@ -73,6 +74,8 @@ fn add_many(names: &mut Vec<Id>, packet: &PacketRef, country: u32) -> Result<(),
 fn add_real(names: &mut Vec<Id>, identities: &[Id]) -> Result<(), AllocError>
     ensures { OnOk result (names.new.items ≡ names.old.items ++ filter is_real identities.now) }
 {
+    // An entry keeps the list.
+    names.reserve_exact(identities.len())?;
     for k in 0..identities.len() {
         let id = identities[k];
         if id.number == NO_GROUP {
@@ -86,7 +89,8 @@ fn add_real(names: &mut Vec<Id>, identities: &[Id]) -> Result<(), AllocError>
 /// The identities that setting a field has to do with, where it is accepted: the old and the new one of a link, or of an
 /// orientation the link's. Takes no memory.
 pub(crate) fn names_set(plan: &Plan, g: Tag, t: u32, p: Tag, var: Var, k: u32, value: u32) -> Names
-    ensures { Accepted (SetVar g t p var k value) plan.now.groups → names_held result ≡ (noted (SetVar g t p var k value) plan.now.groups).names }
+    ensures names { Accepted (SetVar g t p var k value) plan.now.groups → names_held result ≡ (noted (SetVar g t p var k value) plan.now.groups).names }
+    ensures few { same_var var NidBg ≡ false → are_two result ≡ false }
 {
     if var == Var::NidBg {
         return names_of_number(plan, g, t, p, k, value);
@@ -94,7 +98,7 @@ pub(crate) fn names_set(plan: &Plan, g: Tag, t: u32, p: Tag, var: Var, k: u32, v
     if var == Var::QLinkorientation {
         return names_of_orientation(plan, g, t, p, k, value);
     }
-    Names::Neither([])
+    Names::Neither
 }
 
 // Those that setting the number of a link has to do with.
@@ -102,7 +106,7 @@ fn names_of_number(plan: &Plan, g: Tag, t: u32, p: Tag, k: u32, value: u32) -> N
     ensures { Accepted (SetVar g t p NidBg k value) plan.now.groups → names_held result ≡ (noted (SetVar g t p NidBg k value) plan.now.groups).names }
 {
     let Some(from) = link_at(plan, g, t, p, k) else {
-        return Names::Neither([]);
+        return Names::Neither;
     };
     let to = Id {
         country: from.country,
@@ -113,10 +117,11 @@ fn names_of_number(plan: &Plan, g: Tag, t: u32, p: Tag, k: u32, value: u32) -> N
 
 // The one that setting an orientation has to do with.
 fn names_of_orientation(plan: &Plan, g: Tag, t: u32, p: Tag, k: u32, value: u32) -> Names
-    ensures { Accepted (SetVar g t p QLinkorientation k value) plan.now.groups → names_held result ≡ (noted (SetVar g t p QLinkorientation k value) plan.now.groups).names }
+    ensures names { Accepted (SetVar g t p QLinkorientation k value) plan.now.groups → names_held result ≡ (noted (SetVar g t p QLinkorientation k value) plan.now.groups).names }
+    ensures few { are_two result ≡ false }
 {
     let Some(link) = link_at(plan, g, t, p, k) else {
-        return Names::Neither([]);
+        return Names::Neither;
     };
     one_real(link)
 }
@@ -139,10 +144,11 @@ fn link_at(plan: &Plan, g: Tag, t: u32, p: Tag, k: u32) -> Option<Id>
 
 // The identity, if it is of a group.
 fn one_real(id: Id) -> Names
-    ensures { names_held result ≡ filter is_real (id ∷ []) }
+    ensures names { names_held result ≡ filter is_real (id ∷ []) }
+    ensures few { are_two result ≡ false }
 {
     if id.number == NO_GROUP {
-        return Names::Neither([]);
+        return Names::Neither;
     }
     Names::One([id])
 }

@@ -1,90 +1,123 @@
 //! What an edit notes of the plan before it is done.
 
-ghost use Rattle.std.specs.Prelude.{◌≡◌, IfOk, IsOkUnless};
-ghost use Rattle.balise_edits.specs.Notes.{kind_in, names_in, note_of};
+ghost use Rattle.std.specs.Prelude.{◌≡◌, false, IfOk, IsOk, IsOkUnless};
+ghost use Rattle.balise_rules.specs.Notes.{nothing};
+ghost use Rattle.balise_edits.specs.Notes.{are_two, kind_in, names_in, note_of, with_names, with_old, OfField, OfInsertion};
 
-use crate::copying::{copy_names, copy_packet, copy_placed_names};
-use balise_layout::Packet;
-use balise_plan::Group;
+use crate::copying::{copy_names, copy_packet};
+use balise_plan::{Group, Packet};
 use balise_rules::{Id, Refusal, Tag};
+use std::alloc::Global;
 
 /// The identities that a setting has to do with: the old and the new one of a link, or of an orientation the link's.
 #[derive(Clone, Copy)]
 pub(crate) enum Names {
-    Neither([Id; 0]),
+    Neither,
     One([Id; 1]),
     Both([Id; 2]),
 }
 
-impl Names {
-    /// The identities.
-    pub(crate) fn as_slice(&self) -> &[Id]
-        ensures { result.now ≡ names_in self.now }
-    {
-        match self {
-            Names::Neither(names) => names,
-            Names::One(names) => names,
-            Names::Both(names) => names,
-        }
-    }
+/// A group that was put in: its identity, and those that it names.
+#[derive(Drop)]
+pub(crate) struct AddedGroup {
+    pub(crate) own: Id,
+    pub(crate) names: Vec<Id>,
 }
 
-/// A packet that was taken out of the plan, while it isn't there, and the identities that it names.
+/// A packet that was taken out of the plan, while it isn't there, the identities that it names, and its old next
+/// neighbour.
 #[derive(Drop)]
 pub(crate) struct TakenPacket {
+    pub(crate) before: Option<Tag>,
     pub(crate) names: Vec<Id>,
     pub(crate) packet: Option<Packet>,
 }
 
-/// A group that was taken out of the plan, while it isn't there, and the identities that it names.
+/// A group that was taken out of the plan, while it isn't there, its identity, those that it names, and its old next
+/// neighbour.
 #[derive(Drop)]
 pub(crate) struct TakenGroup {
+    pub(crate) before: Option<Tag>,
+    pub(crate) own: Id,
     pub(crate) names: Vec<Id>,
     pub(crate) group: Option<Group>,
 }
 
-/// What an edit notes of the plan before it is done, by the kind of the edit. `before` is the old next neighbour, or
-/// none for the end. What was taken out of the plan is here while the edit stands, and in the plan once it is taken back.
+/// What an edit notes of the plan before it is done, by the kind of the edit. It takes 16 bytes: what is larger has a
+/// place of its own, as few notes have it. `before` is the old next neighbour, or none for the end. What was taken out
+/// of the plan is here while the edit stands, and in the plan once it is taken back.
 #[derive(Drop)]
 pub(crate) enum Note {
-    /// A field set.
-    Field {
-        old: u32,
-        names: Names,
-    },
+    /// A field set that has to do with no identity.
+    Field { old: u32 },
+    /// A field of a link set that has to do with one identity.
+    Linked { old: u32, names: [Id; 1] },
+    /// A link set from one identity to another.
+    Relinked { old: u32, names: Box<[Id; 2]> },
     /// A field of a header set.
-    Header {
-        old: u32,
-    },
-    /// A packet put in, which names these identities.
-    Inserted {
-        names: Vec<Id>,
-    },
-    /// A packet taken out. It has a place of its own, as few notes have one.
-    Deleted {
-        before: Option<Tag>,
-        taken: Box<TakenPacket>,
-    },
+    Header { old: u32 },
+    /// A packet put in that names no identity, as most don't.
+    Inserted,
+    /// A packet put in, and the identities that it names.
+    InsertedLinks { names: Box<Vec<Id>> },
+    /// A packet taken out.
+    Deleted { taken: Box<TakenPacket> },
     /// A packet moved.
-    Moved {
-        before: Option<Tag>,
-    },
-    /// A group put in: its identity, and those that it names, which have a place of their own, as few notes have them.
-    Added {
-        own: Id,
-        names: Box<Vec<Id>>,
-    },
-    /// A group taken out, and its identity.
-    Dropped {
-        before: Option<Tag>,
-        own: Id,
-        taken: Box<TakenGroup>,
-    },
+    Moved { before: Option<Tag> },
+    /// A group put in.
+    Added { added: Box<AddedGroup> },
+    /// A group taken out.
+    Dropped { taken: Box<TakenGroup> },
     /// A group renumbered or turned: its old identity.
     Own(Id),
 }
 
 impl Note {
+    /// The note of a field that will be set, but for its old value. Takes memory for two identities alone.
+    pub(crate) fn of_field(alloc: Global, names: Names) -> Result<Note, Refusal>
+        ensures noted { IfOk result (λ note. note_of note ≡ with_names (names_in names) nothing) }
+        ensures kind { IfOk result (λ note. kind_in note ≡ OfField) }
+        ensures fault { IsOkUnless result Refusal.OutOfMemory }
+        ensures always { are_two names ≡ false → IsOk result }
+    {
+        let old = 0;
+        match names {
+            Names::Neither => Ok(Note::Field { old }),
+            Names::One(names) => Ok(Note::Linked { old, names }),
+            Names::Both(names) => Ok(Note::Relinked {
+                old,
+                names: Box::new(alloc, names)?,
+            }),
+        }
+    }
+
+    /// The note of a packet that will be put in and names these identities. Takes no memory for none.
+    pub(crate) fn of_insertion(names: Vec<Id>) -> Result<Note, Refusal>
+        ensures noted { IfOk result (λ note. note_of note ≡ with_names names.items nothing) }
+        ensures kind { IfOk result (λ note. kind_in note ≡ OfInsertion) }
+        ensures fault { IsOkUnless result Refusal.OutOfMemory }
+    {
+        if names.is_empty() {
+            return Ok(Note::Inserted);
+        }
+        let names = Box::new(*names.allocator(), names)?;
+        Ok(Note::InsertedLinks { names })
+    }
+
+    /// Has the old value of a field that was set.
+    pub(crate) fn set_old(&mut self, value: u32)
+        requires { kind_in self.old ≡ OfField }
+        ensures noted { note_of self.new ≡ with_old value (note_of self.old) }
+        ensures kind { kind_in self.new ≡ OfField }
+    {
+        match self {
+            Note::Field { old } => *old = value,
+            Note::Linked { old, .. } => *old = value,
+            Note::Relinked { old, .. } => *old = value,
+            _ => (),
+        }
+    }
+
     /// The same note once more.
     pub(crate) fn copy(&self) -> Result<Note, Refusal>
         ensures ok { IfOk result (λ note. note_of note ≡ note_of self.now) }
@@ -92,27 +125,25 @@ impl Note {
         ensures fault { IsOkUnless result Refusal.OutOfMemory }
     {
         match *self {
-            Note::Field { old, names } => Ok(Note::Field { old, names }),
-            Note::Header { old } => Ok(Note::Header { old }),
-            Note::Inserted { ref names } => Ok(Note::Inserted {
-                names: copy_names(names)?,
+            Note::Field { old } => Ok(Note::Field { old }),
+            Note::Linked { old, names } => Ok(Note::Linked { old, names }),
+            Note::Relinked { old, ref names } => Ok(Note::Relinked {
+                old,
+                names: copy_both(names)?,
             }),
-            Note::Deleted { before, ref taken } => Ok(Note::Deleted {
-                before,
+            Note::Header { old } => Ok(Note::Header { old }),
+            Note::Inserted => Ok(Note::Inserted),
+            Note::InsertedLinks { ref names } => Ok(Note::InsertedLinks {
+                names: copy_placed_names(names)?,
+            }),
+            Note::Deleted { ref taken } => Ok(Note::Deleted {
                 taken: copy_packet_taken(taken)?,
             }),
             Note::Moved { before } => Ok(Note::Moved { before }),
-            Note::Added { own, ref names } => Ok(Note::Added {
-                own,
-                names: copy_placed_names(names)?,
+            Note::Added { ref added } => Ok(Note::Added {
+                added: copy_group_added(added)?,
             }),
-            Note::Dropped {
-                before,
-                own,
-                ref taken,
-            } => Ok(Note::Dropped {
-                before,
-                own,
+            Note::Dropped { ref taken } => Ok(Note::Dropped {
                 taken: copy_group_taken(taken)?,
             }),
             Note::Own(own) => Ok(Note::Own(own)),
@@ -124,7 +155,9 @@ impl Note {
         ensures { result ≡ (note_of self.now).old }
     {
         match self {
-            Note::Field { old, .. } => *old,
+            Note::Field { old } => *old,
+            Note::Linked { old, .. } => *old,
+            Note::Relinked { old, .. } => *old,
             Note::Header { old } => *old,
             Note::Own(own) => own.number,
             _ => 0,
@@ -136,9 +169,9 @@ impl Note {
         ensures { result ≡ (note_of self.now).before }
     {
         match self {
-            Note::Deleted { before, .. } => *before,
+            Note::Deleted { taken } => taken.before,
             Note::Moved { before } => *before,
-            Note::Dropped { before, .. } => *before,
+            Note::Dropped { taken } => taken.before,
             _ => None,
         }
     }
@@ -148,8 +181,8 @@ impl Note {
         ensures { result ≡ (note_of self.now).own }
     {
         match self {
-            Note::Added { own, .. } => *own,
-            Note::Dropped { own, .. } => *own,
+            Note::Added { added } => added.own,
+            Note::Dropped { taken } => taken.own,
             Note::Own(own) => *own,
             _ => Id {
                 country: 0,
@@ -163,36 +196,81 @@ impl Note {
         ensures { result.now ≡ (note_of self.now).names }
     {
         match self {
-            Note::Field { names, .. } => names.as_slice(),
-            Note::Inserted { names } => names,
-            Note::Deleted { taken, .. } => &taken.names,
-            Note::Added { names, .. } => names,
-            Note::Dropped { taken, .. } => &taken.names,
+            Note::Linked { names, .. } => names,
+            Note::Relinked { names, .. } => &**names,
+            Note::InsertedLinks { names } => names,
+            Note::Deleted { taken } => &taken.names,
+            Note::Added { added } => &added.names,
+            Note::Dropped { taken } => &taken.names,
             _ => &[],
         }
     }
 }
 
+// Both identities of a link once more.
+fn copy_both(names: &Box<[Id; 2]>) -> Result<Box<[Id; 2]>, Refusal>
+    ensures ok { IfOk result (λ copied. copied.value ≡ names.now.value) }
+    ensures fault { IsOkUnless result Refusal.OutOfMemory }
+{
+    Ok(Box::new(*Box::allocator(names), **names)?)
+}
+
+// Identities that have a place of their own once more.
+fn copy_placed_names(names: &Box<Vec<Id>>) -> Result<Box<Vec<Id>>, Refusal>
+    ensures ok { IfOk result (λ copied. copied.value.items ≡ names.now.value.items) }
+    ensures fault { IsOkUnless result Refusal.OutOfMemory }
+{
+    let copied = copy_names(names)?;
+    Ok(Box::new(*Box::allocator(names), copied)?)
+}
+
+// A group that was put in once more.
+fn copy_group_added(added: &Box<AddedGroup>) -> Result<Box<AddedGroup>, Refusal>
+    ensures own { IfOk result (λ copied. copied.value.own ≡ added.now.value.own) }
+    ensures names { IfOk result (λ copied. copied.value.names.items ≡ added.now.value.names.items) }
+    ensures fault { IsOkUnless result Refusal.OutOfMemory }
+{
+    let own = added.own;
+    let names = copy_names(&added.names)?;
+    Ok(Box::new(*Box::allocator(added), AddedGroup { own, names })?)
+}
+
 // A packet that was taken out once more.
 fn copy_packet_taken(taken: &Box<TakenPacket>) -> Result<Box<TakenPacket>, Refusal>
+    ensures before { IfOk result (λ copied. copied.value.before ≡ taken.now.value.before) }
     ensures names { IfOk result (λ copied. copied.value.names.items ≡ taken.now.value.names.items) }
     ensures packet { IfOk result (λ copied. copied.value.packet ≡ taken.now.value.packet) }
     ensures fault { IsOkUnless result Refusal.OutOfMemory }
 {
+    let before = taken.before;
     let names = copy_names(&taken.names)?;
     let packet = copy_packet_or_none(&taken.packet)?;
-    Ok(Box::new(*Box::allocator(taken), TakenPacket { names, packet })?)
+    let copied = TakenPacket {
+        before,
+        names,
+        packet,
+    };
+    Ok(Box::new(*Box::allocator(taken), copied)?)
 }
 
 // A group that was taken out once more.
 fn copy_group_taken(taken: &Box<TakenGroup>) -> Result<Box<TakenGroup>, Refusal>
+    ensures before { IfOk result (λ copied. copied.value.before ≡ taken.now.value.before) }
+    ensures own { IfOk result (λ copied. copied.value.own ≡ taken.now.value.own) }
     ensures names { IfOk result (λ copied. copied.value.names.items ≡ taken.now.value.names.items) }
     ensures group { IfOk result (λ copied. copied.value.group ≡ taken.now.value.group) }
     ensures fault { IsOkUnless result Refusal.OutOfMemory }
 {
+    let (before, own) = (taken.before, taken.own);
     let names = copy_names(&taken.names)?;
     let group = copy_group_or_none(&taken.group)?;
-    Ok(Box::new(*Box::allocator(taken), TakenGroup { names, group })?)
+    let copied = TakenGroup {
+        before,
+        own,
+        names,
+        group,
+    };
+    Ok(Box::new(*Box::allocator(taken), copied)?)
 }
 
 // A packet once more, if there is one.

@@ -6,7 +6,8 @@ use Rattle.balise_rules.specs.declared.refusal.Refusal.{Refusal}
 use Rattle.balise_rules.specs.declared.refusal.Refusal.TheVariants.{OutOfMemory, NoSuchEdit, NothingToUndo, NothingToRedo, DependsOn}
 use Rattle.balise_rules.specs.Plan as rules
 use Rattle.balise_rules.specs.Addresses.{Command, edit_of}
-use Rattle.balise_rules.specs.Edits.{Edit, Item, DropGroup}
+use Rattle.balise_rules.specs.Edits.{Edit, Item}
+use Rattle.balise_rules.specs.declared.tagged_edit.TaggedEdit.TheVariants.{DropGroup}
 use Rattle.balise_rules.specs.Notes.{noted, nothing, without_content}
 use Rattle.balise_rules.specs.Doing.{done, refusal}
 use Rattle.balise_rules.specs.Back.{back}

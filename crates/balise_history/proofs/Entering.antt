@@ -13,11 +13,12 @@ use Rattle.balise_rules.specs.Plan.{telegram_at, IsSound}
 use Rattle.balise_rules.specs.Telegram.{Telegram, version_of}
 use Rattle.balise_rules.specs.Accepting.{Unused, Spelt}
 use Rattle.balise_rules.specs.Addresses.{packet_in}
-use Rattle.balise_rules.specs.Edits.{Edit, Item, DropGroup}
+use Rattle.balise_rules.specs.Edits.{Edit, Item}
+use Rattle.balise_rules.specs.declared.tagged_edit.TaggedEdit.TheVariants.{DropGroup, SetVar, SetHead, InsertPacket, DeletePacket, MovePacket, AddGroup, Renumber, TurnGroup}
 use Rattle.balise_rules.specs.Notes.{noted}
 use Rattle.balise_rules.specs.Doing.{done, refusal}
 use Rattle.balise_rules.specs.Paths.{Entry}
-use Rattle.balise_rules.specs.Journal.{Line, LineEdit, LineSetVar, LineSetHead, LineInsertPacket, LineDeletePacket, LineMovePacket, LineAddGroup, LineDropGroup, LineRenumber, LineTurnGroup, noted_of, same_noted}
+use Rattle.balise_rules.specs.Journal.{Line, LineEdit, noted_of, same_noted}
 use Rattle.balise_rules.specs.Opening.{edit_in, if_fits, inserting, or_nothing, packet_for, item_of, last_serial, with_entry, with_item}
 use Rattle.balise_rules.specs.Session.{State, Removed, held, top}
 use Rattle.balise_rules.proofs.Cases.{unsome}
@@ -40,7 +41,7 @@ use Rattle.balise_history.proofs.Taking.{held_state}
 use Rattle.balise_history.proofs.Answering.{view, HeldIn, leaves, state-is}
 
 -- a packet of a line is spelt in the version of its telegram
-insert-spelt : (e : Edit) (plan : rules.Plan) (g : Tag) (t : ℕ) (a : Option Tag) (b : List Bool) → edit_in (LineInsertPacket g t a b) plan ≡ Some e → Spelt e plan
+insert-spelt : (e : Edit) (plan : rules.Plan) (g : Tag) (t : ℕ) (a : Option Tag) (b : List Bool) → edit_in (InsertPacket g t a b) plan ≡ Some e → Spelt e plan
 insert-spelt e plan g t a b h = by (telegram_at g t plan) refl h
   where
     read : (y : Telegram) → telegram_at g t plan ≡ Some y → (r : Result Packet Refusal) → packet_in (version_of y) b ≡ r → inserting g t a (or_nothing r) ≡ Some e → Spelt e plan
@@ -52,15 +53,15 @@ insert-spelt e plan g t a b h = by (telegram_at g t plan) refl h
     by (Some y) k h = read y k (packet_in (version_of y) b) refl h
 
 pub line-spelt : (l : LineEdit) (e : Edit) (plan : rules.Plan) → edit_in l plan ≡ Some e → Spelt e plan
-line-spelt (LineInsertPacket g t a b) e plan h = insert-spelt e plan g t a b h
-line-spelt (LineSetVar g t p v k n) e plan h = subst (λ f. Spelt f plan) (unsome h) tt
-line-spelt (LineSetHead g t v n) e plan h = subst (λ f. Spelt f plan) (unsome h) tt
-line-spelt (LineDeletePacket g t p) e plan h = subst (λ f. Spelt f plan) (unsome h) tt
-line-spelt (LineMovePacket g t p a) e plan h = subst (λ f. Spelt f plan) (unsome h) tt
-line-spelt (LineAddGroup a bs) e plan h = subst (λ f. Spelt f plan) (unsome h) tt
-line-spelt (LineDropGroup g) e plan h = subst (λ f. Spelt f plan) (unsome h) tt
-line-spelt (LineRenumber g n) e plan h = subst (λ f. Spelt f plan) (unsome h) tt
-line-spelt (LineTurnGroup g) e plan h = subst (λ f. Spelt f plan) (unsome h) tt
+line-spelt (InsertPacket g t a b) e plan h = insert-spelt e plan g t a b h
+line-spelt (SetVar g t p v k n) e plan h = subst (λ f. Spelt f plan) (unsome h) tt
+line-spelt (SetHead g t v n) e plan h = subst (λ f. Spelt f plan) (unsome h) tt
+line-spelt (DeletePacket g t p) e plan h = subst (λ f. Spelt f plan) (unsome h) tt
+line-spelt (MovePacket g t p a) e plan h = subst (λ f. Spelt f plan) (unsome h) tt
+line-spelt (AddGroup a bs) e plan h = subst (λ f. Spelt f plan) (unsome h) tt
+line-spelt (DropGroup g) e plan h = subst (λ f. Spelt f plan) (unsome h) tt
+line-spelt (Renumber g n) e plan h = subst (λ f. Spelt f plan) (unsome h) tt
+line-spelt (TurnGroup g) e plan h = subst (λ f. Spelt f plan) (unsome h) tt
 
 -- the serial of a line that may come next tags nothing
 pub line-unused : (p : Plan) (h : History) (next serial : ℕ) → HeldIn p h next → comes_next h next serial ≡ true → Unused serial p.groups

@@ -21,4 +21,6 @@ pub mod Unmaking
 pub mod Fitting
 pub mod Tested
 pub mod TestedTo
+pub mod DependentsTo
 pub mod Resolved
+mod Mismatching

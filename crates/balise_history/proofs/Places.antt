@@ -7,7 +7,7 @@ use Rattle.balise_rules.specs.declared.refusal.Refusal.{Refusal}
 use Rattle.balise_rules.specs.declared.refusal.Refusal.TheVariants.{NoSuchPacket}
 use Rattle.balise_rules.specs.Refusals.{and_then}
 use Rattle.balise_rules.specs.Addresses.{anchor_at, find_packet, FoundPacket, move_to, edit_of, AskMove}
-use Rattle.balise_rules.specs.Edits.{MovePacket}
+use Rattle.balise_rules.specs.declared.tagged_edit.TaggedEdit.TheVariants.{MovePacket}
 use Rattle.balise_rules.specs.Plan.{Plan}
 use Rattle.balise_rules.specs.Tagged.{find, without, Distinct}
 use Rattle.balise_rules.specs.Tags.{same_tag}

@@ -58,7 +58,7 @@ skipped e fs b p n t w all = record {
   found = t.found ∙ ap (λ (l : List ℕ). b ++ l) (skip-behind e n (drop p fs) all ∙ ap (serials_behind e) (drop-drop n p fs));
 }
 
-same-length : (fs : List Entry) → length (map number_at fs) ≡ length fs
+pub same-length : (fs : List Entry) → length (map number_at fs) ≡ length fs
 same-length [] = refl
 same-length (f ∷ fs) = ap suc (same-length fs)
 
@@ -75,7 +75,7 @@ counted e fs hs b p n t is w all =
 pub found-at : (fs : List Entry) (n : ℕ) (f : Entry) → true ≡ ltb n (length fs) → f ≡ get_or fs n f → slice_get fs n ≡ Some f
 found-at fs n f l is = got fs n f (ltb-true n (length fs) (sym l)) ∙ ap Some (sym is)
 
-at-drop : (p : ℕ) (fs : List Entry) (f : Entry) → slice_get fs p ≡ Some f → drop p fs ≡ f ∷ drop (suc p) fs
+pub at-drop : (p : ℕ) (fs : List Entry) (f : Entry) → slice_get fs p ≡ Some f → drop p fs ≡ f ∷ drop (suc p) fs
 at-drop p [] f h = absurd cc
 at-drop zero (x ∷ xs) f h = ap (λ (y : Entry). y ∷ xs) (unsome h)
 at-drop (suc p) (x ∷ xs) f h = at-drop p xs f h

@@ -1,6 +1,7 @@
 pub mod Lists
 pub mod Held
 pub mod Tests
+pub mod Dependents
 pub mod Sessions
 pub mod Openings
 pub mod Returned

@@ -3,8 +3,7 @@
 ghost use Rattle.std.specs.Prelude.{◌≡◌, ◌≢◌, IfErr, IfOk, Ok, Err};
 ghost use Rattle.balise_rules.specs.Addresses.{packet_in};
 
-use balise_bits::Bits;
-use balise_layout::Packet;
+use balise_edits::{Bits, Packet};
 use balise_rules::Refusal;
 
 /// The packet in the bits of a word of digits, for a telegram of this M_VERSION: as many bytes as its L_PACKET needs,

@@ -2,8 +2,9 @@
 
 mod journal_entry;
 
-ghost use Rattle.std.specs.Prelude.{◌≡◌, ◌+◌, ◌<◌, ◌≤◌, ◌^◌, [], ℕ, length, IfOk, IsErrOf, OnOk};
+ghost use Rattle.std.specs.Prelude.{◌≡◌, ◌≢◌, ◌+◌, ◌<◌, ◌≤◌, ◌^◌, [], ℕ, length, Err, IfErr, IfOk, IsErrOf, Ok, OnOk};
 ghost use Rattle.balise_commands.specs.Commands.{command_of};
+ghost use Rattle.balise_history.specs.Dependents.{dependents_of};
 ghost use Rattle.balise_history.specs.Held.{Answered, state_at};
 ghost use Rattle.balise_history.specs.Tests.{StrikeMayRunOut};
 ghost use Rattle.balise_rules.specs.Accepting.{Unused};
@@ -12,13 +13,11 @@ ghost use Rattle.balise_rules.specs.Session.{entries, later};
 ghost use Rattle.balise_rules.specs.Session as rules;
 ghost use Rattle.balise_strike_laws.specs.Headline.{Promised};
 
-use crate::dependents::serials_behind;
+use crate::dependents::{dependents_of, serials_behind};
 use crate::history::{History, place_of};
 use crate::resolving::edit_asked;
 use crate::struck::Struck;
-use balise_commands::Command;
-use balise_edits::apply;
-use balise_plan::Plan;
+use balise_edits::{Command, Plan, apply};
 use balise_rules::Refusal;
 use balise_strike_laws::sessions_promised;
 use std::alloc::Global;
@@ -132,5 +131,15 @@ impl EditedPlan {
         let behind = serials_behind(self.history.allocator(), entry, later, homes)?;
         self.history.take_out(&mut self.plan, place, behind)?;
         Ok(Struck { serial, compared })
+    }
+
+    /// The serials of the later standing edits that depend on the standing edit of a serial, in order.
+    pub(crate) fn dependents(&self, serial: u32) -> Result<Vec<u32>, Refusal>
+        ensures ok { IfOk result (λ v. dependents_of serial (entries self.now.base self.now.standing) ≡ Ok v.items) }
+        ensures fault { IfErr result (λ r. r ≢ Refusal.OutOfMemory → dependents_of serial (entries self.now.base self.now.standing) ≡ Err r) }
+    {
+        let standing = self.history.standing();
+        let homes = self.history.homes();
+        dependents_of(self.history.allocator(), standing, homes, serial)
     }
 }

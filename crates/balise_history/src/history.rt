@@ -12,8 +12,7 @@ ghost use Rattle.balise_rules.specs.Session.{needs_no_memory};
 ghost use Rattle.balise_rules.specs.declared.refusal.Refusal.TheVariants.{OutOfMemory};
 ghost use Rattle.balise_strike_laws.specs.InSession.{Rising};
 
-use balise_edits::{Entry, again, re_anchor, take_back};
-use balise_plan::Plan;
+use balise_edits::{Entry, Plan, again, re_anchor, take_back};
 use balise_rules::Refusal;
 use std::alloc::Global;
 use std::marker::Model;

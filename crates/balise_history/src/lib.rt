@@ -12,12 +12,11 @@ mod resolving;
 mod session;
 mod struck;
 
-pub use balise_commands::Command;
 pub use balise_edits::{
-    Bits, Edit, Entry, Group, GroupTag, Id, Line, LineEdit, LinkPlace, Noted, Packet, PacketTag,
-    Plan, Refusal, ReviewLine, Reviewed, Spot, Tag, Telegram, Var, review,
+    Bits, Command, Edit, Entry, Group, GroupReader, GroupTag, Id, Line, LineEdit, LinkPlace, Links,
+    Noted, Packet, PacketTag, Plan, Refusal, ReviewLine, Reviewed, Spot, Tag, Telegram, Var,
+    review,
 };
-pub use balise_plan::{GroupReader, Links};
 pub use journal_fault::JournalFault;
 pub use opening::Opening;
 pub use session::Session;

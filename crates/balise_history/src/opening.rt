@@ -10,8 +10,7 @@ ghost use Rattle.balise_rules.specs.Plan.{IsSound};
 
 use crate::edited::EditedPlan;
 use crate::session::Session;
-use balise_edits::Line;
-use balise_plan::Plan;
+use balise_edits::{Line, Plan};
 use balise_rules::Refusal;
 use std::alloc::Global;
 use std::marker::Model;

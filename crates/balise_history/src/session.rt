@@ -3,6 +3,7 @@
 ghost use Rattle.std.specs.Prelude.{◌≡◌, ◌≢◌, ◌+◌, ◌<◌, ◌≤◌, ◌^◌, [], ℕ, length, map, nat_le, Err, IfErr, IfNone, IfOk, IfSome, IsErrOf, IsOkUnless, Ok};
 ghost use Rattle.balise_commands.specs.Lines.{line_in};
 ghost use Rattle.balise_commands.specs.Commands.{command_of};
+ghost use Rattle.balise_history.specs.Dependents.{dependents_of};
 ghost use Rattle.balise_history.specs.Openings.{FailsAt};
 ghost use Rattle.balise_history.specs.Returned.{bare};
 ghost use Rattle.balise_history.specs.Sessions.{reply_of, ChangesOnce, IsWorn};
@@ -18,9 +19,7 @@ use crate::edited::EditedPlan;
 use crate::journal_fault::JournalFault;
 use crate::opening::Opening;
 use crate::struck::Struck;
-use balise_commands::Command;
-use balise_edits::{Entry, Line};
-use balise_plan::Plan;
+use balise_edits::{Command, Entry, Line, Plan};
 use balise_rules::Refusal;
 use std::alloc::Global;
 use std::marker::Model;
@@ -175,6 +174,15 @@ impl Session {
         let struck = self.edited.strike(serial)?;
         self.count += 1;
         Ok(struck)
+    }
+
+    /// The serials of the later standing edits that depend on the standing edit of a serial, in order. Where there is none,
+    /// a strike of it isn't refused as `DependsOn`. Refused as `NoSuchEdit`, or as `OutOfMemory`.
+    pub fn dependents(&self, serial: u32) -> Result<Vec<u32>, Refusal>
+        ensures ok { IfOk result (λ v. dependents_of serial (entries self.now.state.base self.now.state.standing) ≡ Ok v.items) }
+        ensures fault { IfErr result (λ r. r ≢ Refusal.OutOfMemory → dependents_of serial (entries self.now.state.base self.now.state.standing) ≡ Err r) }
+    {
+        self.edited.dependents(serial)
     }
 
     /// Whether 1,000,000 commands were accepted, and each further one is refused as `Worn`.

@@ -1,5 +1,6 @@
 //! The tests, by topic.
 
+mod dependents;
 mod growths;
 mod largest;
 mod links;

@@ -1,5 +1,5 @@
+pub mod CodeAt
 pub mod Cut
 pub mod Flat
 pub mod Laid
 pub mod Starts
-pub mod TagAt

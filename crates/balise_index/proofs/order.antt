@@ -1,4 +1,5 @@
 pub mod Entries
+pub mod Held
 pub mod Put
 pub mod Search
 pub mod Taken

@@ -1,19 +1,18 @@
--- Tags in blocks.
+-- Codes of tags in blocks.
 use Rattle.std.specs.Prelude.{◌≡◌, ◌≤◌, ◌<◌, ◌+◌, ℕ, List, [], ◌∷◌, ◌++◌, length, take, vec_capacity}
-use Rattle.balise_rules.specs.declared.tag.Tag.{Tag}
-use Rattle.balise_index.specs.declared.tag_list.Block.{Block}
+use Rattle.balise_index.specs.declared.code_list.Block.{Block}
 
--- the tags of all blocks
-abbrev pub flat : List Block → List Tag
+-- the codes of all blocks
+abbrev pub flat : List Block → List ℕ
 flat [] = []
-flat (b ∷ bs) = b.tags.items ++ flat bs
+flat (b ∷ bs) = b.codes.items ++ flat bs
 
--- each block begins where those before it end, and has room for as many tags as a block may have
+-- each block begins where those before it end, and has room for as many codes as a block may have
 abbrev pub Laid : ℕ → List Block → Type 0
 Laid n [] = Unit {0}
-Laid n (b ∷ bs) = (b.start ≡ n) × (length b.tags.items ≤ 512) × (512 ≤ vec_capacity b.tags) × Laid (n + length b.tags.items) bs
+Laid n (b ∷ bs) = (b.start ≡ n) × (length b.codes.items ≤ 512) × (512 ≤ vec_capacity b.codes) × Laid (n + length b.codes.items) bs
 
--- how many tags stand before a block
+-- how many codes stand before a block
 abbrev pub before : ℕ → List Block → ℕ
 before b bs = length (flat (take b bs))
 
@@ -23,7 +22,7 @@ pub record IsAt (i b : ℕ) (bs : List Block) : Type 0 where
   pub begun : before b bs ≤ i
   pub last : b + 1 < length bs → i < before (b + 1) bs
 
--- the place is in this block, or after its last tag
+-- the place is in this block, or after its last code
 pub record IsIn (i b : ℕ) (bs : List Block) : Type 0 where
   pub within : b < length bs
   pub begun : before b bs ≤ i
@@ -33,7 +32,7 @@ pub record IsIn (i b : ℕ) (bs : List Block) : Type 0 where
 abbrev pub RoomIn : ℕ → List Block → Type 0
 RoomIn b bs = before (b + 1) bs < before b bs + 512
 
--- a block was cut in two after this number of its tags
+-- a block was cut in two after this number of its codes
 pub record IsCut (b cut : ℕ) (old new : List Block) : Type 0 where
   pub laid : Laid 0 new
   pub same : flat new ≡ flat old
@@ -42,7 +41,7 @@ pub record IsCut (b cut : ℕ) (old new : List Block) : Type 0 where
   pub second : before (b + 1) new ≡ before b old + cut
   pub third : before (b + 1 + 1) new ≡ before (b + 1) old
 
--- tags in order, and for how many more there is room
-pub record TagList : Type 0 where
-  pub items : List Tag
+-- codes in order, and for how many more there is room
+pub record CodeList : Type 0 where
+  pub items : List ℕ
   pub room : ℕ

@@ -7,8 +7,12 @@ pub mod InOrder
 pub mod LentEntry
 pub mod LentValue
 pub mod LinkSet
+pub mod NameIndex
 pub mod Narrow
 pub mod NarrowPlace
 pub mod Places
 pub mod Rows
+pub mod SmallPlace
+pub mod TagCode
 pub mod TagHashes
+pub mod ThreePlaces

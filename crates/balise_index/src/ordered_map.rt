@@ -1,6 +1,6 @@
 //! Values under tags, in an order of the tags.
 
-ghost use Rattle.std.specs.Prelude.{◌≡◌, ◌≤◌, insert, length, option_map, position, slice_get, IfSome, List, [], None, OnOk};
+ghost use Rattle.std.specs.Prelude.{◌≡◌, ◌≤◌, insert, length, option_map, position, slice_get, eqb, IfSome, List, [], None, OnOk};
 ghost use Rattle.std.specs.Borrow.{sem};
 ghost use Rattle.std.specs.Map.{keys_of, remove_entry};
 ghost use Rattle.std.specs.Option.{option_copied, option_copied_mut};
@@ -10,9 +10,10 @@ ghost use Rattle.balise_index.specs.InOrder.{HasRoom};
 ghost use Rattle.balise_index.specs.LentEntry.{lends_entry};
 
 use crate::homes::Homes;
+use crate::tag_code::own_index;
 use crate::tag_hasher::TagMap;
 use crate::tag_list::TagList;
-use crate::tag_search::{place_near, stands_at};
+use crate::tag_search::{odd_with, place_in_rising, place_near, stands_at};
 use balise_rules::Tag;
 use indexmap::IndexMap;
 use std::alloc::{AllocError, Global};
@@ -24,9 +25,12 @@ use std::marker::Model;
 #[derive(Drop)]
 pub struct OrderedMap<V> {
     order: TagList,
+    // Under the codes that the order has.
     held: TagMap<V>,
     // Where a value was put in or taken out last.
     near: usize,
+    // The first tag that was put in before a lower one or after a higher one. The others rise, until memory is taken again.
+    odd: Option<Tag>,
     homes: Homes,
 }
 
@@ -36,9 +40,9 @@ impl<V> Model for OrderedMap<V> {
 
     ghost Value = { specs.OrderedMap V };
 
-    ghost view = { λ m. record { entries = specs.in_order m.held.entries m.order.items; room = m.order.room; spare = spare m.held } };
+    ghost view = { λ m. record { entries = specs.in_order (specs.tagged m.order.rare m.held.entries) m.order.items; room = m.order.room; spare = spare m.held } };
 
-    ghost invariant = { λ m. specs.IsOrder m.held.entries m.order.items };
+    ghost invariant = { λ m. specs.IsOrder (specs.tagged m.order.rare m.held.entries) m.order.items × specs.HoldsKnown m.order.rare m.held.entries };
 }
 
 impl<V> OrderedMap<V> {
@@ -50,6 +54,7 @@ impl<V> OrderedMap<V> {
             order: TagList::new(alloc),
             held: IndexMap::with_hasher(alloc, BuildHasherDefault::new()),
             near: 0,
+            odd: None,
             homes: Homes::new(alloc),
         }
     }
@@ -70,7 +75,10 @@ impl<V> OrderedMap<V> {
     pub fn get(&self, tag: Tag) -> Option<&V>
         ensures value { option_copied result ≡ find same_tag tag self.now.entries }
     {
-        found(&self.held, tag)
+        match self.order.code_of(tag) {
+            Some(code) => found(&self.held, code),
+            None => None,
+        }
     }
 
     /// The value under this tag, to change.
@@ -78,21 +86,24 @@ impl<V> OrderedMap<V> {
         ensures* writes_back { sem 𝓛 (lends_entry V.row self.entry tag result) }
         ensures value { option_copied_mut result ≡ find same_tag tag self.old.entries }
     {
-        if let Some(i) = own_place(&self.held, tag) {
+        let Some(code) = self.order.code_of(tag) else {
+            return None;
+        };
+        if let Some(i) = own_place(&self.held, code) {
             return self.held.get_index_mut(i);
         }
-        self.held.get_mut(&tag)
+        self.held.get_mut(&code)
     }
 
     /// The value at a place, with its tag.
     pub fn at(&self, i: usize) -> Option<(Tag, &V)>
         ensures { option_map (λ p. (p.0, p.1.now)) result ≡ slice_get self.now.entries i }
     {
-        let Some(tag) = self.order.get(i) else {
+        let Some(code) = self.order.code(i) else {
             return None;
         };
-        match found(&self.held, tag) {
-            Some(group) => Some((tag, group)),
+        match found(&self.held, code) {
+            Some(value) => Some((self.order.tag(code), value)),
             None => None,
         }
     }
@@ -110,7 +121,9 @@ impl<V> OrderedMap<V> {
         ensures room { OnOk result (1 ≤ more → HasRoom self.new) }
     {
         self.order.reserve()?;
-        self.homes.reserve(more)?;
+        if self.odd.is_some() {
+            self.homes.reserve(&self.order, &self.held, more)?;
+        }
         self.held.reserve(more)
     }
 
@@ -120,11 +133,14 @@ impl<V> OrderedMap<V> {
         ensures value { option_map (λ p. p.1) result ≡ find same_tag tag self.old.entries }
         ensures entries { self.new.entries ≡ remove_entry (same_tag tag) self.old.entries }
     {
+        let Some(code) = self.order.code_of(tag) else {
+            return None;
+        };
         let Some(i) = self.place_of(tag) else {
             return None;
         };
-        let k = held_at(&self.held, tag);
-        let Some(value) = self.held.swap_remove(&tag) else {
+        let k = held_at(&self.held, code);
+        let Some(value) = self.held.swap_remove(&code) else {
             return None;
         };
         self.order.remove(i);
@@ -134,7 +150,8 @@ impl<V> OrderedMap<V> {
     }
 
     // Where to look for a tag first: where the last value was put in or taken out, where the tag would stand if the first
-    // values were put in by number, or in the block in which it was seen last.
+    // values were put in by number, or in the block in which it was seen last. Where no blocks are noted, tags rise but for
+    // an odd one.
     fn expected(&self, tag: Tag) -> usize {
         if stands_at(&self.order, tag, self.near) {
             return self.near;
@@ -144,8 +161,15 @@ impl<V> OrderedMap<V> {
                 return n as usize;
             }
         }
-        self.homes
-            .place_of(&self.order, held_at(&self.held, tag), tag)
+        if !self.homes.are_noted() {
+            return place_in_rising(&self.order, self.odd, tag);
+        }
+        match self.order.code_of(tag) {
+            Some(code) => self
+                .homes
+                .place_of(&self.order, held_at(&self.held, code), code),
+            None => 0,
+        }
     }
 }
 
@@ -158,45 +182,42 @@ impl<V: Drop> OrderedMap<V> {
         ensures { self.new.entries ≡ insert self.old.entries i (tag, value) }
     {
         let blocks = self.order.count_blocks();
-        self.order.insert(i, tag);
-        let _ = self.held.insert(tag, value);
+        self.odd = odd_with(&self.order, self.odd, tag, i);
+        let code = self.order.insert(i, tag);
+        let _ = self.held.insert(code, value);
         self.near = i;
         self.homes.put(&self.order, &self.held, i, blocks);
     }
 }
 
-// The place of a tag `Base(n)` in the map, if that is n: so it is where such tags were put in first and in order, until
-// one was taken out. This spares a look-up.
-fn own_place<V>(held: &TagMap<V>, tag: Tag) -> Option<usize>
-    ensures { IfSome result (λ i. slice_get (keys_of held.now.entries) i ≡ Some tag) }
+// The place of the code of a tag `Base(n)` in the map, if that is n: so it is where such tags were put in first and in
+// order, until one was taken out. This spares a look-up.
+fn own_place<V>(held: &TagMap<V>, code: u32) -> Option<usize>
+    ensures { IfSome result (λ i. slice_get (keys_of held.now.entries) i ≡ Some code) }
 {
-    let Tag::Base(n) = tag else {
-        return None;
-    };
-    match held.get_index(n as usize) {
-        Some((there, _)) if *there == tag => Some(n as usize),
+    let i = own_index(code);
+    match held.get_index(i) {
+        Some((there, _)) if *there == code => Some(i),
         _ => None,
     }
 }
 
-// What is held under a tag.
-fn found<V>(held: &TagMap<V>, tag: Tag) -> Option<&V>
-    ensures { option_copied result ≡ find same_tag tag held.now.entries }
+// What is held under a code.
+fn found<V>(held: &TagMap<V>, code: u32) -> Option<&V>
+    ensures { option_copied result ≡ find eqb code held.now.entries }
 {
-    if let Tag::Base(n) = tag {
-        if let Some((there, value)) = held.get_index(n as usize) {
-            if *there == tag {
-                return Some(value);
-            }
+    if let Some((there, value)) = held.get_index(own_index(code)) {
+        if *there == code {
+            return Some(value);
         }
     }
-    held.get(&tag)
+    held.get(&code)
 }
 
-// The place of a tag in the map, or the end where it is not there.
-fn held_at<V>(held: &TagMap<V>, tag: Tag) -> usize {
-    if let Some(i) = own_place(held, tag) {
+// The place of a code in the map, or the end where it is not there.
+fn held_at<V>(held: &TagMap<V>, code: u32) -> usize {
+    if let Some(i) = own_place(held, code) {
         return i;
     }
-    held.get_index_of(&tag).unwrap_or(held.len())
+    held.get_index_of(&code).unwrap_or(held.len())
 }

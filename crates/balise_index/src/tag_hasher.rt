@@ -1,22 +1,21 @@
-//! Where tags are held in a map.
+//! Where the codes of tags are held in a map.
 
 ghost use Rattle.std.specs.Prelude.{◌≡◌};
 ghost use Rattle.balise_index.specs.TagHashes as hashes;
 
-use balise_rules::Tag;
 use indexmap::IndexMap;
 use std::hash::{BuildHasherDefault, Hasher};
 
-/// Values under tags.
-pub(crate) type TagMap<V> = IndexMap<Tag, V, BuildHasherDefault<TagHasher>>;
+/// Values under the codes of tags.
+pub(crate) type TagMap<V> = IndexMap<u32, V, BuildHasherDefault<TagHasher>>;
 
-/// What a tag's variant is multiplied by, and the whole for its highest byte.
+/// What a code is multiplied by for the highest byte of its hash.
 const FACTOR: u64 = 0x9e37_79b1;
 
-/// Hashes a tag to its number but for the highest byte, which tells tags at one place apart. So tags one after another, as
+/// Hashes a code to itself but for the highest byte, which tells codes at one place apart. So tags one after another, as
 /// those of a plan that is read, are noted in a map at places one after another.
 ///
-/// Whoever picks the tags can make them collide, as with the hasher that a map has otherwise: its seed is known.
+/// Whoever picks the tags can make their codes collide, as with the hasher that a map has otherwise: its seed is known.
 #[derive(Clone, Copy)]
 pub(crate) struct TagHasher {
     state: u64,

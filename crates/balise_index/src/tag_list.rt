@@ -1,49 +1,32 @@
-//! Tags in order, in blocks, so that one put in or taken out moves few others.
+//! Tags in order, each as a code of four bytes.
 
-mod block_names;
-mod blocks;
+ghost use Rattle.std.specs.Prelude.{◌≡◌, ◌≤◌, ◌<◌, ◌+◌, ◌^◌, length, insert, remove, slice_get, [], IfNone, IfSome, OnOk};
+ghost use Rattle.std.specs.Option.{option_map};
+ghost use Rattle.balise_index.specs.TagCode.{tag_of, HasNone, KeepsTags, OneCode};
 
-ghost use Rattle.std.specs.Prelude.{◌≡◌, ◌≤◌, ◌<◌, ◌+◌, ◌^◌, length, insert, remove, slice_get, [], OnOk};
-
+use crate::code_list::CodeList;
+use crate::tag_code::{RARE, code_of, make_code, tag_of};
 use balise_rules::Tag;
-use block_names::BlockNames;
-use blocks::{block_of, put_in, split, take_out};
 use std::alloc::{AllocError, Global};
 use std::marker::Model;
-use std::mem;
-
-/// How many tags a block has at most.
-const MOST: usize = 512;
-
-/// How many tags there are at most.
-const ALL: usize = 4611686018427387904;
-
-/// Tags one after another, and how many stand before them.
-#[derive(Drop)]
-struct Block {
-    start: usize,
-    tags: Vec<Tag>,
-}
 
 /// Tags in order.
 #[derive(Drop)]
 pub(crate) struct TagList {
-    blocks: Vec<Block>,
-    // Room for the tags of one more block.
-    spare: Vec<Tag>,
-    len: usize,
-    names: BlockNames,
+    codes: CodeList,
+    // The tags that have no code of their own, in the order in which they came.
+    rare: Vec<Tag>,
 }
 
 impl Model for TagList {
-    ghost use Rattle.std.specs.Prelude.{◌≡◌, ◌≤◌, [], length, vec_len, vec_capacity, ◌-◌, ◌/◌, min};
-    ghost use Rattle.balise_index.specs.Blocks as specs;
+    ghost use Rattle.std.specs.Prelude.{◌≤◌, length, vec_len, vec_capacity, ◌-◌, min};
+    ghost use Rattle.balise_index.specs.TagCode as specs;
 
     ghost Value = { specs.TagList };
 
-    ghost view = { λ t. record { items = specs.flat t.blocks.items; room = min (min (vec_capacity t.blocks - vec_len t.blocks) (vec_capacity t.spare / 512)) (4611686018427387904 - t.len) } };
+    ghost view = { λ t. record { items = specs.tags_of t.rare.items t.codes.items; rare = t.rare.items; room = min t.codes.room (min (vec_capacity t.rare - vec_len t.rare) (967296 - vec_len t.rare)) } };
 
-    ghost invariant = { λ t. specs.Laid 0 t.blocks.items × (t.len ≡ length (specs.flat t.blocks.items)) × (t.spare.items ≡ []) × (t.len ≤ 4611686018427387904) };
+    ghost invariant = { λ t. specs.AreKnown t.rare.items t.codes.items × (length t.rare.items ≤ 967296) × specs.OneCode t.rare.items };
 }
 
 impl TagList {
@@ -52,10 +35,8 @@ impl TagList {
         ensures { result.items ≡ [] }
     {
         TagList {
-            blocks: Vec::new(alloc),
-            spare: Vec::new(alloc),
-            len: 0,
-            names: BlockNames::new(alloc),
+            codes: CodeList::new(alloc),
+            rare: Vec::new(alloc),
         }
     }
 
@@ -64,98 +45,106 @@ impl TagList {
         ensures len { result ≡ length self.now.items }
         ensures few { result ≤ 2 ^ 62 }
     {
-        self.len
+        self.codes.len()
     }
 
     /// The tag at a place.
     pub(crate) fn get(&self, i: usize) -> Option<Tag>
         ensures { result ≡ slice_get self.now.items i }
     {
-        if i >= self.len {
-            return None;
+        match self.codes.get(i) {
+            Some(code) => Some(tag_of(&self.rare, code)),
+            None => None,
         }
-        let block = &self.blocks[block_of(&self.blocks, i)];
-        Some(block.tags[i - block.start])
     }
 
-    /// Takes memory for one more. At 2^62 tags it fails and asks for none.
+    /// The code of the tag at a place.
+    pub(crate) fn code(&self, i: usize) -> Option<u32>
+        ensures tag { option_map (tag_of self.now.rare) result ≡ slice_get self.now.items i }
+        ensures known { IfSome result (λ code. code < 4294000000 + length self.now.rare) }
+        ensures one { OneCode self.now.rare }
+    {
+        self.codes.get(i)
+    }
+
+    /// The code of a tag, if it has one.
+    pub(crate) fn code_of(&self, tag: Tag) -> Option<u32>
+        ensures tag { IfSome result (λ code. tag_of self.now.rare code ≡ tag) }
+        ensures known { IfSome result (λ code. code < 4294000000 + length self.now.rare) }
+        ensures none { IfNone result (HasNone self.now.rare tag) }
+        ensures one { OneCode self.now.rare }
+    {
+        code_of(&self.rare, tag)
+    }
+
+    /// The tag of a code.
+    pub(crate) fn tag(&self, code: u32) -> Tag
+        ensures { result ≡ tag_of self.now.rare code }
+    {
+        tag_of(&self.rare, code)
+    }
+
+    /// Takes memory for one more. It fails and asks for none at 2^62 tags, and once 967,296 tags were put in that no plan
+    /// has.
     pub(crate) fn reserve(&mut self) -> Result<(), AllocError>
         ensures items { self.new.items ≡ self.old.items }
+        ensures rare { self.new.rare ≡ self.old.rare }
         ensures room { OnOk result (1 ≤ self.new.room) }
     {
-        if self.len >= ALL {
+        if self.rare.len() >= RARE {
             return Err(AllocError);
         }
-        self.blocks.reserve(1)?;
-        self.names.reserve()?;
-        if self.spare.capacity() < MOST {
-            self.spare = Vec::with_capacity(*self.blocks.allocator(), MOST)?;
-        }
-        Ok(())
+        self.rare.reserve(1)?;
+        self.codes.reserve()
     }
 
-    /// Puts a tag in at a place. Takes no memory.
-    pub(crate) fn insert(&mut self, i: usize, tag: Tag)
+    /// Puts a tag in at a place, and returns its code. Takes no memory.
+    pub(crate) fn insert(&mut self, i: usize, tag: Tag) -> u32
         requires within { i ≤ length self.old.items }
         requires room { 1 ≤ self.old.room }
-        ensures { self.new.items ≡ insert self.old.items i tag }
+        ensures items { self.new.items ≡ insert self.old.items i tag }
+        ensures tag { tag_of self.new.rare result ≡ tag }
+        ensures known { result < 4294000000 + length self.new.rare }
+        ensures more { length self.old.rare ≤ length self.new.rare }
+        ensures kept { KeepsTags self.old.rare self.new.rare }
+        ensures one { OneCode self.new.rare }
     {
-        if self.blocks.len() == 0 {
-            let mut tags = mem::replace(&mut self.spare, Vec::new(*self.blocks.allocator()));
-            let _ = tags.push(tag);
-            let _ = self.blocks.push(Block { start: 0, tags });
-            self.names.begin_after(0);
-            self.len = 1;
-            return;
-        }
-        let mut b = block_of(&self.blocks, i);
-        if self.blocks[b].tags.len() >= MOST {
-            let tags = mem::replace(&mut self.spare, Vec::new(*self.blocks.allocator()));
-            self.names.begin_after(b);
-            b = split(&mut self.blocks, tags, b, i);
-        }
-        put_in(&mut self.blocks, b, i, tag);
-        self.len += 1;
+        let code = make_code(&mut self.rare, tag);
+        self.codes.insert(i, code);
+        code
     }
 
     /// How many blocks they stand in.
     pub(crate) fn count_blocks(&self) -> usize {
-        self.blocks.len()
+        self.codes.count_blocks()
     }
 
     /// The name of the block that a place is in.
     pub(crate) fn block_at(&self, i: usize) -> u32 {
-        if self.blocks.is_empty() {
-            return 0;
-        }
-        self.names.name_of(block_of(&self.blocks, i))
+        self.codes.block_at(i)
     }
 
-    /// The name and the tags of the block that was begun last.
-    pub(crate) fn begun_last(&self) -> (u32, &[Tag]) {
-        let name = self.names.last();
-        match self.blocks.get(self.names.place_of(name)) {
-            Some(block) => (name, block.tags.as_slice()),
-            None => (name, &[]),
-        }
+    /// The place of the block that was begun last.
+    pub(crate) fn begun_last(&self) -> usize {
+        self.codes.begun_last()
     }
 
-    /// Where a tag stands, if the block with a name has it: a guess.
-    pub(crate) fn place_in(&self, name: u32, tag: Tag) -> usize {
-        let Some(block) = self.blocks.get(self.names.place_of(name)) else {
-            return 0;
-        };
-        let within = block.tags.iter().position(|other| *other == tag);
-        block.start.saturating_add(within.unwrap_or(0))
+    /// The name and the codes of the block at a place among the blocks.
+    pub(crate) fn block(&self, b: usize) -> (u32, &[u32]) {
+        self.codes.block(b)
+    }
+
+    /// Where the tag of a code stands, if the block with a name has it: a guess.
+    pub(crate) fn place_in(&self, name: u32, code: u32) -> usize {
+        self.codes.place_in(name, code)
     }
 
     /// Takes out the tag at a place. Takes no memory.
     pub(crate) fn remove(&mut self, i: usize)
         requires { i < length self.old.items }
-        ensures { self.new.items ≡ remove self.old.items i }
+        ensures items { self.new.items ≡ remove self.old.items i }
+        ensures rare { self.new.rare ≡ self.old.rare }
     {
-        let b = block_of(&self.blocks, i);
-        take_out(&mut self.blocks, b, i);
-        self.len -= 1;
+        self.codes.remove(i);
     }
 }

@@ -35,3 +35,58 @@ pub(crate) fn place_near(order: &TagList, tag: Tag, near: usize) -> Option<usize
     }
     None
 }
+
+/// The first tag that doesn't rise, once a tag goes to a place in a list of which it is known so far.
+pub(crate) fn odd_with(order: &TagList, odd: Option<Tag>, tag: Tag, i: usize) -> Option<Tag> {
+    if odd.is_some() || rises_at(order, tag, i) {
+        return odd;
+    }
+    Some(tag)
+}
+
+// Whether a tag that goes to a place is higher than the one before it and lower than the next one.
+fn rises_at(order: &TagList, tag: Tag, i: usize) -> bool {
+    if i > 0 {
+        if let Some(before) = order.get(i - 1) {
+            if tag < before {
+                return false;
+            }
+        }
+    }
+    match order.get(i) {
+        Some(next) => tag < next,
+        None => true,
+    }
+}
+
+/// The place of a tag, or where it would stand, in a list in which tags rise but for an odd one: a guess.
+pub(crate) fn place_in_rising(order: &TagList, odd: Option<Tag>, tag: Tag) -> usize {
+    let mut begin = 0;
+    let mut end = order.len();
+    for _ in 0..usize::BITS {
+        if begin >= end {
+            return begin;
+        }
+        let middle = begin + (end - begin) / 2;
+        if comes_before(order, odd, middle, tag) {
+            begin = middle + 1;
+        } else {
+            end = middle;
+        }
+    }
+    begin
+}
+
+// Whether the tag at a place is lower than another one. In place of the odd one the next one says so.
+fn comes_before(order: &TagList, odd: Option<Tag>, i: usize, tag: Tag) -> bool {
+    let there = order.get(i);
+    let there = if there == odd {
+        order.get(i.saturating_add(1))
+    } else {
+        there
+    };
+    match there {
+        Some(there) => there < tag,
+        None => false,
+    }
+}

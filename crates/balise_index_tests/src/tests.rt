@@ -7,3 +7,4 @@ mod link_orders;
 mod links;
 mod maps;
 mod memory;
+mod names;

@@ -3,7 +3,6 @@ pub mod Identities
 pub mod Known
 pub mod LinkSteps
 pub mod LinksAt
-pub mod Moved
 pub mod OfGroup
 pub mod OfPacket
 pub mod Parts

@@ -11,7 +11,8 @@ use Rattle.balise_rules.specs.Telegram.{Telegram, version_of}
 use Rattle.balise_rules.specs.Plan.{Group, telegram_at, country_of, IsSoundTelegram}
 use Rattle.balise_rules.specs.Doing.{refusal, when}
 use Rattle.balise_rules.specs.Notes.{noted}
-use Rattle.balise_rules.specs.Edits.{DeletePacket, telegram_after, MovePacket}
+use Rattle.balise_rules.specs.Edits.{telegram_after}
+use Rattle.balise_rules.specs.declared.tagged_edit.TaggedEdit.TheVariants.{DeletePacket, MovePacket}
 use Rattle.balise_rules.proofs.Tests.{tag_test, split_keys}
 use Rattle.balise_rules.proofs.Cases.{unsome}
 use Rattle.balise_rules.proofs.Lists.{find-without, find-without_same}
@@ -20,8 +21,7 @@ use Rattle.balise_telegram.specs.Changes.{OrWants, InsertsOrWants}
 use Rattle.balise_telegram.specs.Moving.{TakesOut, insert_refusal, Shifts, ShiftsBefore, moved_before}
 use Rattle.balise_rules.specs.Names.{links_of}
 use Rattle.balise_index.specs.declared.link_place.LinkPlace.{LinkPlace}
-use Rattle.balise_index.specs.Identities.{IndexOf}
-use Rattle.balise_plan.specs.Links.{AreFull, held, Keeps}
+use Rattle.balise_index.specs.NameIndex.{held, IndexOf, Keeps}
 use Rattle.balise_plan.specs.GroupLinks.{links_from, ForgetsAll, listed, AddsAll, KeepsOthers}
 use Rattle.balise_plan.specs.Within.{Within, Passed, no_telegram}
 use Rattle.balise_plan.specs.Held.{IsHeld, Plan}
@@ -77,9 +77,9 @@ module _ (plan : rules.Plan) (ids : IndexOf Tag) (names : IndexOf (set.BTreeSet 
       country-is : (y : Telegram) → telegram_at g t plan ≡ Some y → c ≡ country_of y
       country-is y e = unsome (told ∙ ap (option_map country_of) (sym (ap (option_and_then (find eqb t)) here) ∙ e))
 
-      pub taken : (x : Packet) → x ≡ a.0 → (after : IndexOf (set.BTreeSet LinkPlace)) → AreFull after → ForgetsAll (links_from g t p 0 (links_of c x)) names after →
+      pub taken : (x : Packet) → x ≡ a.0 → (after : IndexOf (set.BTreeSet LinkPlace)) → ForgetsAll (links_from g t p 0 (links_of c x)) names after →
           Outcome (DeletePacket g t p) ids after plan (set_value (same_tag g) plan zs)
-      taken x lent after full f =
+      taken x lent after f =
           let l = well g t plan held_is.sound ys zs here (OrWants (TakesOut p)) a w in
           let own = (noted (DeletePacket g t p) plan).own in
           let ok : refusal (DeletePacket g t p) plan ≡ None = delete-refused g t plan ys here p l.old l.stands ∙ ap (λ (o : Option Packet). when (is_none o) refusals.NoSuchPacket) l.call.0 in
@@ -89,14 +89,14 @@ module _ (plan : rules.Plan) (ids : IndexOf Tag) (names : IndexOf (set.BTreeSet 
             accepted = ok;
             is = l.is ∙ by-telegram (telegram_after (0, DeletePacket g t p) own) g t plan held_is.sound l.old l.next l.stands at (delete-other own g t p);
             held = subst (IsHeld ids after) (sym l.is) (held-put plan held_is.sound g t l.old l.next l.stands (packet-taken p (Ok a) l.old l.next l.call) ids names held_is p None gone
-                (λ r d. ap (λ (y : Telegram). find same_tag r y.packets) l.call.2 ∙ find-without tag_test r p d l.old.packets) after full
+                (λ r d. ap (λ (y : Telegram). find same_tag r y.packets) l.call.2 ∙ find-without tag_test r p d l.old.packets) after
                 (forgotten g t p plan held_is.sound l.old l.stands names after held_is.named a.0 l.call.0 (subst (λ (d : ℕ). ForgetsAll (links_from g t p 0 (links_of d a.0)) names after) (country-is l.old l.stands) (subst (λ (z : Packet). ForgetsAll (links_from g t p 0 (links_of c z)) names after) lent f))));
           }
 
 -- ---- What putting a packet in makes of a plan and of its indexes
 
-pub held-keeps : (ids : IndexOf Tag) (names after : IndexOf (set.BTreeSet LinkPlace)) (plan : rules.Plan) → IsHeld ids names plan → AreFull after → Keeps names after → IsHeld ids after plan
-held-keeps ids names after plan h full k = record { sound = h.sound; tags = h.tags; named = λ q w. k q w ∙ h.named q w; full = full }
+pub held-keeps : (ids : IndexOf Tag) (names after : IndexOf (set.BTreeSet LinkPlace)) (plan : rules.Plan) → IsHeld ids names plan → Keeps names after → IsHeld ids after plan
+held-keeps ids names after plan h k = record { sound = h.sound; tags = h.tags; named = λ q w. k q w ∙ h.named q w }
 
 -- what a refusal says
 refused-or : (o : Option Refusal) (r : Refusal) → r ≡ unwrap_or o refusals.OutOfMemory → (r ≡ refusals.OutOfMemory) ⊎ (o ≡ Some r)
@@ -179,9 +179,9 @@ module _ (plan : rules.Plan) (ids : IndexOf Tag) (names : IndexOf (set.BTreeSet 
               or (inl m) = inl m
               or (inr m) = inr (put-refused g t plan ys group s x y h ∙ m)
 
-      pub put-done : (u : Unit) → Within eqb t (no_telegram_for x) (PutsIn s p x) ys (Ok u) zs → (lent : Packet) → lent ≡ x → (after : IndexOf (set.BTreeSet LinkPlace)) → AreFull after → AddsAll (links_from g t p 0 (links_of c lent)) names after →
+      pub put-done : (u : Unit) → Within eqb t (no_telegram_for x) (PutsIn s p x) ys (Ok u) zs → (lent : Packet) → lent ≡ x → (after : IndexOf (set.BTreeSet LinkPlace)) → AddsAll (links_from g t p 0 (links_of c lent)) names after →
           PutOutcome g t s p x ids after plan (set_value (same_tag g) plan zs)
-      put-done u w lent is_lent after full notes =
+      put-done u w lent is_lent after notes =
           spoken g t plan held_is.sound ys zs group (no_telegram_for x) (PutsIn s p x) (Ok u) w
           (λ n r i. absurd cc)
           (λ y z h r i j. by y z h r r.answer r.call r.is i)
@@ -204,7 +204,7 @@ module _ (plan : rules.Plan) (ids : IndexOf Tag) (names : IndexOf (set.BTreeSet 
                     (λ a b d n. ap (λ b. cond b (with_packets d (put_in s (p, x) d.packets)) d) n);
                 held = subst (IsHeld ids after) (sym j) (held-put plan held_is.sound g t y z h (packet-put s p x (Ok u) y z absent word r) ids names held_is p (Some x)
                     (body p ∙ find-put_itself s (p, x) y.packets f.0 absent)
-                    (λ r d. body r ∙ find-put_other s (p, x) y.packets f.0 r d) after full
+                    (λ r d. body r ∙ find-put_other s (p, x) y.packets f.0 r d) after
                     (added g t p plan held_is.sound y h names after held_is.named x absent word.numbered (subst (λ (d : ℕ). AddsAll (links_from g t p 0 (links_of d x)) names after) country adds)));
               }
 

@@ -7,9 +7,9 @@ use Rattle.balise_rules.specs.Packet.{Packet}
 use Rattle.balise_rules.specs.Plan.{Group, country_of}
 use Rattle.balise_rules.specs.Names.{is_real, links_of}
 use Rattle.balise_index.specs.declared.link_place.LinkPlace.{LinkPlace}
-use Rattle.balise_index.specs.Identities.{IndexOf, is_id}
+use Rattle.balise_index.specs.NameIndex.{held, IndexOf}
+use Rattle.balise_index.specs.Identities.{is_id}
 use Rattle.balise_index.specs.Places.{is_place}
-use Rattle.balise_plan.specs.Links.{held}
 
 -- those of the elements of a packet, counted on from k
 abbrev pub links_from : Tag → ℕ → Tag → ℕ → List Id → List (Id × LinkPlace)

@@ -5,9 +5,9 @@ use Rattle.balise_rules.specs.declared.identity.Id.{Id}
 use Rattle.balise_rules.specs.Tags.{same_id}
 use Rattle.balise_rules.specs.Names.{is_real}
 use Rattle.balise_index.specs.declared.link_place.LinkPlace.{LinkPlace}
-use Rattle.balise_index.specs.Identities.{IndexOf, is_id}
+use Rattle.balise_index.specs.NameIndex.{held, IndexOf}
+use Rattle.balise_index.specs.Identities.{is_id}
 use Rattle.balise_index.specs.Places.{is_place}
-use Rattle.balise_plan.specs.Links.{held}
 
 -- w names q, if that can be named
 abbrev pub AddsReal : IndexOf (set.BTreeSet LinkPlace) → IndexOf (set.BTreeSet LinkPlace) → Id → LinkPlace → Type 0

@@ -10,7 +10,7 @@ use Rattle.balise_rules.specs.Telegram.{room}
 use Rattle.balise_rules.specs.Plan.{Group, group_named, identity_of, pushed, telegram_at}
 use Rattle.balise_rules.specs.Plan as rules
 use Rattle.balise_rules.specs.Doing.{refusal, done, first_of, when, no_group, no_telegram, no_packet, in_telegram}
-use Rattle.balise_rules.specs.Edits.{MovePacket}
+use Rattle.balise_rules.specs.declared.tagged_edit.TaggedEdit.TheVariants.{MovePacket}
 use Rattle.balise_rules.specs.Back.{in_packets}
 use Rattle.balise_telegram.specs.Moving.{same_place_before, moved_before}
 use Rattle.balise_index.specs.declared.spot.Spot.{Spot}

@@ -6,7 +6,7 @@ mod putting;
 mod reading;
 mod turning;
 
-ghost use Rattle.std.specs.Prelude.{◌≡◌, eqb, length, option_map, slice_get, position};
+ghost use Rattle.std.specs.Prelude.{◌≡◌, ◌≤◌, ◌^◌, eqb, length, option_map, slice_get};
 ghost use Rattle.balise_rules.specs.Plan.{identity_of, IsSoundGroup};
 ghost use Rattle.balise_rules.specs.Tagged.{find as under};
 
@@ -16,7 +16,11 @@ use balise_telegram::Telegram;
 use std::marker::Model;
 
 /// Telegrams under their tags. Most groups have one.
-pub(crate) type Telegrams = OneOrMore<(u32, Telegram)>;
+pub(crate) type Telegrams = OneOrMore<Telegram>;
+
+const _: () = prove!(size_of::<Telegram>() == 40);
+
+const _: () = prove!(size_of::<Telegrams>() == 48);
 
 /// A group. It is sound.
 #[derive(Drop)]
@@ -61,8 +65,8 @@ impl Group {
     pub fn telegram(&self, t: u32) -> Option<&Telegram>
         ensures { option_map (λ b. b.now) result ≡ under eqb t self.now }
     {
-        match find(&self.telegrams, t) {
-            Some(i) => Some(&self.telegrams[i].1),
+        match self.telegrams.place_of(t) {
+            Some(i) => Some(&self.telegrams[i]),
             None => None,
         }
     }
@@ -71,25 +75,16 @@ impl Group {
     pub fn at(&self, pig: usize) -> Option<(u32, &Telegram)>
         ensures { option_map (λ p. (p.0, p.1.now)) result ≡ slice_get self.now pig }
     {
-        match self.telegrams.as_slice().get(pig) {
-            Some((tag, telegram)) => Some((*tag, telegram)),
-            None => None,
-        }
+        self.telegrams.get(pig)
     }
-}
-
-// The place of the telegram with this tag.
-fn find(telegrams: &Telegrams, t: u32) -> Option<usize>
-    ensures { result ≡ position (λ q. eqb t q.0) telegrams.now }
-{
-    telegrams.as_slice().iter().position(|q| t == q.0)
 }
 
 // The identity of the first telegram.
 fn identity(telegrams: &Telegrams) -> Id
+    requires { length telegrams.now ≤ 2 ^ 32 }
     ensures { result ≡ identity_of telegrams.now }
 {
-    match telegrams.as_slice().get(0) {
+    match telegrams.get(0) {
         Some((_, telegram)) => telegram.identity(),
         None => Id {
             country: 0,

@@ -5,12 +5,12 @@ ghost use Rattle.balise_rules.specs.Plan.{group_named, identity_of, Group as Gro
 ghost use Rattle.balise_rules.specs.Tagged.{find};
 ghost use Rattle.balise_rules.specs.Tags.{same_tag};
 ghost use Rattle.balise_plan.specs.Held.{IsHeld};
-ghost use Rattle.balise_index.specs.Identities.{indexed};
+ghost use Rattle.balise_index.specs.NameIndex.{indexed, names_of, tags_of};
 ghost use Rattle.balise_index.specs.AtSpot.{put_in, spot_stands};
 
 use crate::group::Group;
 use crate::links::group::{add_group, forget_group};
-use balise_index::{IdentityMap, Links, OrderedMap, Spot};
+use balise_index::{NameIndex, OrderedMap, Spot};
 use balise_rules::{Id, Tag};
 use std::alloc::Global;
 
@@ -33,42 +33,41 @@ pub(crate) fn place_of(groups: &OrderedMap<Group>, spot: Spot<Tag>) -> Option<us
 }
 
 /// Whether a group has an identity.
-pub(crate) fn is_taken(identities: &IdentityMap<Tag>, id: Id) -> bool
-    ensures { result ≡ is_some (indexed identities.now id) }
+pub(crate) fn is_taken(index: &NameIndex, id: Id) -> bool
+    ensures { result ≡ is_some (indexed (tags_of index.now) id) }
 {
-    identities.get(id).is_some()
+    index.tag(id).is_some()
 }
 
 /// Puts a group of a new identity in at a place, under a tag that is new, and notes its identity and its links. Where
 /// memory is wanting, all stays and the group is handed back.
 pub(crate) fn put_at(
     groups: &mut OrderedMap<Group>,
-    identities: &mut IdentityMap<Tag>,
-    names: &mut IdentityMap<Links>,
+    index: &mut NameIndex,
     i: usize,
     g: Tag,
     group: Group,
 ) -> Result<(), Group>
-    requires held { IsHeld identities.old names.old groups.old.entries }
+    requires held { IsHeld (tags_of index.old) (names_of index.old) groups.old.entries }
     requires within { i ≤ length groups.old.entries }
     requires new { find same_tag g groups.old.entries ≡ None }
     requires free { group_named (identity_of group) groups.old.entries ≡ None }
     ensures put { OnOk result (groups.new.entries ≡ insert groups.old.entries i (g, group)) }
     ensures back { IfErr result (λ b. b ≡ group) }
     ensures unchanged { IfErr result (λ b. groups.new.entries ≡ groups.old.entries) }
-    ensures held { IsHeld identities.new names.new groups.new.entries }
+    ensures held { IsHeld (tags_of index.new) (names_of index.new) groups.new.entries }
 {
     let alloc = groups.allocator();
     let own = group.sound_identity();
     if groups.reserve(1).is_err() {
         return Err(group);
     }
-    if identities.insert(own, g).is_err() {
+    if index.set_tag(own, g).is_err() {
         return Err(group);
     }
-    if add_group(alloc, names, g, &group).is_err() {
-        forget_group(names, g, &group);
-        let _ = identities.remove(own);
+    if add_group(alloc, index, g, &group).is_err() {
+        forget_group(index, g, &group);
+        index.forget_tag(own);
         return Err(group);
     }
     groups.insert(i, g, group);

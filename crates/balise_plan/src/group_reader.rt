@@ -6,9 +6,8 @@ ghost use Rattle.balise_rules.specs.Plan.{read_group, IsSoundGroup};
 
 use crate::group::{Group, Telegrams};
 use crate::one_or_more::OneOrMore;
-use balise_bits::Bits;
 use balise_rules::Refusal;
-use balise_telegram::Telegram;
+use balise_telegram::{Bits, Telegram};
 use std::alloc::Global;
 use std::marker::Model;
 
@@ -53,15 +52,14 @@ impl GroupReader {
     pub fn push(&mut self, bits: Bits) -> Result<(), Refusal>
         ensures { ReadsOn bits self.old result self.new }
     {
-        let place = self.telegrams.len();
-        if place >= 8 {
+        if self.telegrams.len() >= 8 {
             return Err(Refusal::GroupSize);
         }
         let telegram = match Telegram::of_bits(bits) {
             Ok(telegram) => telegram,
             Err(fault) => return Err(fault.refusal()),
         };
-        self.telegrams.push((place as u32, telegram))?;
+        self.telegrams.push(telegram)?;
         Ok(())
     }
 

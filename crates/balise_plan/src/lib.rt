@@ -1,4 +1,4 @@
-//! Plans: groups under their tags, in order, with an index of identities and one of names.
+//! Plans: groups under their tags, in order, with an index of identities and names.
 #![tactic(auto)]
 
 mod group;
@@ -9,13 +9,11 @@ mod one_or_more;
 mod packet_place;
 mod plan;
 
-pub use balise_bits::Bits;
 pub use balise_index::{LinkPlace, Links, Places, Spot};
-pub use balise_layout::{Id, NO_GROUP, Packet, Var};
 pub use balise_rules::{
-    Address, Place, Refusal, Refusal as PlanFault, Tag, Tag as GroupTag, Tag as PacketTag,
+    Address, Id, Place, Refusal, Refusal as PlanFault, Tag, Tag as GroupTag, Tag as PacketTag, Var,
 };
-pub use balise_telegram::{PacketRef, Telegram, TelegramFault};
+pub use balise_telegram::{Bits, NO_GROUP, Packet, PacketRef, Telegram, TelegramFault, is_known};
 pub use group::Group;
 pub use group_reader::GroupReader;
 pub use plan::Plan;

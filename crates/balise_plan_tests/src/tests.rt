@@ -15,4 +15,5 @@ mod refused;
 mod resolving;
 mod steps;
 mod taken;
+mod turned;
 mod walking;

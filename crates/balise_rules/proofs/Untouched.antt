@@ -12,7 +12,8 @@ use Rattle.balise_rules.specs.Tags.{Key, same_tag, same_var, same_key}
 use Rattle.balise_rules.specs.Forms.{Fields}
 use Rattle.balise_rules.specs.Packet.{value}
 use Rattle.balise_rules.specs.Names.{country_at}
-use Rattle.balise_rules.specs.Edits.{Edit, SetVar, SetHead, Renumber, TurnGroup, head_after, field_after}
+use Rattle.balise_rules.specs.Edits.{Edit, head_after, field_after}
+use Rattle.balise_rules.specs.declared.tagged_edit.TaggedEdit.TheVariants.{SetVar, SetHead, Renumber, TurnGroup}
 use Rattle.balise_rules.proofs.Tests.{var_test}
 use Rattle.balise_rules.proofs.Values.{value_kept}
 use Rattle.balise_rules.proofs.Names.{country-each}

@@ -13,7 +13,8 @@ use Rattle.balise_rules.specs.Telegram.{Telegram, version_of, used}
 use Rattle.balise_rules.specs.Plan.{Group, Plan, reserved, identity_of, telegram_at, read_group}
 use Rattle.balise_rules.specs.Names.{Names}
 use Rattle.balise_rules.specs.Doing.{renumbered}
-use Rattle.balise_rules.specs.Edits.{Edit, SetVar, SetHead, InsertPacket, DeletePacket, MovePacket, AddGroup, DropGroup, Renumber, TurnGroup, group_of}
+use Rattle.balise_rules.specs.Edits.{Edit, group_of}
+use Rattle.balise_rules.specs.declared.tagged_edit.TaggedEdit.TheVariants.{SetVar, SetHead, InsertPacket, DeletePacket, MovePacket, AddGroup, DropGroup, Renumber, TurnGroup}
 
 -- an anchor stands: a tag of the list, or the start
 abbrev pub Stands : {A : Type 0} → Option Tag → List (Tag × A) → Type 0

@@ -19,7 +19,8 @@ use Rattle.balise_rules.specs.Packet.{Packet, field_of, length_said, is_cut, rea
 use Rattle.balise_rules.specs.Packets.{packet}
 use Rattle.balise_rules.specs.Telegram.{Telegram, version_of}
 use Rattle.balise_rules.specs.Plan.{Group, Plan, group_named}
-use Rattle.balise_rules.specs.Edits.{Edit, SetVar, SetHead, InsertPacket, DeletePacket, MovePacket, AddGroup, DropGroup, Renumber, TurnGroup}
+use Rattle.balise_rules.specs.Edits.{Edit}
+use Rattle.balise_rules.specs.declared.tagged_edit.TaggedEdit.TheVariants.{SetVar, SetHead, InsertPacket, DeletePacket, MovePacket, AddGroup, DropGroup, Renumber, TurnGroup}
 
 -- The nine edits as they are asked for, by the identity of a group and places from 0: pig of a telegram, pkt of a packet in it, k of a variable's occurrence; `at` is the place that is to be had.
 pub data Command : Type 0 where

@@ -2,7 +2,9 @@
 use Rattle.std.specs.Prelude.{ℕ, Bool, true, false, cond, ◌&&◌, ◌||◌, not, eqb, List, [], ◌∷◌, ◌++◌, map, filter, find, Option, Some, None, is_some}
 use Rattle.balise_rules.specs.declared.tag.Tag.{Tag}
 use Rattle.balise_rules.specs.declared.tag.Tag.TheVariants.{Fresh}
-use Rattle.balise_rules.specs.Edits.{Edit, Item, InsertPacket, MovePacket, AddGroup}
+use Rattle.balise_rules.specs.Edits.{Item}
+use Rattle.balise_rules.specs.declared.tagged_edit.TaggedEdit.{TaggedEdit}
+use Rattle.balise_rules.specs.declared.tagged_edit.TaggedEdit.TheVariants.{InsertPacket, MovePacket, AddGroup}
 use Rattle.balise_rules.specs.Paths.{At, Nth, After, Path, Entry, same_part, changes, needs, any_meets, room_apart, apart}
 
 -- the path of what an edit puts in
@@ -42,14 +44,14 @@ stands_behind e f =
     && (not (any_meets (changes e) (changes_but e.0 f ++ needs f)) && (not (any_meets (needs e) (changes_but e.0 f)) && room_apart e.0.1 f.0.1))
 
 -- the anchor of an edit
-abbrev pub anchor_of : Edit → Option Tag
+abbrev pub anchor_of : {P T : Type 0} → TaggedEdit P T → Option Tag
 anchor_of (InsertPacket g t a x) = a
 anchor_of (MovePacket g t p a) = a
 anchor_of (AddGroup a bs) = a
 anchor_of e = None
 
 -- an edit with another anchor
-abbrev pub anchored : Option Tag → Edit → Edit
+abbrev pub anchored : {P T : Type 0} → Option Tag → TaggedEdit P T → TaggedEdit P T
 anchored a (InsertPacket g t b x) = InsertPacket g t a x
 anchored a (MovePacket g t p b) = MovePacket g t p a
 anchored a (AddGroup b bs) = AddGroup a bs

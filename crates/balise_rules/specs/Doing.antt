@@ -14,7 +14,8 @@ use Rattle.balise_rules.specs.Packet.{field_of, width}
 use Rattle.balise_rules.specs.Telegram.{Telegram, room}
 use Rattle.balise_rules.specs.Plan.{Group, Plan, reserved, identity_of, group_named, telegram_at, packet_at, field_at, read_group}
 use Rattle.balise_rules.specs.Names.{is_named}
-use Rattle.balise_rules.specs.Edits.{Edit, Item, SetVar, SetHead, InsertPacket, DeletePacket, MovePacket, AddGroup, DropGroup, Renumber, TurnGroup, effect}
+use Rattle.balise_rules.specs.Edits.{Edit, Item, effect}
+use Rattle.balise_rules.specs.declared.tagged_edit.TaggedEdit.TheVariants.{SetVar, SetHead, InsertPacket, DeletePacket, MovePacket, AddGroup, DropGroup, Renumber, TurnGroup}
 use Rattle.balise_rules.specs.Notes.{noted}
 
 -- one line of a table of refusals: this one, where the test holds

@@ -13,18 +13,12 @@ use Rattle.balise_rules.specs.Packet.{Packet, value}
 use Rattle.balise_rules.specs.Telegram.{Telegram}
 use Rattle.balise_rules.specs.Plan.{Group, Plan, country_of, read_group}
 use Rattle.balise_rules.specs.Names.{country_at, is_it, calls}
+use Rattle.balise_rules.specs.declared.tagged_edit.TaggedEdit.{TaggedEdit}
+use Rattle.balise_rules.specs.declared.tagged_edit.TaggedEdit.TheVariants.{SetVar, SetHead, InsertPacket, DeletePacket, MovePacket, AddGroup, DropGroup, Renumber, TurnGroup}
 
--- The nine edits, by the tags of a group g, a telegram t and a packet p; k is the occurrence of a variable; an anchor is a tag, or none for the first place. A group to be added is given by the bits of its telegrams.
-pub data Edit : Type 0 where
-  SetVar : (g : Tag) → (t : ℕ) → (p : Tag) → Var → (k value : ℕ) → Edit
-  SetHead : (g : Tag) → (t : ℕ) → Var → (value : ℕ) → Edit
-  InsertPacket : (g : Tag) → (t : ℕ) → (after : Option Tag) → Packet → Edit
-  DeletePacket : (g : Tag) → (t : ℕ) → (p : Tag) → Edit
-  MovePacket : (g : Tag) → (t : ℕ) → (p : Tag) → (after : Option Tag) → Edit
-  AddGroup : (after : Option Tag) → (telegrams : List (List Bool)) → Edit
-  DropGroup : (g : Tag) → Edit
-  Renumber : (g : Tag) → (number : ℕ) → Edit
-  TurnGroup : (g : Tag) → Edit
+-- the nine edits, by the tags of a group g, a telegram t and a packet p; k is the occurrence of a variable; an anchor is a tag, or none for the first place. A group to be added is given by the bits of its telegrams
+abbrev pub Edit : Type 0
+Edit = TaggedEdit Packet (List (List Bool))
 
 -- an edit with its serial
 abbrev pub Item : Type 0

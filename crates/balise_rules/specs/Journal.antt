@@ -1,13 +1,15 @@
 -- What a journal says: the entries that would stand if all that was undone were done again, and the serials of what was undone (this project's own).
 use Rattle.std.specs.Prelude.{ℕ, Bool, false, true, eqb, List, [], ◌∷◌, ◌++◌, map, reverse, Option}
 use Rattle.balise_rules.specs.declared.tag.Tag.{Tag}
-use Rattle.balise_rules.specs.declared.variable.Var.{Var}
 use Rattle.balise_rules.specs.Tagged.{same_spot}
 use Rattle.balise_rules.specs.Tags.{same_tag}
 use Rattle.balise_rules.specs.Bits.{zeros}
 use Rattle.balise_rules.specs.Digits.{fill}
 use Rattle.balise_rules.specs.Packet.{Packet, bits_of, width}
-use Rattle.balise_rules.specs.Edits.{Edit, Item, SetVar, SetHead, InsertPacket, DeletePacket, MovePacket, AddGroup, DropGroup, Renumber, TurnGroup}
+use Rattle.balise_rules.specs.Parts.{with_parts}
+use Rattle.balise_rules.specs.Edits.{Edit, Item}
+use Rattle.balise_rules.specs.declared.tagged_edit.TaggedEdit.{TaggedEdit}
+use Rattle.balise_rules.specs.declared.tagged_edit.TaggedEdit.TheVariants.{SetVar, SetHead, InsertPacket, DeletePacket, MovePacket, AddGroup, DropGroup, Renumber, TurnGroup}
 use Rattle.balise_rules.specs.Notes.{Note}
 use Rattle.balise_rules.specs.Paths.{Entry}
 use Rattle.balise_rules.specs.Session.{State, Removed, entries, put_back}
@@ -40,17 +42,9 @@ same_noted (BeforePacket a) (BeforePacket b) = same_spot same_tag a b
 same_noted (BeforeGroup a) (BeforeGroup b) = same_spot same_tag a b
 same_noted a b = false
 
--- The nine edits as lines have them: as edits, but that an inserted packet is the bits of its digits.
-pub data LineEdit : Type 0 where
-  LineSetVar : (g : Tag) → (t : ℕ) → (p : Tag) → Var → (k value : ℕ) → LineEdit
-  LineSetHead : (g : Tag) → (t : ℕ) → Var → (value : ℕ) → LineEdit
-  LineInsertPacket : (g : Tag) → (t : ℕ) → (after : Option Tag) → (digits : List Bool) → LineEdit
-  LineDeletePacket : (g : Tag) → (t : ℕ) → (p : Tag) → LineEdit
-  LineMovePacket : (g : Tag) → (t : ℕ) → (p : Tag) → (after : Option Tag) → LineEdit
-  LineAddGroup : (after : Option Tag) → (telegrams : List (List Bool)) → LineEdit
-  LineDropGroup : (g : Tag) → LineEdit
-  LineRenumber : (g : Tag) → (number : ℕ) → LineEdit
-  LineTurnGroup : (g : Tag) → LineEdit
+-- the nine edits as lines have them: an inserted packet is the bits of its digits
+abbrev pub LineEdit : Type 0
+LineEdit = TaggedEdit (List Bool) (List (List Bool))
 
 pub record Line : Type 0 where
   pub serial : ℕ
@@ -62,15 +56,7 @@ abbrev pub whole_bytes : Packet → List Bool
 whole_bytes x = bits_of x ++ zeros (fill (width x))
 
 abbrev pub line_edit : Edit → LineEdit
-line_edit (SetVar g t p v k n) = LineSetVar g t p v k n
-line_edit (SetHead g t v n) = LineSetHead g t v n
-line_edit (InsertPacket g t a x) = LineInsertPacket g t a (whole_bytes x)
-line_edit (DeletePacket g t p) = LineDeletePacket g t p
-line_edit (MovePacket g t p a) = LineMovePacket g t p a
-line_edit (AddGroup a bs) = LineAddGroup a bs
-line_edit (DropGroup g) = LineDropGroup g
-line_edit (Renumber g n) = LineRenumber g n
-line_edit (TurnGroup g) = LineTurnGroup g
+line_edit e = with_parts whole_bytes (λ bs. bs) e
 
 -- the line of an entry
 abbrev pub line_of : Entry → Line

@@ -1,4 +1,5 @@
 -- Worked rows of journals: what a session says, and the session of what is said.
+use Rattle.balise_rules.specs.declared.tagged_edit.TaggedEdit.TheVariants.{SetVar, InsertPacket, DeletePacket}
 use Rattle.std.specs.Prelude.{◌≡◌, ℕ, List, [], ◌∷◌, codes, Option, Some, None, Result, Ok, Err, option_map}
 use Rattle.balise_rules.specs.declared.variable.Var.TheVariants.{NidTsr}
 use Rattle.balise_rules.specs.declared.refusal.Refusal.{Refusal}
@@ -6,7 +7,7 @@ use Rattle.balise_rules.specs.declared.tag.Tag.{Tag}
 use Rattle.balise_rules.specs.declared.tag.Tag.TheVariants.{Base, Fresh}
 use Rattle.balise_rules.specs.Refusals.{and_then}
 use Rattle.balise_rules.specs.Session.{State, Call, Reply, opened, held, answer_all, Undo, Redo, Strike, Undone, Redone}
-use Rattle.balise_rules.specs.Journal.{Line, LineSetVar, LineInsertPacket, LineDeletePacket, Nothing, Value, BeforePacket, lines, undone}
+use Rattle.balise_rules.specs.Journal.{Line, Nothing, Value, BeforePacket, lines, undone}
 use Rattle.balise_rules.specs.Opening.{with_entry, from_journal}
 use Rattle.balise_rules.specs.Examples.{Text, plan_of, lines_of, word, alone, empty, revoking}
 use Rattle.balise_rules.specs.Rows.{insert, delete, set_tsr, revoking_9}
@@ -50,7 +51,7 @@ Misfits groups j at = ◌≡◌ {A = Result (Result Outcome (Option ℕ)) Refusa
 
 -- NID_TSR set to 9 by this serial, noting this
 abbrev pub setting : ℕ → ℕ → Line
-setting serial old = record { serial = serial; edit = LineSetVar (Base 0) 0 (Base 0) NidTsr 0 9; noted = Value old }
+setting serial old = record { serial = serial; edit = SetVar (Base 0) 0 (Base 0) NidTsr 0 9; noted = Value old }
 
 abbrev pub set_line : Line
 set_line = setting 1 5
@@ -65,7 +66,7 @@ SetSaid =
 
 -- these digits inserted after an anchor
 abbrev pub inserting : ℕ → Option Tag → Text → Line
-inserting serial a digits = record { serial = serial; edit = LineInsertPacket (Base 0) 0 a (word digits); noted = Nothing }
+inserting serial a digits = record { serial = serial; edit = InsertPacket (Base 0) 0 a (word digits); noted = Nothing }
 
 abbrev pub first_inserted : Line
 first_inserted = inserting 1 None (codes "42403e0a")
@@ -111,7 +112,7 @@ SerialsRefused =
 
 -- the first packet deleted by this serial, noting this neighbour
 abbrev pub deleting : ℕ → Option Tag → Line
-deleting serial b = record { serial = serial; edit = LineDeletePacket (Base 0) 0 (Base 0); noted = BeforePacket b }
+deleting serial b = record { serial = serial; edit = DeletePacket (Base 0) 0 (Base 0); noted = BeforePacket b }
 
 -- An old value or a neighbour that isn't so, a note of another kind, digits that are no packet for the telegram, a packet that doesn't stand.
 abbrev pub NotesRefused : Type 0

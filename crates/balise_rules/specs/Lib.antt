@@ -11,6 +11,7 @@ pub mod Steady
 pub mod Telegram
 pub mod Plan
 pub mod Names
+pub mod Parts
 pub mod Edits
 pub mod Notes
 pub mod Doing

@@ -11,7 +11,8 @@ use Rattle.balise_rules.specs.Packet.{Packet, value}
 use Rattle.balise_rules.specs.Telegram.{Telegram}
 use Rattle.balise_rules.specs.Plan.{Group, Plan, identity_of, country_of, telegram_at}
 use Rattle.balise_rules.specs.Names.{country_at, is_real, names_of, names_in}
-use Rattle.balise_rules.specs.Edits.{Edit, SetVar, SetHead, InsertPacket, DeletePacket, MovePacket, AddGroup, DropGroup, Renumber, TurnGroup, group_of}
+use Rattle.balise_rules.specs.Edits.{Edit, group_of}
+use Rattle.balise_rules.specs.declared.tagged_edit.TaggedEdit.TheVariants.{SetVar, SetHead, InsertPacket, DeletePacket, MovePacket, AddGroup, DropGroup, Renumber, TurnGroup}
 
 -- The old value or number, the old next neighbour (none: the end), the identity of the group, the identities that are named, and what was taken out.
 pub record Note : Type 0 where

@@ -5,12 +5,13 @@ use Rattle.balise_rules.specs.declared.tag.Tag.{Tag}
 use Rattle.balise_rules.specs.Packet.{Packet}
 use Rattle.balise_rules.specs.Telegram.{Telegram, version_of}
 use Rattle.balise_rules.specs.Plan.{Plan, telegram_at}
-use Rattle.balise_rules.specs.Edits.{Edit, Item, SetVar, SetHead, InsertPacket, DeletePacket, MovePacket, AddGroup, DropGroup, Renumber, TurnGroup}
+use Rattle.balise_rules.specs.Edits.{Edit, Item}
+use Rattle.balise_rules.specs.declared.tagged_edit.TaggedEdit.TheVariants.{SetVar, SetHead, InsertPacket, DeletePacket, MovePacket, AddGroup, DropGroup, Renumber, TurnGroup}
 use Rattle.balise_rules.specs.Notes.{noted}
 use Rattle.balise_rules.specs.Doing.{refusal}
 use Rattle.balise_rules.specs.Addresses.{packet_in}
 use Rattle.balise_rules.specs.Session.{State, Reply, Struck, Strike, held, answer_in_time, top}
-use Rattle.balise_rules.specs.Journal.{Line, LineEdit, LineSetVar, LineSetHead, LineInsertPacket, LineDeletePacket, LineMovePacket, LineAddGroup, LineDropGroup, LineRenumber, LineTurnGroup, noted_of, same_noted}
+use Rattle.balise_rules.specs.Journal.{Line, LineEdit, noted_of, same_noted}
 
 abbrev pub or_nothing : {A : Type 0} → Result A Refusal → Option A
 or_nothing (Err r) = None
@@ -26,15 +27,15 @@ inserting g t a (Some x) = Some (InsertPacket g t a x)
 
 -- the edit of a line on a plan; of an insertion, where its digits are a packet for the telegram
 abbrev pub edit_in : LineEdit → Plan → Option Edit
-edit_in (LineSetVar g t p v k n) plan = Some (SetVar g t p v k n)
-edit_in (LineSetHead g t v n) plan = Some (SetHead g t v n)
-edit_in (LineInsertPacket g t a b) plan = inserting g t a (option_and_then (packet_for b) (telegram_at g t plan))
-edit_in (LineDeletePacket g t p) plan = Some (DeletePacket g t p)
-edit_in (LineMovePacket g t p a) plan = Some (MovePacket g t p a)
-edit_in (LineAddGroup a bs) plan = Some (AddGroup a bs)
-edit_in (LineDropGroup g) plan = Some (DropGroup g)
-edit_in (LineRenumber g n) plan = Some (Renumber g n)
-edit_in (LineTurnGroup g) plan = Some (TurnGroup g)
+edit_in (SetVar g t p v k n) plan = Some (SetVar g t p v k n)
+edit_in (SetHead g t v n) plan = Some (SetHead g t v n)
+edit_in (InsertPacket g t a b) plan = inserting g t a (option_and_then (packet_for b) (telegram_at g t plan))
+edit_in (DeletePacket g t p) plan = Some (DeletePacket g t p)
+edit_in (MovePacket g t p a) plan = Some (MovePacket g t p a)
+edit_in (AddGroup a bs) plan = Some (AddGroup a bs)
+edit_in (DropGroup g) plan = Some (DropGroup g)
+edit_in (Renumber g n) plan = Some (Renumber g n)
+edit_in (TurnGroup g) plan = Some (TurnGroup g)
 
 -- the edit is accepted, and notes what the line says
 abbrev pub fits_line : Line → Plan → Edit → Bool

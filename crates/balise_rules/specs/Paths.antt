@@ -6,7 +6,8 @@ use Rattle.balise_rules.specs.declared.identity.Id.{Id}
 use Rattle.balise_rules.specs.declared.tag.Tag.{Tag}
 use Rattle.balise_rules.specs.declared.tag.Tag.TheVariants.{Fresh}
 use Rattle.balise_rules.specs.Tags.{same_tag, same_var, same_id}
-use Rattle.balise_rules.specs.Edits.{Edit, Item, SetVar, SetHead, InsertPacket, DeletePacket, MovePacket, AddGroup, DropGroup, Renumber, TurnGroup}
+use Rattle.balise_rules.specs.Edits.{Edit, Item}
+use Rattle.balise_rules.specs.declared.tagged_edit.TaggedEdit.TheVariants.{SetVar, SetHead, InsertPacket, DeletePacket, MovePacket, AddGroup, DropGroup, Renumber, TurnGroup}
 use Rattle.balise_rules.specs.Notes.{Note}
 
 -- a part of a place: a group's or packet's tag; a telegram's, or an occurrence; a variable; the start and the end of a list; the sides after and in front; a group's orientation and number; a header; an identity

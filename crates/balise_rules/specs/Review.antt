@@ -15,7 +15,7 @@ use Rattle.balise_rules.specs.Packet.{Packet, value, field_of}
 use Rattle.balise_rules.specs.Telegram.{Telegram, version_of}
 use Rattle.balise_rules.specs.Plan.{Group, Plan, identity_of, country_of}
 use Rattle.balise_rules.specs.Names.{elements_among}
-use Rattle.balise_rules.specs.Edits.{TurnGroup}
+use Rattle.balise_rules.specs.declared.tagged_edit.TaggedEdit.TheVariants.{TurnGroup}
 use Rattle.balise_rules.specs.Doing.{done}
 
 -- what each item of a list gives, with its place, counted on from n

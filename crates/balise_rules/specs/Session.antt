@@ -7,7 +7,8 @@ use Rattle.balise_rules.specs.declared.tag.Tag.TheVariants.{Fresh}
 use Rattle.balise_rules.specs.Refusals.{and_then}
 use Rattle.balise_rules.specs.Tags.{same_var}
 use Rattle.balise_rules.specs.Plan.{Plan}
-use Rattle.balise_rules.specs.Edits.{Edit, Item, SetVar, SetHead, TurnGroup}
+use Rattle.balise_rules.specs.Edits.{Edit, Item}
+use Rattle.balise_rules.specs.declared.tagged_edit.TaggedEdit.TheVariants.{SetVar, SetHead, TurnGroup}
 use Rattle.balise_rules.specs.Notes.{noted}
 use Rattle.balise_rules.specs.Doing.{refusal, done, do_edit}
 use Rattle.balise_rules.specs.Accepting.{Accepted}

@@ -9,6 +9,7 @@ mod refusal;
 mod review;
 pub mod rows;
 mod tag;
+mod tagged_edit;
 mod variable;
 
 pub use address::{Address, Place};
@@ -16,4 +17,5 @@ pub use identity::{Id, NO_GROUP};
 pub use refusal::Refusal;
 pub use review::{ReviewLine, Reviewed};
 pub use tag::Tag;
+pub use tagged_edit::TaggedEdit;
 pub use variable::Var;

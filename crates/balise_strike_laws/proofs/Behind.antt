@@ -11,7 +11,8 @@ use Rattle.balise_rules.specs.Packet.{Packet, width}
 use Rattle.balise_rules.specs.Telegram.{Telegram, used}
 use Rattle.balise_rules.specs.Plan.{Plan, identity_of, telegram_at}
 use Rattle.balise_rules.specs.Names.{names_of}
-use Rattle.balise_rules.specs.Edits.{Item, InsertPacket, MovePacket, AddGroup, group_of, telegram_after}
+use Rattle.balise_rules.specs.Edits.{Item, group_of, telegram_after}
+use Rattle.balise_rules.specs.declared.tagged_edit.TaggedEdit.TheVariants.{InsertPacket, MovePacket, AddGroup}
 use Rattle.balise_rules.specs.Notes.{no_identity, nothing, noted}
 use Rattle.balise_rules.specs.Doing.{done}
 use Rattle.balise_rules.specs.Accepting.{Stands, AcceptedIn, AcceptedAt, Accepted, Unused}

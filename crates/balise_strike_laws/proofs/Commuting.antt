@@ -6,7 +6,8 @@ use Rattle.balise_rules.specs.declared.tag.Tag.{Tag}
 use Rattle.balise_rules.specs.declared.tag.Tag.TheVariants.{Fresh}
 use Rattle.balise_rules.specs.Plan.{Plan}
 use Rattle.balise_rules.specs.Names.{names_in}
-use Rattle.balise_rules.specs.Edits.{Edit, Item, SetVar, InsertPacket, AddGroup, DropGroup, Renumber, TurnGroup, group_of, effect, group_after, groups_change}
+use Rattle.balise_rules.specs.Edits.{Edit, Item, group_of, effect, group_after, groups_change}
+use Rattle.balise_rules.specs.declared.tagged_edit.TaggedEdit.TheVariants.{SetVar, InsertPacket, AddGroup, DropGroup, Renumber, TurnGroup}
 use Rattle.balise_rules.specs.Notes.{Note, noted}
 use Rattle.balise_rules.specs.Doing.{done}
 use Rattle.balise_rules.specs.Accepting.{Lawful, Accepted, Unused}

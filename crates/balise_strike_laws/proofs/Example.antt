@@ -12,7 +12,8 @@ use Rattle.balise_rules.specs.Packets.{counted, link, linking, gradient, gradien
 use Rattle.balise_rules.specs.Packet.{read_body}
 use Rattle.balise_rules.specs.Telegram.{header, read_packets, read_header, read_telegram, version_of}
 use Rattle.balise_rules.specs.Plan.{Plan, IsSound, read_telegrams, read_group, telegram_at}
-use Rattle.balise_rules.specs.Edits.{Item, group_of, InsertPacket}
+use Rattle.balise_rules.specs.Edits.{Item, group_of}
+use Rattle.balise_rules.specs.declared.tagged_edit.TaggedEdit.TheVariants.{InsertPacket}
 use Rattle.balise_rules.specs.Notes.{noted}
 use Rattle.balise_rules.specs.Doing.{refusal, done}
 use Rattle.balise_rules.specs.Accepting.{Accepted, Unused}

@@ -4,7 +4,8 @@
 use Rattle.std.proofs.Common.{◌≡◌, true, Option, Some, refl, subst}
 use Rattle.balise_rules.specs.declared.tag.Tag.{Tag}
 use Rattle.balise_rules.specs.Plan.{Plan}
-use Rattle.balise_rules.specs.Edits.{Edit, Item, InsertPacket}
+use Rattle.balise_rules.specs.Edits.{Edit, Item}
+use Rattle.balise_rules.specs.declared.tagged_edit.TaggedEdit.TheVariants.{InsertPacket}
 use Rattle.balise_rules.specs.Notes.{noted}
 use Rattle.balise_rules.specs.Doing.{done}
 use Rattle.balise_rules.specs.Accepting.{Accepted, Spelt}

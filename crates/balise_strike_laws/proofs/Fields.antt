@@ -13,7 +13,8 @@ use Rattle.balise_rules.specs.Tagged.{find, each}
 use Rattle.balise_rules.specs.Tags.{same_tag, same_id, same_var, same_key, Key, is_of}
 use Rattle.balise_rules.specs.Forms.{Fields}
 use Rattle.balise_rules.specs.Names.{country_at, calls, is_it}
-use Rattle.balise_rules.specs.Edits.{Edit, SetVar, Renumber, TurnGroup, exchanged, field_after}
+use Rattle.balise_rules.specs.Edits.{Edit, exchanged, field_after}
+use Rattle.balise_rules.specs.declared.tagged_edit.TaggedEdit.TheVariants.{SetVar, Renumber, TurnGroup}
 use Rattle.balise_rules.proofs.Tests.{split_on, flip_yes, tag_test, var_test, key_test, nat_test, both_one}
 use Rattle.balise_rules.proofs.Lists.{find-each}
 use Rattle.balise_rules.proofs.Cases.{found, parts4}

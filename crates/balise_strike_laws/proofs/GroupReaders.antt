@@ -10,7 +10,8 @@ use Rattle.balise_rules.specs.Tagged.{find, behind, Put, Take}
 use Rattle.balise_rules.specs.Tags.{same_tag}
 use Rattle.balise_rules.specs.Plan.{Group, Plan, identity_of}
 use Rattle.balise_rules.specs.Names.{is_real, names_in}
-use Rattle.balise_rules.specs.Edits.{Item, AddGroup, DropGroup, Renumber, group_of, group_after, groups_change, telegram_after}
+use Rattle.balise_rules.specs.Edits.{Item, group_of, group_after, groups_change, telegram_after}
+use Rattle.balise_rules.specs.declared.tagged_edit.TaggedEdit.TheVariants.{AddGroup, DropGroup, Renumber}
 use Rattle.balise_rules.specs.Notes.{Note, nothing, note_group, note_drop, noted}
 use Rattle.balise_rules.specs.Doing.{done}
 use Rattle.balise_rules.specs.Accepting.{NoName, NoGroup, Asks, Accepted, Unused}

@@ -13,7 +13,8 @@ use Rattle.balise_rules.specs.Forms.{Fields}
 use Rattle.balise_rules.specs.Packet.{value}
 use Rattle.balise_rules.specs.Telegram.{Telegram}
 use Rattle.balise_rules.specs.Plan.{Group, Plan, identity_of, identity_in, country_of}
-use Rattle.balise_rules.specs.Edits.{Edit, Item, SetHead, Renumber, TurnGroup, group_after, telegram_after, head_after}
+use Rattle.balise_rules.specs.Edits.{Edit, Item, group_after, telegram_after, head_after}
+use Rattle.balise_rules.specs.declared.tagged_edit.TaggedEdit.TheVariants.{SetHead, Renumber, TurnGroup}
 use Rattle.balise_rules.specs.Notes.{Note, no_identity, nothing, note_group, noted}
 use Rattle.balise_rules.specs.Doing.{done}
 use Rattle.balise_rules.specs.Accepting.{Lawful, Accepted}

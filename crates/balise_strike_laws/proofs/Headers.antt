@@ -10,7 +10,8 @@ use Rattle.balise_rules.specs.Tagged.{each}
 use Rattle.balise_rules.specs.Tags.{same_tag, same_var, same_key, Key, is_of}
 use Rattle.balise_rules.specs.Forms.{Fields}
 use Rattle.balise_rules.specs.Packet.{value}
-use Rattle.balise_rules.specs.Edits.{Edit, SetHead, Renumber, TurnGroup, exchanged, head_after}
+use Rattle.balise_rules.specs.Edits.{Edit, exchanged, head_after}
+use Rattle.balise_rules.specs.declared.tagged_edit.TaggedEdit.TheVariants.{SetHead, Renumber, TurnGroup}
 use Rattle.balise_rules.proofs.Tests.{split_on, flip_no, tag_test, nat_test, var_test, key_test, both_one}
 use Rattle.balise_rules.proofs.Cases.{parts3}
 use Rattle.balise_rules.proofs.Each.{each-id}

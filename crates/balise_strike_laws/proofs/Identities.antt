@@ -11,7 +11,8 @@ use Rattle.balise_rules.specs.Tags.{same_tag, same_id}
 use Rattle.balise_rules.specs.Telegram.{Telegram}
 use Rattle.balise_rules.specs.Plan.{Group, Plan, identity_of, telegram_at}
 use Rattle.balise_rules.specs.Names.{is_real, names_in}
-use Rattle.balise_rules.specs.Edits.{Item, AddGroup, DropGroup, group_of, group_after, telegram_after}
+use Rattle.balise_rules.specs.Edits.{Edit, Item, group_of, group_after, telegram_after}
+use Rattle.balise_rules.specs.declared.tagged_edit.TaggedEdit.TheVariants.{AddGroup, DropGroup}
 use Rattle.balise_rules.specs.Notes.{Note, note_drop, noted}
 use Rattle.balise_rules.specs.Doing.{done}
 use Rattle.balise_rules.specs.Accepting.{NoName, NoGroup, Accepted, Unused}
@@ -48,7 +49,7 @@ group-special plan (s1, AddGroup a1 bs1) a un g = split_keys tag_test g (Fresh s
     (λ d. inl d)
 group-special plan (serial1, DropGroup g1) a un g = split_keys tag_test g g1
     (λ d r0. let r : g1 ≡ g = sym r0 in let gone : find same_tag g (without same_tag g1 plan) ≡ None = ap (λ u. find same_tag g (without same_tag u plan)) r ∙ find-without_same same_tag g plan in
-    let f1 = DropGroup g1 in
+    let f1 : Edit = DropGroup g1 in
     inr (
       (λ t y h q w n. let st : find same_tag g plan ≡ Some a.1.0 = ap (λ u. find same_tag u plan) (sym r) ∙ a.1.1 in
           let k : find eqb t a.1.0 ≡ Some y = simp st at h in

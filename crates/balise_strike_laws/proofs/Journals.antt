@@ -13,13 +13,14 @@ use Rattle.balise_rules.specs.Packets.{packet}
 use Rattle.balise_rules.specs.Packet.{Packet, bits_of, width, IsSpelt, length_said}
 use Rattle.balise_rules.specs.Telegram.{Telegram, version_of}
 use Rattle.balise_rules.specs.Plan.{Plan, IsSound, telegram_at}
-use Rattle.balise_rules.specs.Edits.{Edit, Item, SetVar, SetHead, InsertPacket, DeletePacket, MovePacket, AddGroup, DropGroup, Renumber, TurnGroup}
+use Rattle.balise_rules.specs.Edits.{Edit, Item}
+use Rattle.balise_rules.specs.declared.tagged_edit.TaggedEdit.TheVariants.{SetVar, SetHead, InsertPacket, DeletePacket, MovePacket, AddGroup, DropGroup, Renumber, TurnGroup}
 use Rattle.balise_rules.specs.Notes.{noted}
 use Rattle.balise_rules.specs.Doing.{refusal, done}
 use Rattle.balise_rules.specs.Accepting.{Accepted, AcceptedAt, Spelt}
 use Rattle.balise_rules.specs.Addresses.{packet_in}
 use Rattle.balise_rules.specs.Session.{State, Removed, made, entries, put_back}
-use Rattle.balise_rules.specs.Journal.{Noted, Nothing, Value, Number, BeforePacket, BeforeGroup, noted_of, same_noted, LineInsertPacket, whole_bytes, line_edit, line_of, all_back, lines, undone}
+use Rattle.balise_rules.specs.Journal.{Noted, Nothing, Value, Number, BeforePacket, BeforeGroup, noted_of, same_noted, whole_bytes, line_edit, line_of, all_back, lines, undone}
 use Rattle.balise_rules.specs.Opening.{or_nothing, packet_for, inserting, edit_in, if_fits, item_of, most_serial, last_serial, with_item, uncounted, with_undone, or_place, with_entries, with_all_undone, and_undone, from_entries}
 use Rattle.balise_rules.proofs.Tests.{spot_itself, tag_test, nat_test}
 use Rattle.balise_rules.proofs.Spelt.{read_again}
@@ -77,7 +78,7 @@ asked_stands e None a k = absurd a
 asked_stands e (Some y) a k = k y refl
 
 inserted : (g : Tag) → (t : ℕ) → (a : Option Tag) → (x : Packet) → (plan : Plan) → Accepted (InsertPacket g t a x) plan → Spelt (InsertPacket g t a x) plan →
-    edit_in (LineInsertPacket g t a (whole_bytes x)) plan ≡ Some (InsertPacket g t a x)
+    edit_in (InsertPacket g t a (whole_bytes x)) plan ≡ Some (InsertPacket g t a x)
 inserted g t a x plan acc sp = asked_stands (InsertPacket g t a x) (telegram_at g t plan) acc.1
     (λ y h. ap (λ o. inserting g t a (option_and_then (packet_for (whole_bytes x)) o)) h
     ∙ ap (λ r. inserting g t a (or_nothing r)) (packet-again (version_of y) x (sp y h)))

@@ -12,7 +12,8 @@ use Rattle.balise_rules.specs.Tags.{same_tag, same_id, same_var, same_key, is_of
 use Rattle.balise_rules.specs.Forms.{Fields}
 use Rattle.balise_rules.specs.Packet.{Packet}
 use Rattle.balise_rules.specs.Names.{country_at, is_real, links_among, calls}
-use Rattle.balise_rules.specs.Edits.{Item, SetVar, SetHead, Renumber, TurnGroup, packet_after, field_after, head_after}
+use Rattle.balise_rules.specs.Edits.{Item, packet_after, field_after, head_after}
+use Rattle.balise_rules.specs.declared.tagged_edit.TaggedEdit.TheVariants.{SetVar, SetHead, Renumber, TurnGroup}
 use Rattle.balise_rules.specs.Notes.{Note}
 use Rattle.balise_rules.specs.Accepting.{Lawful}
 use Rattle.balise_rules.specs.Paths.{At, Nth, Of, Turn, Head, Whose, Entry}

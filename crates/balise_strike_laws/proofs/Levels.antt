@@ -10,7 +10,8 @@ use Rattle.balise_rules.specs.Forms.{Fields}
 use Rattle.balise_rules.specs.Packet.{Packet}
 use Rattle.balise_rules.specs.Telegram.{Telegram}
 use Rattle.balise_rules.specs.Plan.{Group, Plan, country_of}
-use Rattle.balise_rules.specs.Edits.{Edit, Item, AddGroup, DropGroup, TurnGroup, effect, group_after, groups_change, in_order, telegram_after, packet_after, field_after, head_after, packets_change}
+use Rattle.balise_rules.specs.Edits.{Edit, Item, effect, group_after, groups_change, in_order, telegram_after, packet_after, field_after, head_after, packets_change}
+use Rattle.balise_rules.specs.declared.tagged_edit.TaggedEdit.TheVariants.{AddGroup, DropGroup, TurnGroup}
 use Rattle.balise_rules.proofs.Tests.{split_on, tag_test, nat_test, key_test}
 use Rattle.balise_rules.proofs.Reversed.{each-reverse}
 use Rattle.balise_rules.proofs.Each.{each-each}

@@ -9,7 +9,8 @@ use Rattle.balise_rules.specs.Tagged.{find, each}
 use Rattle.balise_rules.specs.Tags.{same_id, same_key, Key, is_of}
 use Rattle.balise_rules.specs.Forms.{Fields}
 use Rattle.balise_rules.specs.Names.{country_at, is_real, links_among}
-use Rattle.balise_rules.specs.Edits.{Renumber, field_after}
+use Rattle.balise_rules.specs.Edits.{field_after}
+use Rattle.balise_rules.specs.declared.tagged_edit.TaggedEdit.TheVariants.{Renumber}
 use Rattle.balise_rules.proofs.Tests.{split_on, split_keys, flip_no, key_test, id_test}
 use Rattle.balise_rules.proofs.Cases.{unsome}
 use Rattle.balise_strike_laws.proofs.Cases.{drop1}

@@ -16,7 +16,8 @@ use Rattle.balise_rules.specs.Packet.{Packet, value}
 use Rattle.balise_rules.specs.Telegram.{Telegram}
 use Rattle.balise_rules.specs.Plan.{Group, Plan, country_of, telegram_at}
 use Rattle.balise_rules.specs.Names.{country_at, is_real, links_among, names_of, names_in_packets, names_in}
-use Rattle.balise_rules.specs.Edits.{Item, SetVar, InsertPacket, DeletePacket, MovePacket, Renumber, TurnGroup, telegram_after, packet_after, field_after, packets_change}
+use Rattle.balise_rules.specs.Edits.{Item, telegram_after, packet_after, field_after, packets_change}
+use Rattle.balise_rules.specs.declared.tagged_edit.TaggedEdit.TheVariants.{SetVar, InsertPacket, DeletePacket, MovePacket, Renumber, TurnGroup}
 use Rattle.balise_rules.specs.Notes.{Note, set_note, names_taken, note_at, noted}
 use Rattle.balise_rules.specs.Accepting.{NoName, AcceptedIn, AcceptedAt, Accepted, Unused}
 use Rattle.balise_rules.specs.Paths.{Whose, Entry, changes, needs}

@@ -12,7 +12,8 @@ use Rattle.balise_rules.specs.Packet.{Packet, width}
 use Rattle.balise_rules.specs.Telegram.{Telegram, used}
 use Rattle.balise_rules.specs.Plan.{country_of}
 use Rattle.balise_rules.specs.Names.{is_real, links_among, names_of}
-use Rattle.balise_rules.specs.Edits.{Edit, Item, SetVar, SetHead, InsertPacket, DeletePacket, MovePacket, AddGroup, DropGroup, Renumber, TurnGroup, telegram_after, packet_after, field_after, head_after, packets_change}
+use Rattle.balise_rules.specs.Edits.{Edit, Item, telegram_after, packet_after, field_after, head_after, packets_change}
+use Rattle.balise_rules.specs.declared.tagged_edit.TaggedEdit.TheVariants.{SetVar, SetHead, InsertPacket, DeletePacket, MovePacket, AddGroup, DropGroup, Renumber, TurnGroup}
 use Rattle.balise_rules.specs.Notes.{Note, nothing, set_note, names_taken, note_in}
 use Rattle.balise_rules.specs.Accepting.{Lawful, AcceptedIn}
 use Rattle.balise_rules.specs.Paths.{At, Nth, Of, After, Front, Turn, Head, Whose, anchor, neighbour}

@@ -12,7 +12,8 @@ use Rattle.balise_rules.specs.Tags.{same_tag}
 use Rattle.balise_rules.specs.Packet.{Packet, width}
 use Rattle.balise_rules.specs.Telegram.{Telegram, used}
 use Rattle.balise_rules.specs.Plan.{Plan, country_of, telegram_at}
-use Rattle.balise_rules.specs.Edits.{Edit, Item, InsertPacket, DeletePacket, MovePacket, AddGroup, DropGroup, Renumber, TurnGroup, effect, telegram_after, packet_after, packets_change}
+use Rattle.balise_rules.specs.Edits.{Edit, Item, effect, telegram_after, packet_after, packets_change}
+use Rattle.balise_rules.specs.declared.tagged_edit.TaggedEdit.TheVariants.{InsertPacket, DeletePacket, MovePacket, AddGroup, DropGroup, Renumber, TurnGroup}
 use Rattle.balise_rules.specs.Accepting.{AcceptedIn, AcceptedAt, Asks}
 use Rattle.balise_rules.specs.Paths.{room_apart}
 use Rattle.balise_rules.proofs.Tests.{split_on, flip_no, tag_test, nat_test}

@@ -14,7 +14,8 @@ use Rattle.balise_rules.specs.Tags.{same_var, same_key}
 use Rattle.balise_rules.specs.Forms.{Fields}
 use Rattle.balise_rules.specs.Packet.{Packet, value}
 use Rattle.balise_rules.specs.Names.{country_at, is_real}
-use Rattle.balise_rules.specs.Edits.{Edit, Item, SetVar, SetHead, InsertPacket, DeletePacket, MovePacket, packet_after, field_after}
+use Rattle.balise_rules.specs.Edits.{Edit, Item, packet_after, field_after}
+use Rattle.balise_rules.specs.declared.tagged_edit.TaggedEdit.TheVariants.{SetVar, SetHead, InsertPacket, DeletePacket, MovePacket}
 use Rattle.balise_rules.specs.Notes.{Note, nothing, names_set, set_note}
 use Rattle.balise_rules.specs.Accepting.{Lawful}
 use Rattle.balise_rules.specs.Paths.{At, Nth, Of, Turn, Whose}

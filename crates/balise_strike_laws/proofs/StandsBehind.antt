@@ -13,7 +13,8 @@ use Rattle.balise_rules.specs.Tags.{same_tag}
 use Rattle.balise_rules.specs.Packet.{Packet}
 use Rattle.balise_rules.specs.Telegram.{Telegram}
 use Rattle.balise_rules.specs.Plan.{Plan, identity_of, telegram_at}
-use Rattle.balise_rules.specs.Edits.{Item, InsertPacket, MovePacket, AddGroup, group_of}
+use Rattle.balise_rules.specs.Edits.{Item, group_of}
+use Rattle.balise_rules.specs.declared.tagged_edit.TaggedEdit.TheVariants.{InsertPacket, MovePacket, AddGroup}
 use Rattle.balise_rules.specs.Notes.{Note, noted}
 use Rattle.balise_rules.specs.Doing.{done}
 use Rattle.balise_rules.specs.Accepting.{AcceptedAt, Accepted}

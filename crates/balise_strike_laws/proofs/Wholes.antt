@@ -13,7 +13,8 @@ use Rattle.balise_rules.specs.Packet.{Packet}
 use Rattle.balise_rules.specs.Telegram.{Telegram}
 use Rattle.balise_rules.specs.Plan.{Group, country_of}
 use Rattle.balise_rules.specs.Names.{links_among, names_of, names_in_packets, names_in}
-use Rattle.balise_rules.specs.Edits.{Edit, Item, SetVar, SetHead, InsertPacket, DeletePacket, MovePacket, AddGroup, DropGroup, Renumber, TurnGroup, group_after, in_order, telegram_after, packet_after, head_after, packets_change}
+use Rattle.balise_rules.specs.Edits.{Edit, Item, group_after, in_order, telegram_after, packet_after, head_after, packets_change}
+use Rattle.balise_rules.specs.declared.tagged_edit.TaggedEdit.TheVariants.{SetVar, SetHead, InsertPacket, DeletePacket, MovePacket, AddGroup, DropGroup, Renumber, TurnGroup}
 use Rattle.balise_rules.specs.Notes.{Note}
 use Rattle.balise_rules.specs.Accepting.{Lawful}
 use Rattle.balise_rules.specs.Paths.{At, Nth, Of, Front, Turn, Name, Head}

@@ -11,7 +11,8 @@ use Rattle.balise_rules.specs.Tags.{same_tag}
 use Rattle.balise_rules.specs.Packet.{Packet}
 use Rattle.balise_rules.specs.Telegram.{Telegram}
 use Rattle.balise_rules.specs.Plan.{country_of}
-use Rattle.balise_rules.specs.Edits.{Item, InsertPacket, DeletePacket, MovePacket, telegram_after, packet_after, packets_change}
+use Rattle.balise_rules.specs.Edits.{Item, telegram_after, packet_after, packets_change}
+use Rattle.balise_rules.specs.declared.tagged_edit.TaggedEdit.TheVariants.{InsertPacket, DeletePacket, MovePacket}
 use Rattle.balise_rules.specs.Notes.{Note}
 use Rattle.balise_rules.specs.Paths.{At, Nth, After, Front, Path, same_part, anchor, neighbour}
 use Rattle.balise_rules.proofs.Tests.{split_on, split_keys, flip_no, flip_spot, tag_test}

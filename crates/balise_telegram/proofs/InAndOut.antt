@@ -18,7 +18,9 @@ use Rattle.balise_telegram.specs.declared.fault.TelegramFault.TheVariants.{OutOf
 use Rattle.balise_telegram.specs.Changes.{InsertsOrWants}
 use Rattle.balise_telegram.specs.Moving.{inserted, insert_refusal}
 use Rattle.balise_telegram.specs.declared.telegram.walking.Place.{Place}
-use Rattle.balise_telegram.specs.Shown.{Gap, IsPlace, Kept, Spot, IsKept, StandsFor, IsShown}
+use Rattle.balise_telegram.specs.declared.telegram.contents.Contents.{Contents}
+use Rattle.balise_telegram.specs.declared.telegram.contents.EditedBits.{EditedBits}
+use Rattle.balise_telegram.specs.Shown.{kept_of, packed_of, Gap, IsPlace, Kept, Spot, IsKept, IsOver, StandsFor, IsShown}
 use Rattle.balise_telegram.proofs.Tagging.{Packets, StandsAt, is_tagged}
 use Rattle.balise_telegram.proofs.Placing.{looked, removed}
 use Rattle.balise_telegram.proofs.Using.{used-take}
@@ -58,6 +60,10 @@ standing b y tag p q u s e is one next all =
         all = all;
       };
     }
+
+-- bits, tags and ground that are taken out to be changed are the telegram's
+pub taken_out : (d : Contents) (e f : EditedBits) (y : Telegram) → StandsFor (packed_of d) (kept_of d) y → e.packed ≡ packed_of d → ((z : Telegram) → StandsFor (packed_of d) (kept_of d) z → IsOver e.kept z) → f ≡ e → IsShown f.packed y × IsOver f.kept y
+taken_out d e f y o same over is = subst (λ (x : EditedBits). IsShown x.packed y × IsOver x.kept y) (sym is) (subst (λ (l : List Bool). IsShown l y) (sym same) o.shown, over y o)
 
 pub taken_one : (b b2 : List Bool) (k : Kept) (y : Telegram) (tag : Tag) (i : ℕ) (x : Tag × Packet) → IsShown b y → StandsAt tag y.packets i x → b2 ≡ shown (with_packets y (remove y.packets i)) → IsKept k (with_packets y (remove y.packets i)) → StandsFor b2 k (with_packets y (without same_tag tag y.packets))
 taken_one b b2 k y tag i x s h e kept =

@@ -106,9 +106,9 @@ pub seen_is : (b : List Bool) (k : Kept) (y : Telegram) → StandsFor b k y → 
 seen_is b None y o = ap telegram_of (telegram_again b y (one_read b y o))
 seen_is b (Some e) y o =
     let anew : telegram_of (read_telegram b) ≡ read_of b y = ap telegram_of (telegram_again b (read_of b y) (shown_read b y o.shown)) in
-    ap (seen_as e.value.tags.items e.value.ground) anew
-    ∙ ap (λ (ts : List Tag). seen_as ts e.value.ground (read_of b y)) o.kept.0
-    ∙ ap (λ (ps : Packets). record { head = y.head; packets = ps; padding = e.value.ground }) (tagged_by-based 0 y.packets)
+    ap (seen_as e.tags.items e.ground) anew
+    ∙ ap (λ (ts : List Tag). seen_as ts e.ground (read_of b y)) o.kept.0
+    ∙ ap (λ (ps : Packets). record { head = y.head; packets = ps; padding = e.ground }) (tagged_by-based 0 y.packets)
     ∙ ap (λ (g : List Bool). record { head = y.head; packets = y.packets; padding = g }) o.kept.1
 
 -- what is held then, and what it is seen as

@@ -1,6 +1,5 @@
 -- A telegram as it is held: the bits that it shows and, once its packets were edited, their tags and its ground.
-use Rattle.std.specs.Prelude.{◌≡◌, ◌+◌, ℕ, min, List, [], ◌∷◌, ◌++◌, All, Bool, true, length, map, take, drop, Option, Some, None, option_map, Box, slice_get, ◌≤◌}
-use Rattle.std.specs.Global.{Global}
+use Rattle.std.specs.Prelude.{◌≡◌, ◌+◌, ℕ, min, List, [], ◌∷◌, ◌++◌, All, Bool, true, length, map, take, drop, Option, Some, None, option_map, slice_get, ◌≤◌}
 use Rattle.std.specs.List.{position}
 use Rattle.balise_rules.specs.declared.tag.Tag.{Tag}
 use Rattle.balise_rules.specs.Bits.{ones}
@@ -9,13 +8,25 @@ use Rattle.balise_rules.specs.Packet.{Packet, width, IsSpelt}
 use Rattle.balise_rules.specs.Tagged.{Distinct}
 use Rattle.balise_rules.specs.Tags.{same_tag}
 use Rattle.balise_rules.specs.Telegram.{Telegram, header, is_balise, read_telegram, shown, used, version_of, IsLength, TaggedFrom}
+use Rattle.balise_telegram.specs.declared.telegram.contents.Contents.{Contents}
+use Rattle.balise_telegram.specs.declared.telegram.contents.Contents.TheVariants as held
 use Rattle.balise_telegram.specs.declared.telegram.edited.Edited.{Edited}
 use Rattle.balise_telegram.specs.declared.telegram.walking.Place.{Place}
 use Rattle.balise_telegram.specs.Packed.{telegram_of}
 
 -- what is kept besides the bits: nothing as read, then tags and ground
 abbrev pub Kept : Type 0
-Kept = Option (Box Edited Global)
+Kept = Option Edited
+
+-- the bits
+abbrev pub packed_of : Contents → List Bool
+packed_of (held.Read b) = b
+packed_of (held.Edited e) = e.value.packed
+
+-- what is kept besides them
+abbrev pub kept_of : Contents → Kept
+kept_of (held.Read b) = None
+kept_of (held.Edited e) = Some e.value.kept
 
 -- packets under these tags, in order
 abbrev pub tagged_by : List Tag → List (Tag × Packet) → List (Tag × Packet)
@@ -33,7 +44,7 @@ seen_as tags ground y = record { head = y.head; packets = tagged_by tags y.packe
 -- the telegram that the bits, and what is kept besides them, are
 abbrev pub seen : List Bool → Kept → Telegram
 seen b None = telegram_of (read_telegram b)
-seen b (Some e) = seen_as e.value.tags.items e.value.ground (telegram_of (read_telegram b))
+seen b (Some e) = seen_as e.tags.items e.ground (telegram_of (read_telegram b))
 
 -- The bits are those that the telegram shows, which is in order.
 pub record IsShown (b : List Bool) (y : Telegram) : Type 0 where
@@ -53,7 +64,7 @@ IsOver e y = (e.tags.items ≡ tags_of y.packets) × (e.ground ≡ y.padding) ×
 -- What is kept besides the bits is the telegram's: as read, tags by places, and ones for the ground up to the end of packet 255.
 abbrev pub IsKept : Kept → Telegram → Type 0
 IsKept None y = TaggedFrom 0 y.packets × (y.padding ≡ ones (used y.packets) ++ drop (used y.packets) y.padding)
-IsKept (Some e) y = IsOver e.value y
+IsKept (Some e) y = IsOver e y
 
 -- The bits, and what is kept besides them, stand for this telegram.
 pub record StandsFor (b : List Bool) (k : Kept) (y : Telegram) : Type 0 where

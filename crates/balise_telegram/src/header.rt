@@ -7,7 +7,7 @@ ghost use Rattle.balise_rules.specs.Variables.{is_free_in_header};
 ghost use Rattle.balise_rules.specs.declared.variable.Var.TheVariants.{MVersion, NidBg, NidC, NPig, NTotal};
 ghost use Rattle.balise_telegram.specs.HeaderFields.{fields_in, head_place};
 
-use balise_bits::Bits;
+use balise_layout::Bits;
 use balise_rules::{Id, Var};
 
 /// The ten numbers of a header, 50 bits (SUBSET-026, 8.4.2).

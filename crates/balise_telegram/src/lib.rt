@@ -5,8 +5,9 @@ mod fault;
 mod header;
 mod telegram;
 
-pub use balise_bits::{Bits, BitsFault};
-pub use balise_layout::{LayoutFault, Packet, PacketKind, PacketRef};
+pub use balise_layout::{
+    Bits, BitsFault, LayoutFault, NO_GROUP, Packet, PacketKind, PacketRef, is_known,
+};
 pub use balise_rules::{Id, Refusal, Tag as PacketTag, Var};
 pub use fault::TelegramFault;
 pub use header::Header;

@@ -1,6 +1,7 @@
 //! A telegram: the bits that it shows and, once its packets were edited, their tags and its ground.
 
 mod changes;
+mod contents;
 mod edited;
 mod iter;
 mod packets;
@@ -19,16 +20,16 @@ ghost use Rattle.balise_rules.specs.Telegram.{shown, used, version_of, IsLength}
 ghost use Rattle.balise_rules.specs.declared.tag.Tag.{Tag};
 ghost use Rattle.balise_telegram.specs.HeaderFields.{fields_in};
 ghost use Rattle.balise_telegram.specs.Packed.{packet_place, place_from};
-ghost use Rattle.balise_telegram.specs.Shown.{IsPlace};
+ghost use Rattle.balise_telegram.specs.Shown.{IsPlace, IsShown};
 ghost use Rattle.balise_telegram.specs.declared.telegram.walking.Place.{Place};
 
 use crate::PacketTag;
 use crate::fault::TelegramFault;
 use crate::header::{Header, head_place};
-use crate::telegram::edited::{Edited, place_read, tag_read};
+use crate::telegram::contents::{Contents, EditedBits};
+use crate::telegram::edited::{place_read, tag_read};
 use crate::telegram::walking::{Place, after, ends, walk};
-use balise_bits::Bits;
-use balise_layout::PacketRef;
+use balise_layout::{Bits, PacketRef};
 use balise_rules::{Id, Var};
 pub use iter::Packets;
 use std::marker::Model;
@@ -37,19 +38,18 @@ use std::marker::Model;
 /// the tags of its packets stand beside them, and its padding as it was read.
 #[derive(Drop)]
 pub struct Telegram {
-    packed: Bits,
-    edited: Option<Box<Edited>>,
+    contents: Contents,
 }
 
 impl Model for Telegram {
     ghost use Rattle.balise_rules.specs.Telegram as rules;
-    ghost use Rattle.balise_telegram.specs.Shown.{seen, StandsFor};
+    ghost use Rattle.balise_telegram.specs.Shown.{kept_of, packed_of, seen, StandsFor};
 
     ghost Value = { rules.Telegram };
 
-    ghost view = { λ t. seen t.packed t.edited };
+    ghost view = { λ t. seen (packed_of t.contents) (kept_of t.contents) };
 
-    ghost invariant = { λ t. StandsFor t.packed t.edited (seen t.packed t.edited) };
+    ghost invariant = { λ t. StandsFor (packed_of t.contents) (kept_of t.contents) (seen (packed_of t.contents) (kept_of t.contents)) };
 }
 
 impl Telegram {
@@ -57,7 +57,7 @@ impl Telegram {
     pub fn bits(&self) -> &Bits
         ensures { result.now ≡ shown self.now }
     {
-        &self.packed
+        self.packed()
     }
 
     /// A copy of the bits that it shows.
@@ -65,7 +65,7 @@ impl Telegram {
         ensures ok { IfOk result (λ b. b ≡ shown self.now) }
         ensures fault { IsOkUnless result TelegramFault.OutOfMemory }
     {
-        Ok(self.packed.copy()?)
+        Ok(self.packed().copy()?)
     }
 
     /// Writes the digits of its bits into a buffer, in place of all that it holds. Out of memory, that stays.
@@ -74,7 +74,7 @@ impl Telegram {
         ensures err { OnErr result (out.new.items ≡ out.old.items) }
         ensures fault { IsOkUnless result TelegramFault.OutOfMemory }
     {
-        Ok(self.packed.hex_into(out)?)
+        Ok(self.packed().hex_into(out)?)
     }
 
     /// How many bits it has: 210 or 830.
@@ -83,7 +83,7 @@ impl Telegram {
         ensures due { IsLength result }
         ensures fits { used self.now.packets ≤ length self.now.padding }
     {
-        self.packed.len()
+        self.packed().len()
     }
 
     /// How many bits header, packets and packet 255 take: 58 and the packets' widths.
@@ -97,7 +97,7 @@ impl Telegram {
     pub fn version(&self) -> u32
         ensures { result ≡ version_of self.now }
     {
-        Header::version_in(&self.packed)
+        Header::version_in(self.packed())
     }
 
     /// The identity of its group, as the header has it.
@@ -105,7 +105,7 @@ impl Telegram {
     pub fn identity(&self) -> Id
         ensures { result ≡ identity_in self.now }
     {
-        Header::identity_in(&self.packed)
+        Header::identity_in(self.packed())
     }
 
     /// Its place in its group, N_PIG, and the number of balises there less one, N_TOTAL, of 3 bits each.
@@ -113,21 +113,21 @@ impl Telegram {
         ensures pig { result.0 ≡ value NPig 0 self.now.head }
         ensures total { result.1 ≡ value NTotal 0 self.now.head }
     {
-        Header::place_in(&self.packed)
+        Header::place_in(self.packed())
     }
 
     /// The ten numbers of its header.
     pub fn header(&self) -> Header
         ensures { fields_in result ≡ self.now.head }
     {
-        Header::read(&self.packed)
+        Header::read(self.packed())
     }
 
     /// The value of a variable of the header, where a header has it.
     pub fn head(&self, var: Var) -> Option<u32>
         ensures { result ≡ field_of var 0 self.now.head }
     {
-        let bits = &self.packed;
+        let bits = self.packed();
         let Some(at) = head_place(var) else {
             return None;
         };
@@ -139,7 +139,7 @@ impl Telegram {
         ensures count { result ≡ length self.now.packets }
         ensures tags { Distinct same_tag self.now.packets }
     {
-        let _packed = &self.packed;
+        let _packed = self.packed();
         self.end().index
     }
 
@@ -158,7 +158,7 @@ impl Telegram {
     pub fn at(&self, i: usize) -> Option<(PacketTag, PacketRef<'_>)>
         ensures { result ≡ slice_get self.now.packets i }
     {
-        let place = walk(&self.packed, i);
+        let place = walk(self.packed(), i);
         if place.index < i {
             return None;
         }
@@ -173,12 +173,16 @@ impl Telegram {
         ensures ok { IfOk result (λ telegram. telegram ≡ self.now) }
         ensures fault { IsOkUnless result TelegramFault.OutOfMemory }
     {
-        let packed = self.packed.copy()?;
-        let edited = match &self.edited {
-            Some(edited) => Some(edited.copy(self.packed.allocator())?),
-            None => None,
-        };
-        Ok(Telegram { packed, edited })
+        let contents = self.contents.copy()?;
+        Ok(Telegram { contents })
+    }
+
+    // The bits that it shows, for proofs that go over them.
+    #[inline(always)]
+    fn packed(&self) -> &Bits
+        ensures { IsShown result.now self.now }
+    {
+        self.contents.packed()
     }
 
     // The place of the packet with this tag.
@@ -187,14 +191,14 @@ impl Telegram {
         ensures place { option_map (λ (p : Place). p.index) result ≡ position (λ q. same_tag tag q.0) self.now.packets }
         ensures stands { IfSome result (λ p. IsPlace self.now p × (p.index < length self.now.packets)) }
     {
-        match &self.edited {
-            Some(edited) => {
-                let Some(i) = edited.place_of(tag) else {
+        match &self.contents {
+            Contents::Edited(edited) => {
+                let Some(i) = edited.kept.place_of(tag) else {
                     return None;
                 };
-                Some(walk(&self.packed, i))
+                Some(walk(&edited.packed, i))
             }
-            None => place_read(&self.packed, tag),
+            Contents::Read(bits) => place_read(bits, tag),
         }
     }
 
@@ -204,12 +208,12 @@ impl Telegram {
         ensures at { result.at + 8 ≡ used self.now.packets }
         ensures small { result.at + 8 < 2 ^ 64 }
     {
-        match &self.edited {
-            Some(edited) => Place {
-                index: edited.tags.len(),
-                at: edited.used - 8,
+        match &self.contents {
+            Contents::Edited(edited) => Place {
+                index: edited.kept.tags.len(),
+                at: edited.kept.used - 8,
             },
-            None => ends(&self.packed),
+            Contents::Read(bits) => ends(bits),
         }
     }
 
@@ -219,9 +223,9 @@ impl Telegram {
         requires { IsPlace self.now place }
         ensures { result ≡ option_map (λ q. q.0) (slice_get self.now.packets place.index) }
     {
-        match &self.edited {
-            Some(edited) => edited.tag_at(place.index),
-            None => tag_read(&self.packed, place),
+        match &self.contents {
+            Contents::Edited(edited) => edited.kept.tag_at(place.index),
+            Contents::Read(bits) => tag_read(bits, place),
         }
     }
 
@@ -242,7 +246,7 @@ impl Telegram {
         requires version { version ≡ version_of self.now }
         ensures { (x : Tag × Packet) → slice_get self.now.packets place.index ≡ Some x → result ≡ x.1 }
     {
-        PacketRef::new(&self.packed, place.at, version)
+        PacketRef::new(self.packed(), place.at, version)
     }
 
     // The place after the packet at a place.
@@ -253,7 +257,7 @@ impl Telegram {
         ensures index { result.index ≡ place.index + 1 }
         ensures place { IsPlace self.now result }
     {
-        after(&self.packed, place)
+        after(self.packed(), place)
     }
 
     // The place after the packet that is lent from a place.
@@ -265,7 +269,7 @@ impl Telegram {
         ensures index { result.index ≡ place.index + 1 }
         ensures place { IsPlace self.now result }
     {
-        let _packed = &self.packed;
+        let _packed = self.packed();
         Place {
             index: place.index + 1,
             at: place.at + packet.width(),
@@ -277,7 +281,7 @@ impl Telegram {
         ensures place { result ≡ packet_place 50 tag self.now.packets }
         ensures tags { Distinct same_tag self.now.packets }
     {
-        let _packed = &self.packed;
+        let _packed = self.packed();
         let Some(place) = self.find(tag) else {
             return None;
         };
@@ -289,7 +293,7 @@ impl Telegram {
         requires { (tag : Tag) × (packet_place 50 tag self.now.packets ≡ Some packet) }
         ensures { (tag : Tag) → packet_place 50 tag self.now.packets ≡ Some packet → result ≡ place_from 50 tag (var, k) self.now.packets }
     {
-        let bits = &self.packed;
+        let bits = self.packed();
         match PacketRef::new(bits, packet, self.version()).place_of(var, k) {
             Some(before) => Some(packet + before),
             None => None,

@@ -1,4 +1,5 @@
 -- The line that is printed for an entry is read as the same entry.
+use Rattle.balise_rules.specs.declared.tagged_edit.TaggedEdit.TheVariants.{SetVar, SetHead, InsertPacket, DeletePacket, MovePacket, AddGroup, DropGroup, Renumber, TurnGroup}
 use Rattle.std.proofs.Common.{◌≡◌, ◌∙◌, ℕ, suc, ◌<◌, ◌++◌, Bool, true, List, [], ◌∷◌, length, map, All, Option, Some, Ok, inl, inr, decimal, codes, refl, ap, arith}
 use Rattle.std.proofs.lemmas.List.{append-nil}
 use Rattle.balise_rules.specs.declared.tag.Tag.{Tag}
@@ -6,7 +7,7 @@ use Rattle.balise_rules.specs.declared.variable.Var.{Var}
 use Rattle.balise_rules.specs.Variables.{name_of, var_named}
 use Rattle.balise_rules.specs.Digits.{hex_of, read_digits, read_hex}
 use Rattle.balise_rules.specs.Telegram.{IsLength}
-use Rattle.balise_rules.specs.Journal.{Line, LineEdit, LineSetVar, LineSetHead, LineInsertPacket, LineDeletePacket, LineMovePacket, LineAddGroup, LineDropGroup, LineRenumber, LineTurnGroup, Noted, Nothing, Value, Number, BeforePacket, BeforeGroup}
+use Rattle.balise_rules.specs.Journal.{Line, LineEdit, Noted, Nothing, Value, Number, BeforePacket, BeforeGroup}
 use Rattle.balise_text.specs.Words.{Word, words_of, number_of}
 use Rattle.balise_text.specs.Texts.{line_of}
 use Rattle.balise_text.specs.Kinds.{kind_of}
@@ -25,38 +26,38 @@ use Rattle.balise_text.proofs.HexDigits.{digits_high, hex_count, bytes_read, due
 -- Each kind, by what its words say.
 
 set_read : (s : ℕ) (a b c d e : Word) (g : Tag) (t : ℕ) (p : Tag) (v : Var) (k n m : ℕ) → packet_path_of a ≡ Some (g, t, p) → var_named b ≡ Some v → number_of c ≡ Some k → number_of d ≡ Some n → number_of e ≡ Some m
-    → entry_words s (kind_of (codes "set")) (a ∷ b ∷ c ∷ d ∷ e ∷ []) ≡ Some (Ok (entry s (LineSetVar g t p v k n) (Value m)))
+    → entry_words s (kind_of (codes "set")) (a ∷ b ∷ c ∷ d ∷ e ∷ []) ≡ Some (Ok (entry s (SetVar g t p v k n) (Value m)))
 set_read s a b c d e g t p v k n m h1 h2 h3 h4 h5 = rw (h1, h2, h3, h4, h5) refl
 
 set_head_read : (s : ℕ) (a b c d : Word) (g : Tag) (t : ℕ) (v : Var) (n m : ℕ) → telegram_path_of a ≡ Some (g, t) → var_named b ≡ Some v → number_of c ≡ Some n → number_of d ≡ Some m
-    → entry_words s (kind_of (codes "seth")) (a ∷ b ∷ c ∷ d ∷ []) ≡ Some (Ok (entry s (LineSetHead g t v n) (Value m)))
+    → entry_words s (kind_of (codes "seth")) (a ∷ b ∷ c ∷ d ∷ []) ≡ Some (Ok (entry s (SetHead g t v n) (Value m)))
 set_head_read s a b c d g t v n m h1 h2 h3 h4 = rw (h1, h2, h3, h4) refl
 
 delete_read : (s : ℕ) (a b : Word) (g : Tag) (t : ℕ) (p : Tag) (q : Option Tag) → packet_path_of a ≡ Some (g, t, p) → neighbour_of b ≡ Some q
-    → entry_words s (kind_of (codes "delete")) (a ∷ b ∷ []) ≡ Some (Ok (entry s (LineDeletePacket g t p) (BeforePacket q)))
+    → entry_words s (kind_of (codes "delete")) (a ∷ b ∷ []) ≡ Some (Ok (entry s (DeletePacket g t p) (BeforePacket q)))
 delete_read s a b g t p q h1 h2 = rw (h1, h2) refl
 
 move_read : (s : ℕ) (a b c : Word) (g : Tag) (t : ℕ) (p : Tag) (x q : Option Tag) → packet_path_of a ≡ Some (g, t, p) → anchor_of b ≡ Some x → neighbour_of c ≡ Some q
-    → entry_words s (kind_of (codes "move")) (a ∷ b ∷ c ∷ []) ≡ Some (Ok (entry s (LineMovePacket g t p x) (BeforePacket q)))
+    → entry_words s (kind_of (codes "move")) (a ∷ b ∷ c ∷ []) ≡ Some (Ok (entry s (MovePacket g t p x) (BeforePacket q)))
 move_read s a b c g t p x q h1 h2 h3 = rw (h1, h2, h3) refl
 
 drop_read : (s : ℕ) (a b : Word) (g : Tag) (q : Option Tag) → tag_of a ≡ Some g → neighbour_of b ≡ Some q
-    → entry_words s (kind_of (codes "drop")) (a ∷ b ∷ []) ≡ Some (Ok (entry s (LineDropGroup g) (BeforeGroup q)))
+    → entry_words s (kind_of (codes "drop")) (a ∷ b ∷ []) ≡ Some (Ok (entry s (DropGroup g) (BeforeGroup q)))
 drop_read s a b g q h1 h2 = rw (h1, h2) refl
 
 renumber_read : (s : ℕ) (a b c : Word) (g : Tag) (n m : ℕ) → tag_of a ≡ Some g → number_of b ≡ Some n → number_of c ≡ Some m
-    → entry_words s (kind_of (codes "renumber")) (a ∷ b ∷ c ∷ []) ≡ Some (Ok (entry s (LineRenumber g n) (Number m)))
+    → entry_words s (kind_of (codes "renumber")) (a ∷ b ∷ c ∷ []) ≡ Some (Ok (entry s (Renumber g n) (Number m)))
 renumber_read s a b c g n m h1 h2 h3 = rw (h1, h2, h3) refl
 
-turn_read : (s : ℕ) (a : Word) (g : Tag) → tag_of a ≡ Some g → entry_words s (kind_of (codes "turn")) (a ∷ []) ≡ Some (Ok (entry s (LineTurnGroup g) Nothing))
+turn_read : (s : ℕ) (a : Word) (g : Tag) → tag_of a ≡ Some g → entry_words s (kind_of (codes "turn")) (a ∷ []) ≡ Some (Ok (entry s (TurnGroup g) Nothing))
 turn_read s a g h1 = rw h1 refl
 
 insert_read : (s : ℕ) (a b c : Word) (g : Tag) (t : ℕ) (x : Option Tag) (bs : List Bool) → telegram_path_of a ≡ Some (g, t) → anchor_of b ≡ Some x → some_word c ≡ Some c → read_digits c ≡ Ok bs
-    → entry_words s (kind_of (codes "insert")) (a ∷ b ∷ c ∷ []) ≡ Some (Ok (entry s (LineInsertPacket g t x bs) Nothing))
+    → entry_words s (kind_of (codes "insert")) (a ∷ b ∷ c ∷ []) ≡ Some (Ok (entry s (InsertPacket g t x bs) Nothing))
 insert_read s a b c g t x bs h1 h2 h3 h4 = rw (h1, h2, h3, h4) refl
 
 add_read : (s : ℕ) (a : Word) (ws : List Word) (x : Option Tag) (bs : List (List Bool)) → anchor_of a ≡ Some x → some_words ws ≡ Some ws → telegrams_in ws ≡ Ok bs
-    → entry_words s (kind_of (codes "add")) (a ∷ ws) ≡ Some (Ok (entry s (LineAddGroup x bs) Nothing))
+    → entry_words s (kind_of (codes "add")) (a ∷ ws) ≡ Some (Ok (entry s (AddGroup x bs) Nothing))
 add_read s a ws x bs h1 h2 h3 = rw (h1, h2, h3) refl
 
 -- Digits.
@@ -109,15 +110,15 @@ hex_high [] = tt
 hex_high (b ∷ bs) = (digits_high _, hex_high bs)
 
 pub words_high : (s : ℕ) (e : LineEdit) (m : Noted) → IsNumber s → ArePrintable e m → AllHigh (decimal s ∷ (edit_words e ++ noted_words m))
-words_high s (LineSetVar g t p v k n) (Value m) h (a, b, c, d, e, f) = (decimal_high s h, (refl, (packet_path_high g t p a b c, (name_high v, (decimal_high k d, (decimal_high n e, (decimal_high m f, tt)))))))
-words_high s (LineSetHead g t v n) (Value m) h (a, b, c, d) = (decimal_high s h, (refl, (telegram_path_high g t a b, (name_high v, (decimal_high n c, (decimal_high m d, tt))))))
-words_high s (LineInsertPacket g t x bs) Nothing h (a, b, c, d) = (decimal_high s h, (refl, (telegram_path_high g t a b, (anchor_high x c, (digits_high _, tt)))))
-words_high s (LineDeletePacket g t p) (BeforePacket q) h (a, b, c, d) = (decimal_high s h, (refl, (packet_path_high g t p a b c, (neighbour_high q d, tt))))
-words_high s (LineMovePacket g t p x) (BeforePacket q) h (a, b, c, d, e) = (decimal_high s h, (refl, (packet_path_high g t p a b c, (anchor_high x d, (neighbour_high q e, tt)))))
-words_high s (LineAddGroup x bs) Nothing h (a, b) = (decimal_high s h, (refl, (anchor_high x a, all_high-append (map hex_of bs) [] (hex_high bs) tt)))
-words_high s (LineDropGroup g) (BeforeGroup q) h (a, b) = (decimal_high s h, (refl, (tag_high g a, (neighbour_high q b, tt))))
-words_high s (LineRenumber g n) (Number m) h (a, b, c) = (decimal_high s h, (refl, (tag_high g a, (decimal_high n b, (decimal_high m c, tt)))))
-words_high s (LineTurnGroup g) Nothing h a = (decimal_high s h, (refl, (tag_high g a, tt)))
+words_high s (SetVar g t p v k n) (Value m) h (a, b, c, d, e, f) = (decimal_high s h, (refl, (packet_path_high g t p a b c, (name_high v, (decimal_high k d, (decimal_high n e, (decimal_high m f, tt)))))))
+words_high s (SetHead g t v n) (Value m) h (a, b, c, d) = (decimal_high s h, (refl, (telegram_path_high g t a b, (name_high v, (decimal_high n c, (decimal_high m d, tt))))))
+words_high s (InsertPacket g t x bs) Nothing h (a, b, c, d) = (decimal_high s h, (refl, (telegram_path_high g t a b, (anchor_high x c, (digits_high _, tt)))))
+words_high s (DeletePacket g t p) (BeforePacket q) h (a, b, c, d) = (decimal_high s h, (refl, (packet_path_high g t p a b c, (neighbour_high q d, tt))))
+words_high s (MovePacket g t p x) (BeforePacket q) h (a, b, c, d, e) = (decimal_high s h, (refl, (packet_path_high g t p a b c, (anchor_high x d, (neighbour_high q e, tt)))))
+words_high s (AddGroup x bs) Nothing h (a, b) = (decimal_high s h, (refl, (anchor_high x a, all_high-append (map hex_of bs) [] (hex_high bs) tt)))
+words_high s (DropGroup g) (BeforeGroup q) h (a, b) = (decimal_high s h, (refl, (tag_high g a, (neighbour_high q b, tt))))
+words_high s (Renumber g n) (Number m) h (a, b, c) = (decimal_high s h, (refl, (tag_high g a, (decimal_high n b, (decimal_high m c, tt)))))
+words_high s (TurnGroup g) Nothing h a = (decimal_high s h, (refl, (tag_high g a, tt)))
 words_high s e m h p = absurd p
 
 -- The words of a whole line.
@@ -126,29 +127,29 @@ in_order : (w name : Word) (ws : List Word) (s : ℕ) (l : Line) → number_of w
 in_order w name ws s l e f = rw e f
 
 same_words : (s : ℕ) (e : LineEdit) (m : Noted) → IsNumber s → ArePrintable e m → entry_in (decimal s ∷ (edit_words e ++ noted_words m)) ≡ Some (Ok (entry s e m))
-same_words s (LineSetVar g t p v k n) (Value m) h (a, b, c, d, e, f) =
+same_words s (SetVar g t p v k n) (Value m) h (a, b, c, d, e, f) =
     in_order (decimal s) (codes "set") _ s _ (number_of_decimal s h)
     (set_read s (packet_path g t p) (name_of v) (decimal k) (decimal n) (decimal m) g t p v k n m (packet_path_read g t p a b c) (name_read v) (number_of_decimal k d) (number_of_decimal n e) (number_of_decimal m f))
-same_words s (LineSetHead g t v n) (Value m) h (a, b, c, d) =
+same_words s (SetHead g t v n) (Value m) h (a, b, c, d) =
     in_order (decimal s) (codes "seth") _ s _ (number_of_decimal s h)
     (set_head_read s (telegram_path g t) (name_of v) (decimal n) (decimal m) g t v n m (telegram_path_read g t a b) (name_read v) (number_of_decimal n c) (number_of_decimal m d))
-same_words s (LineInsertPacket g t x bs) Nothing h (a, b, c, d) =
+same_words s (InsertPacket g t x bs) Nothing h (a, b, c, d) =
     in_order (decimal s) (codes "insert") _ s _ (number_of_decimal s h)
     (insert_read s (telegram_path g t) (anchor_text x) (hex_of bs) g t x bs (telegram_path_read g t a b) (anchor_read x c) (some_is (hex_of bs) (omega (arith, d.0, hex_count bs))) (bytes_read bs d.1))
-same_words s (LineDeletePacket g t p) (BeforePacket q) h (a, b, c, d) =
+same_words s (DeletePacket g t p) (BeforePacket q) h (a, b, c, d) =
     in_order (decimal s) (codes "delete") _ s _ (number_of_decimal s h)
     (delete_read s (packet_path g t p) (neighbour_text q) g t p q (packet_path_read g t p a b c) (neighbour_read q d))
-same_words s (LineMovePacket g t p x) (BeforePacket q) h (a, b, c, d, e) =
+same_words s (MovePacket g t p x) (BeforePacket q) h (a, b, c, d, e) =
     in_order (decimal s) (codes "move") _ s _ (number_of_decimal s h)
     (move_read s (packet_path g t p) (anchor_text x) (neighbour_text q) g t p x q (packet_path_read g t p a b c) (anchor_read x d) (neighbour_read q e))
-same_words s (LineAddGroup x bs) Nothing h (a, b) =
+same_words s (AddGroup x bs) Nothing h (a, b) =
     ap (λ (ws : List Word). entry_in (decimal s ∷ codes "add" ∷ anchor_text x ∷ ws)) (append-nil (map hex_of bs))
     ∙ in_order (decimal s) (codes "add") _ s _ (number_of_decimal s h) (add_read s (anchor_text x) (map hex_of bs) x bs (anchor_read x a) (some_words_are bs b) (telegrams_read bs b.1))
-same_words s (LineDropGroup g) (BeforeGroup q) h (a, b) =
+same_words s (DropGroup g) (BeforeGroup q) h (a, b) =
     in_order (decimal s) (codes "drop") _ s _ (number_of_decimal s h) (drop_read s (tag_text g) (neighbour_text q) g q (tag_read g a) (neighbour_read q b))
-same_words s (LineRenumber g n) (Number m) h (a, b, c) =
+same_words s (Renumber g n) (Number m) h (a, b, c) =
     in_order (decimal s) (codes "renumber") _ s _ (number_of_decimal s h) (renumber_read s (tag_text g) (decimal n) (decimal m) g n m (tag_read g a) (number_of_decimal n b) (number_of_decimal m c))
-same_words s (LineTurnGroup g) Nothing h a = in_order (decimal s) (codes "turn") _ s _ (number_of_decimal s h) (turn_read s (tag_text g) g (tag_read g a))
+same_words s (TurnGroup g) Nothing h a = in_order (decimal s) (codes "turn") _ s _ (number_of_decimal s h) (turn_read s (tag_text g) g (tag_read g a))
 same_words s e m h p = absurd p
 
 -- the words of a line that was printed are those that were put together

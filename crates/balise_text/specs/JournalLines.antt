@@ -1,11 +1,13 @@
 -- The lines after the first of a journal, as they are read. The digits are looked at where the line is of the grammar.
+use Rattle.balise_rules.specs.Edits as edits
+use Rattle.balise_rules.specs.declared.tagged_edit.TaggedEdit.TheVariants as variants
 use Rattle.std.specs.Prelude.{ℕ, ◌&&◌, if◌then◌else◌, is_some, Bool, false, drop, List, codes, bytes_eq, Option, Some, None, Result, Ok, Err, option_map}
 use Rattle.balise_rules.specs.declared.refusal.Refusal.{Refusal}
 use Rattle.balise_rules.specs.declared.refusal.Refusal.TheVariants.{BadHex, JournalMismatch}
 use Rattle.balise_rules.specs.declared.tag.Tag.{Tag}
 use Rattle.balise_rules.specs.Variables.{var_named}
 use Rattle.balise_rules.specs.Digits.{read_digits}
-use Rattle.balise_rules.specs.Journal.{Line, LineEdit, LineSetVar, LineSetHead, LineInsertPacket, LineDeletePacket, LineMovePacket, LineAddGroup, LineDropGroup, LineRenumber, LineTurnGroup, Noted, Nothing, Value, Number, BeforePacket, BeforeGroup}
+use Rattle.balise_rules.specs.Journal.{Line, LineEdit, Noted, Nothing, Value, Number, BeforePacket, BeforeGroup}
 use Rattle.balise_text.specs.declared.head.Version.TheVariants.{One, Two}
 use Rattle.balise_text.specs.declared.kind.Kind.{Kind}
 use Rattle.balise_text.specs.declared.kind.Kind.TheVariants.{Set, SetHead, Insert, Delete, Move, Add, Drop, Renumber, Turn}
@@ -24,35 +26,35 @@ entry s e m = record { serial = s; edit = e; noted = m }
 
 -- G/T/P VAR K VALUE OLD
 abbrev pub set_entry : ℕ → List Word → Option Line
-set_entry s ws = and_then (taken packet_path_of ws) (λ p ws. and_then (taken var_named ws) (λ v ws. and_then (taken number_of ws) (λ k ws. and_then (taken number_of ws) (λ n ws. and_then (taken number_of ws) (λ old ws. no_more ws (entry s (LineSetVar p.0 p.1 p.2 v k n) (Value old)))))))
+set_entry s ws = and_then (taken packet_path_of ws) (λ p ws. and_then (taken var_named ws) (λ v ws. and_then (taken number_of ws) (λ k ws. and_then (taken number_of ws) (λ n ws. and_then (taken number_of ws) (λ old ws. no_more ws (entry s (variants.SetVar p.0 p.1 p.2 v k n) (Value old)))))))
 
 -- G/T VAR VALUE OLD
 abbrev pub set_head_entry : ℕ → List Word → Option Line
-set_head_entry s ws = and_then (taken telegram_path_of ws) (λ p ws. and_then (taken var_named ws) (λ v ws. and_then (taken number_of ws) (λ n ws. and_then (taken number_of ws) (λ old ws. no_more ws (entry s (LineSetHead p.0 p.1 v n) (Value old))))))
+set_head_entry s ws = and_then (taken telegram_path_of ws) (λ p ws. and_then (taken var_named ws) (λ v ws. and_then (taken number_of ws) (λ n ws. and_then (taken number_of ws) (λ old ws. no_more ws (entry s (variants.SetHead p.0 p.1 v n) (Value old))))))
 
 -- G/T/P BEFORE
 abbrev pub delete_entry : ℕ → List Word → Option Line
-delete_entry s ws = and_then (taken packet_path_of ws) (λ p ws. and_then (taken neighbour_of ws) (λ b ws. no_more ws (entry s (LineDeletePacket p.0 p.1 p.2) (BeforePacket b))))
+delete_entry s ws = and_then (taken packet_path_of ws) (λ p ws. and_then (taken neighbour_of ws) (λ b ws. no_more ws (entry s (variants.DeletePacket p.0 p.1 p.2) (BeforePacket b))))
 
 -- G/T/P AFTER BEFORE
 abbrev pub move_entry : ℕ → List Word → Option Line
-move_entry s ws = and_then (taken packet_path_of ws) (λ p ws. and_then (taken anchor_of ws) (λ a ws. and_then (taken neighbour_of ws) (λ b ws. no_more ws (entry s (LineMovePacket p.0 p.1 p.2 a) (BeforePacket b)))))
+move_entry s ws = and_then (taken packet_path_of ws) (λ p ws. and_then (taken anchor_of ws) (λ a ws. and_then (taken neighbour_of ws) (λ b ws. no_more ws (entry s (variants.MovePacket p.0 p.1 p.2 a) (BeforePacket b)))))
 
 -- G BEFORE
 abbrev pub drop_entry : ℕ → List Word → Option Line
-drop_entry s ws = and_then (taken tag_of ws) (λ g ws. and_then (taken neighbour_of ws) (λ b ws. no_more ws (entry s (LineDropGroup g) (BeforeGroup b))))
+drop_entry s ws = and_then (taken tag_of ws) (λ g ws. and_then (taken neighbour_of ws) (λ b ws. no_more ws (entry s (variants.DropGroup g) (BeforeGroup b))))
 
 -- G NEW OLD
 abbrev pub renumber_entry : ℕ → List Word → Option Line
-renumber_entry s ws = and_then (taken tag_of ws) (λ g ws. and_then (taken number_of ws) (λ n ws. and_then (taken number_of ws) (λ old ws. no_more ws (entry s (LineRenumber g n) (Number old)))))
+renumber_entry s ws = and_then (taken tag_of ws) (λ g ws. and_then (taken number_of ws) (λ n ws. and_then (taken number_of ws) (λ old ws. no_more ws (entry s (variants.Renumber g n) (Number old)))))
 
 -- G
 abbrev pub turn_entry : ℕ → List Word → Option Line
-turn_entry s ws = and_then (taken tag_of ws) (λ g ws. no_more ws (entry s (LineTurnGroup g) Nothing))
+turn_entry s ws = and_then (taken tag_of ws) (λ g ws. no_more ws (entry s (variants.TurnGroup g) Nothing))
 
 -- G/T AFTER HEX: a packet's digits, four bits each
 abbrev pub insert_entry : ℕ → List Word → Option (Result Line Refusal)
-insert_entry s ws = and_then (taken telegram_path_of ws) (λ p ws. and_then (taken anchor_of ws) (λ a ws. and_then (taken some_word ws) (λ w ws. no_more ws (read_as (λ b. entry s (LineInsertPacket p.0 p.1 a b) Nothing) (read_digits w)))))
+insert_entry s ws = and_then (taken telegram_path_of ws) (λ p ws. and_then (taken anchor_of ws) (λ a ws. and_then (taken some_word ws) (λ w ws. no_more ws (read_as (λ b. entry s (variants.InsertPacket p.0 p.1 a b) Nothing) (read_digits w)))))
 
 -- bad digits are answered as such; a telegram of another length, or with bits after its last, makes the journal one of another plan
 abbrev pub told : Refusal → Refusal
@@ -61,7 +63,7 @@ told r = JournalMismatch
 
 abbrev pub adding : ℕ → Option Tag → Result (List (List Bool)) Refusal → Result Line Refusal
 adding s a (Err r) = Err (told r)
-adding s a (Ok bs) = Ok (entry s (LineAddGroup a bs) Nothing)
+adding s a (Ok bs) = Ok (entry s (variants.AddGroup a bs) Nothing)
 
 -- AFTER HEX ..: a telegram's digits each
 abbrev pub add_entry : ℕ → List Word → Option (Result Line Refusal)

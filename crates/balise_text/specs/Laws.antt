@@ -1,9 +1,10 @@
 -- What is printed for a journal is read as the same, and is one line.
+use Rattle.balise_rules.specs.declared.tagged_edit.TaggedEdit.TheVariants.{SetVar, SetHead, InsertPacket, DeletePacket, MovePacket, AddGroup, DropGroup, Renumber, TurnGroup}
 use Rattle.std.specs.Prelude.{◌≡◌, ◌≢◌, ℕ, ◌≤◌, ◌%◌, List, Bool, length, All, Option, Some, None, Ok}
 use Rattle.balise_rules.specs.declared.tag.Tag.{Tag}
 use Rattle.balise_rules.specs.declared.tag.Tag.TheVariants.{Base, Fresh}
 use Rattle.balise_rules.specs.Telegram.{IsLength}
-use Rattle.balise_rules.specs.Journal.{Line, LineEdit, LineSetVar, LineSetHead, LineInsertPacket, LineDeletePacket, LineMovePacket, LineAddGroup, LineDropGroup, LineRenumber, LineTurnGroup, Noted, Nothing, Value, Number, BeforePacket, BeforeGroup}
+use Rattle.balise_rules.specs.Journal.{Line, LineEdit, Noted, Nothing, Value, Number, BeforePacket, BeforeGroup}
 use Rattle.balise_text.specs.declared.head.Version.{Version}
 use Rattle.balise_text.specs.declared.head.Version.TheVariants.{Two}
 use Rattle.balise_text.specs.declared.section.Section.TheVariants.{Entries, Undone}
@@ -35,15 +36,15 @@ AreTelegrams bs = (1 ≤ length bs) × All (λ b. IsLength (length b)) bs
 
 -- an edit and what is noted of it are of one kind, each number is one of 32 bits, and digits are whole
 abbrev pub ArePrintable : LineEdit → Noted → Type 0
-ArePrintable (LineSetVar g t p v k n) (Value m) = IsTagNumber g × IsNumber t × IsTagNumber p × IsNumber k × IsNumber n × IsNumber m
-ArePrintable (LineSetHead g t v n) (Value m) = IsTagNumber g × IsNumber t × IsNumber n × IsNumber m
-ArePrintable (LineInsertPacket g t a b) Nothing = IsTagNumber g × IsNumber t × IsSpot a × AreBytes b
-ArePrintable (LineDeletePacket g t p) (BeforePacket b) = IsTagNumber g × IsNumber t × IsTagNumber p × IsSpot b
-ArePrintable (LineMovePacket g t p a) (BeforePacket b) = IsTagNumber g × IsNumber t × IsTagNumber p × IsSpot a × IsSpot b
-ArePrintable (LineAddGroup a bs) Nothing = IsSpot a × AreTelegrams bs
-ArePrintable (LineDropGroup g) (BeforeGroup b) = IsTagNumber g × IsSpot b
-ArePrintable (LineRenumber g n) (Number m) = IsTagNumber g × IsNumber n × IsNumber m
-ArePrintable (LineTurnGroup g) Nothing = IsTagNumber g
+ArePrintable (SetVar g t p v k n) (Value m) = IsTagNumber g × IsNumber t × IsTagNumber p × IsNumber k × IsNumber n × IsNumber m
+ArePrintable (SetHead g t v n) (Value m) = IsTagNumber g × IsNumber t × IsNumber n × IsNumber m
+ArePrintable (InsertPacket g t a b) Nothing = IsTagNumber g × IsNumber t × IsSpot a × AreBytes b
+ArePrintable (DeletePacket g t p) (BeforePacket b) = IsTagNumber g × IsNumber t × IsTagNumber p × IsSpot b
+ArePrintable (MovePacket g t p a) (BeforePacket b) = IsTagNumber g × IsNumber t × IsTagNumber p × IsSpot a × IsSpot b
+ArePrintable (AddGroup a bs) Nothing = IsSpot a × AreTelegrams bs
+ArePrintable (DropGroup g) (BeforeGroup b) = IsTagNumber g × IsSpot b
+ArePrintable (Renumber g n) (Number m) = IsTagNumber g × IsNumber n × IsNumber m
+ArePrintable (TurnGroup g) Nothing = IsTagNumber g
 ArePrintable e m = ⊥
 
 abbrev pub IsPrintable : Line → Type 0

@@ -13,8 +13,7 @@ ghost use Rattle.balise_text.specs.Words.{or_bad, read_as};
 use crate::digit_words::read_telegrams;
 use crate::kind::Kind;
 use crate::words::Words;
-use balise_bits::Bits;
-use balise_commands::Command;
+use balise_commands::{Bits, Command};
 use balise_rules::{Id, Refusal};
 use std::alloc::Global;
 

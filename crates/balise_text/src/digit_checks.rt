@@ -7,7 +7,7 @@ ghost use Rattle.balise_text.specs.DigitWords.{bits_due, telegrams_in};
 ghost use Rattle.balise_text.specs.Left.{left};
 
 use crate::words::Words;
-use balise_bits::hex_value;
+use balise_commands::hex_value;
 use balise_rules::Refusal;
 
 /// Judges the digits of a packet: an even number of digits and no other byte.

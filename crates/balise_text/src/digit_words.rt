@@ -7,7 +7,7 @@ ghost use Rattle.balise_text.specs.DigitWords.{bits_due, telegrams_in};
 ghost use Rattle.balise_text.specs.Left.{left};
 
 use crate::words::Words;
-use balise_bits::{Bits, BitsFault};
+use balise_commands::{Bits, BitsFault};
 use std::alloc::Global;
 
 impl<'a> Words<'a> {
@@ -70,6 +70,10 @@ pub(crate) fn read_telegrams(alloc: Global, words: Words) -> Result<Vec<Bits>, B
             Ok(bits) => bits,
             Err(fault) => return Err(fault),
         };
+        // Most groups have one telegram, and an edit keeps the list.
+        if let Err(_) = telegrams.reserve_exact(1) {
+            return Err(BitsFault::OutOfMemory);
+        }
         if let Err(_) = telegrams.push(bits) {
             return Err(BitsFault::OutOfMemory);
         }

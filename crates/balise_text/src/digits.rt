@@ -5,7 +5,7 @@ ghost use Rattle.balise_lines.specs.Writing.{Writes};
 ghost use Rattle.balise_rules.specs.Digits.{digit_of, hex_of};
 ghost use Rattle.balise_text.specs.Printing.{byte_at};
 
-use balise_bits::Bits;
+use balise_commands::Bits;
 use balise_lines::{Counted, WriteFault, put};
 use std::io::Write;
 

@@ -12,8 +12,7 @@ ghost use Rattle.balise_text.specs.Words.{or_bad};
 use crate::digit_words::read_telegrams;
 use crate::kind::Kind;
 use crate::words::Words;
-use balise_bits::{Bits, BitsFault};
-use balise_commands::{Line, LineEdit, Noted};
+use balise_commands::{Bits, BitsFault, Line, LineEdit, Noted};
 use balise_rules::Refusal;
 use std::alloc::Global;
 

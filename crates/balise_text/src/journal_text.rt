@@ -10,8 +10,7 @@ ghost use Rattle.balise_text.specs.Texts.{behind_marks};
 
 use crate::line_end::LineEnd;
 use crate::printing::{Word, put_line, put_word, put_words};
-use balise_bits::Bits;
-use balise_commands::{Line, LineEdit, Noted, Tag};
+use balise_commands::{Bits, Line, LineEdit, Noted, Tag};
 use balise_lines::{Counted, WriteFault, put};
 use std::io::Write;
 

@@ -7,7 +7,7 @@ ghost use Rattle.balise_text.specs.Texts.{behind_marks, text_of, whole_line};
 
 use crate::digits::put_digits;
 use crate::line_end::LineEnd;
-use balise_bits::Bits;
+use balise_commands::Bits;
 use balise_lines::{Counted, WriteFault, put};
 use balise_rules::{Id, Tag};
 use std::io::Write;

@@ -54,7 +54,7 @@ fn send_telegrams<S: Serializer>(group: &Group, out: &mut S) -> Result<(), S::Er
     out.begin_seq(Some(count))?;
     for pig in 0..count {
         let Some((_, telegram)) = group.at(pig) else {
-            unreachable!()
+            break;
         };
         DescribedTelegram(telegram).serialize(out)?;
     }

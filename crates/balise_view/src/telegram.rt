@@ -9,9 +9,8 @@ ghost use Rattle.balise_rules.specs.Telegram.{version_of};
 ghost use Rattle.balise_view.specs.Given.{packet_data, telegram_data};
 
 use crate::packet::DescribedPacket;
-use balise_layout::is_known;
+use balise_plan::{Telegram, is_known};
 use balise_rules::Var;
-use balise_telegram::Telegram;
 use serde::{Described, Serialize, Serializer};
 
 /// The telegram of a balise, to be written.

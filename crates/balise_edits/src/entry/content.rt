@@ -5,8 +5,7 @@ ghost use Rattle.balise_edits.specs.Notes.{kind_of, with_group, with_packet, OfD
 
 use crate::entry::Entry;
 use crate::note::Note;
-use balise_layout::Packet;
-use balise_plan::Group;
+use balise_plan::{Group, Packet};
 
 impl Entry {
     /// The packet that was taken out, if the entry has one; it has none then.
@@ -15,7 +14,7 @@ impl Entry {
         ensures left { self.new ≡ (self.old.0, with_packet None self.old.1) }
     {
         match &mut self.done.note {
-            Note::Deleted { taken, .. } => taken.packet.take(),
+            Note::Deleted { taken } => taken.packet.take(),
             _ => None,
         }
     }
@@ -25,7 +24,7 @@ impl Entry {
         requires { kind_of self.old.0.1 ≡ OfDeletion }
         ensures { self.new ≡ (self.old.0, with_packet (Some packet) self.old.1) }
     {
-        if let Note::Deleted { taken, .. } = &mut self.done.note {
+        if let Note::Deleted { taken } = &mut self.done.note {
             taken.packet = Some(packet);
         }
     }
@@ -36,7 +35,7 @@ impl Entry {
         ensures left { self.new ≡ (self.old.0, with_group None self.old.1) }
     {
         match &mut self.done.note {
-            Note::Dropped { taken, .. } => taken.group.take(),
+            Note::Dropped { taken } => taken.group.take(),
             _ => None,
         }
     }
@@ -46,7 +45,7 @@ impl Entry {
         requires { kind_of self.old.0.1 ≡ OfRemoval }
         ensures { self.new ≡ (self.old.0, with_group (Some group) self.old.1) }
     {
-        if let Note::Dropped { taken, .. } = &mut self.done.note {
+        if let Note::Dropped { taken } = &mut self.done.note {
             taken.group = Some(group);
         }
     }

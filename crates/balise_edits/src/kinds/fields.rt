@@ -2,7 +2,7 @@
 
 ghost use Rattle.std.specs.Prelude.{◌≡◌, ◌<◌, ◌^◌, ℕ, false, IfOk, IsOk};
 ghost use Rattle.balise_rules.specs.declared.variable.Var.TheVariants.{NidBg};
-ghost use Rattle.balise_rules.specs.Edits.{SetHead, SetVar};
+ghost use Rattle.balise_rules.specs.declared.tagged_edit.TaggedEdit.TheVariants.{SetHead, SetVar};
 ghost use Rattle.balise_rules.specs.Tags.{same_var};
 ghost use Rattle.balise_rules.specs.Notes.{noted};
 ghost use Rattle.balise_plan.specs.Held.{Does, DoesAlways};
@@ -15,7 +15,8 @@ use crate::note::Note;
 use balise_plan::Plan;
 use balise_rules::{Refusal, Tag, Var};
 
-/// Sets a field of a packet, and answers what that notes.
+/// Sets a field of a packet, and answers what that notes. Where two identities are noted, the place for them is made
+/// before the plan is changed.
 #[inline]
 pub(crate) fn set_var(
     plan: &mut Plan,
@@ -33,11 +34,14 @@ pub(crate) fn set_var(
     ensures kind { IfOk result (λ m. kind_in m ≡ OfField) }
 {
     let names = names_set(plan, g, t, p, var, k, value);
-    let old = match plan.set_field(g, t, p, var, k, value) {
-        Ok(old) => old,
-        Err(fault) => return Err(fault),
-    };
-    Ok(Note::Field { old, names })
+    let mut note = Note::of_field(plan.allocator(), names)?;
+    match plan.set_field(g, t, p, var, k, value) {
+        Ok(old) => {
+            note.set_old(old);
+            Ok(note)
+        }
+        Err(fault) => Err(fault),
+    }
 }
 
 /// Sets it back to its old value. Takes no memory but for NID_BG, and is refused for want of it alone.

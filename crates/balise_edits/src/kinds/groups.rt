@@ -3,7 +3,7 @@
 ghost use Rattle.std.specs.Prelude.{◌≡◌, ◌<◌, ◌^◌, Bool, List, Option, Ok, IfOk, IsOkUnless};
 ghost use Rattle.balise_rules.specs.declared.tag.Tag.{Tag};
 ghost use Rattle.balise_rules.specs.Accepting.{Unused};
-ghost use Rattle.balise_rules.specs.Edits.{AddGroup, DropGroup};
+ghost use Rattle.balise_rules.specs.declared.tagged_edit.TaggedEdit.TheVariants.{AddGroup, DropGroup};
 ghost use Rattle.balise_rules.specs.Notes.{noted};
 ghost use Rattle.balise_rules.specs.Plan.{read_group, IsSoundGroup};
 ghost use Rattle.balise_rules.specs.Plan.{Plan as Groups};
@@ -14,9 +14,9 @@ use crate::copying::copy_telegrams;
 use crate::edit::Edit;
 use crate::entry::Entry;
 use crate::naming::names_of_group;
-use crate::note::{Note, TakenGroup};
+use crate::note::{AddedGroup, Note, TakenGroup};
 use balise_plan::{Bits, Group, Plan, Spot};
-use balise_rules::{Refusal, Tag};
+use balise_rules::{Id, Refusal, Tag};
 use std::alloc::Global;
 
 /// Puts the group of these telegrams in after an anchor, under the tag of a serial, and answers what that notes.
@@ -55,8 +55,8 @@ fn note_added(alloc: Global, group: &Group) -> Result<Note, Refusal>
 {
     let own = group.identity();
     let names = names_of_group(alloc, group)?;
-    let names = Box::new(alloc, names)?;
-    Ok(Note::Added { own, names })
+    let added = Box::new(alloc, AddedGroup { own, names })?;
+    Ok(Note::Added { added })
 }
 
 // Puts this group in; where it is refused, it is dropped.
@@ -117,15 +117,30 @@ pub(crate) fn drop_group(alloc: Global, plan: &mut Plan, g: Tag) -> Result<Note,
         Some(group) => (group.identity(), names_of_group(alloc, group)?),
         None => return Err(Refusal::NoSuchGroup),
     };
-    let group = None;
-    let mut taken = Box::new(alloc, TakenGroup { names, group })?;
+    let mut taken = place_for_group(alloc, own, names)?;
     match plan.take_group(g) {
         Ok((group, before)) => {
+            taken.before = before;
             taken.group = Some(group);
-            Ok(Note::Dropped { before, own, taken })
+            Ok(Note::Dropped { taken })
         }
         Err(fault) => Err(fault),
     }
+}
+
+// A place for a group that isn't taken out yet.
+fn place_for_group(alloc: Global, own: Id, names: Vec<Id>) -> Result<Box<TakenGroup>, Refusal>
+    ensures own { IfOk result (λ taken. taken.value.own ≡ own) }
+    ensures names { IfOk result (λ taken. taken.value.names.items ≡ names.items) }
+    ensures fault { IsOkUnless result Refusal.OutOfMemory }
+{
+    let taken = TakenGroup {
+        before: None,
+        own,
+        names,
+        group: None,
+    };
+    Ok(Box::new(alloc, taken)?)
 }
 
 /// Puts it back in front of its old next neighbour, and is refused only as out of memory.

@@ -1,7 +1,7 @@
 //! A group renumbered: done and taken back.
 
 ghost use Rattle.std.specs.Prelude.{◌≡◌, ◌<◌, ◌^◌, ℕ, IfOk};
-ghost use Rattle.balise_rules.specs.Edits.{Renumber};
+ghost use Rattle.balise_rules.specs.declared.tagged_edit.TaggedEdit.TheVariants.{Renumber};
 ghost use Rattle.balise_rules.specs.Notes.{noted};
 ghost use Rattle.balise_plan.specs.Held.{Does};
 ghost use Rattle.balise_edits.specs.Notes.{kind_in, note_of, OfGroup};

@@ -1,9 +1,9 @@
 //! A packet put in, taken out or moved: done and taken back, and put in or taken out again.
 
-ghost use Rattle.std.specs.Prelude.{◌≡◌, ◌<◌, ◌^◌, Option, IfOk};
+ghost use Rattle.std.specs.Prelude.{◌≡◌, ◌<◌, ◌^◌, Option, IfOk, IsOkUnless};
 ghost use Rattle.balise_rules.specs.declared.tag.Tag.{Tag};
 ghost use Rattle.balise_rules.specs.Accepting.{Spelt, Unused};
-ghost use Rattle.balise_rules.specs.Edits.{DeletePacket, InsertPacket, MovePacket};
+ghost use Rattle.balise_rules.specs.declared.tagged_edit.TaggedEdit.TheVariants.{DeletePacket, InsertPacket, MovePacket};
 ghost use Rattle.balise_rules.specs.Notes.{noted};
 ghost use Rattle.balise_rules.specs.Packet.{Packet};
 ghost use Rattle.balise_plan.specs.Held.{Does};
@@ -15,9 +15,8 @@ use crate::edit::Edit;
 use crate::entry::Entry;
 use crate::naming::add_packet;
 use crate::note::{Note, TakenPacket};
-use balise_layout::Packet;
-use balise_plan::{Plan, Spot};
-use balise_rules::{Refusal, Tag};
+use balise_plan::{Packet, Plan, Spot};
+use balise_rules::{Id, Refusal, Tag};
 use std::alloc::Global;
 
 /// Puts a packet in after an anchor, under the tag of a serial, and answers what that notes.
@@ -45,9 +44,10 @@ pub(crate) fn insert(
     };
     let mut names = Vec::new(alloc);
     add_packet(&mut names, &packet.lend(), country)?;
+    let note = Note::of_insertion(names)?;
     let copied = copy_packet(packet)?;
     put_after(plan, serial, g, t, after, copied)?;
-    Ok(Note::Inserted { names })
+    Ok(note)
 }
 
 // Puts this packet in; where it is refused, it is dropped.
@@ -124,15 +124,28 @@ pub(crate) fn delete(
             add_packet(&mut names, &packet, telegram.identity().country)?;
         }
     }
-    let packet = None;
-    let mut taken = Box::new(alloc, TakenPacket { names, packet })?;
+    let mut taken = place_for_packet(alloc, names)?;
     match plan.take_packet(g, t, p) {
         Ok((packet, before)) => {
+            taken.before = before;
             taken.packet = Some(packet);
-            Ok(Note::Deleted { before, taken })
+            Ok(Note::Deleted { taken })
         }
         Err(fault) => Err(fault),
     }
+}
+
+// A place for a packet that isn't taken out yet.
+fn place_for_packet(alloc: Global, names: Vec<Id>) -> Result<Box<TakenPacket>, Refusal>
+    ensures names { IfOk result (λ taken. taken.value.names.items ≡ names.items) }
+    ensures fault { IsOkUnless result Refusal.OutOfMemory }
+{
+    let taken = TakenPacket {
+        before: None,
+        names,
+        packet: None,
+    };
+    Ok(Box::new(alloc, taken)?)
 }
 
 /// Puts it back in front of its old next neighbour, and is refused only as out of memory.

@@ -1,7 +1,7 @@
 //! A group turned: done and taken back.
 
 ghost use Rattle.std.specs.Prelude.{◌≡◌, ◌<◌, ◌^◌, IfOk, IsOk};
-ghost use Rattle.balise_rules.specs.Edits.{TurnGroup};
+ghost use Rattle.balise_rules.specs.declared.tagged_edit.TaggedEdit.TheVariants.{TurnGroup};
 ghost use Rattle.balise_rules.specs.Notes.{noted};
 ghost use Rattle.balise_plan.specs.Held.{DoesAlways};
 ghost use Rattle.balise_edits.specs.Notes.{kind_in, note_of, OfGroup};

@@ -4,7 +4,7 @@ use crate::tests::doing::{made, read};
 use crate::tests::edits::{
     ABROAD, EMPTY, FIRST, FOUR, LINK, LINKING, SECOND, Step, THIRD, edit_of, is_step,
 };
-use balise_edits::{Bits, Entry, Line, LineEdit, Noted, Tag, Var};
+use balise_edits::{Bits, Entry, Line, LineEdit, Noted, Tag, Var, copy_edit};
 use std::alloc::Global;
 use std::process::Abort;
 
@@ -61,7 +61,7 @@ fn check_entry(rt: &impl Abort, alloc: Global, entry: &Entry, facts: Facts) {
 /// That this is so of a copy of an entry, and that a copy of its edit is that edit.
 pub(crate) fn check_copies(rt: &impl Abort, alloc: Global, entry: &Entry, facts: Facts) {
     check_entry(rt, alloc, &entry.copy().expect(rt, "a copy"), facts);
-    let edit = entry.edit().copy().expect(rt, "a copy");
+    let edit = copy_edit(entry.edit()).expect(rt, "a copy");
     assert!(rt; is_step(rt, alloc, &edit, facts.1));
 }
 

@@ -39,7 +39,7 @@ pub(crate) fn check(rt: &impl Abort, entry: &Entry, changed: &[Path], needed: &[
     assert!(rt; needed_places(entry).expect(rt, "places").as_slice() == needed);
 }
 
-/// Groups, an edit of their plan under serial 7, and the places that it changes and needs.
+/// Groups, an edit of their plan under serial 7, and the places that it changes and needs, as its copy does.
 type Row = (
     &'static [&'static str],
     Step,
@@ -52,6 +52,7 @@ fn check_row(rt: &impl Abort, alloc: Global, row: &Row) {
     let mut plan = read(rt, alloc, groups);
     let entry = made(rt, &mut plan, 7, edit_of(rt, alloc, step));
     check(rt, &entry, changed, needed);
+    check(rt, &entry.copy().expect(rt, "a copy"), changed, needed);
 }
 
 fn check_rows(rt: &impl Abort, alloc: Global, rows: &[Row]) {

@@ -1,20 +1,20 @@
 //! A line of a journal done.
 
-ghost use Rattle.std.specs.Prelude.{◌≡◌, ◌<◌, ◌^◌, true, IfErr, IfOk, IsErrOf, Some};
+ghost use Rattle.std.specs.Prelude.{◌≡◌, ◌<◌, ◌^◌, true, IfErr, IfOk, IsErrOf, Some, option_and_then};
 ghost use Rattle.balise_edits.specs.Edits.{edit_of};
 ghost use Rattle.balise_commands.specs.Lines.{line_edit_of, line_in, noted_in};
 ghost use Rattle.balise_history.specs.Held.{IsHeld, state_at};
 ghost use Rattle.balise_history.specs.Lists.{items_of};
 ghost use Rattle.balise_history.specs.Openings.{comes_next, Enters, EntersIn, MayComeNext, Mismatches};
 ghost use Rattle.balise_rules.specs.Journal.{same_noted};
-ghost use Rattle.balise_rules.specs.Opening.{edit_in, last_serial};
+ghost use Rattle.balise_rules.specs.Plan.{telegram_at};
+ghost use Rattle.balise_rules.specs.Opening.{edit_in, last_serial, packet_for};
 
 use crate::digits::packet_in;
 use crate::edited::EditedPlan;
 use crate::history::History;
-use balise_edits::{Edit, Entry, Line, LineEdit, Noted, apply};
-use balise_plan::Plan;
-use balise_rules::Refusal;
+use balise_edits::{Bits, Edit, Entry, Line, LineEdit, Noted, Packet, Plan, apply};
+use balise_rules::{Refusal, Tag};
 
 // Whether two lines say the same of the plan before their edits.
 fn same_noted(a: Noted, b: Noted) -> bool
@@ -33,55 +33,30 @@ fn last_serial(entries: &[Entry]) -> u32
     }
 }
 
+// The packet in the digits of a line that inserts it; refused where they aren't one for the telegram.
+fn packet_for(plan: &Plan, g: Tag, t: u32, digits: &Bits) -> Result<Box<Packet>, Refusal>
+    ensures ok { IfOk result (λ x. option_and_then (packet_for digits.now) (telegram_at g t plan.now.groups) ≡ Some x.value) }
+    ensures fault { IfErr result (λ r. Mismatches r (option_and_then (packet_for digits.now) (telegram_at g t plan.now.groups))) }
+{
+    let Some(telegram) = plan.telegram(g, t) else {
+        return Err(Refusal::JournalMismatch);
+    };
+    match packet_in(digits, telegram.version()) {
+        Ok(packet) => Ok(Box::new(plan.allocator(), packet)?),
+        Err(Refusal::OutOfMemory) => Err(Refusal::OutOfMemory),
+        Err(_) => Err(Refusal::JournalMismatch),
+    }
+}
+
 // The edit of a line on a plan; refused where it inserts what isn't a packet for its telegram.
 fn edit_in(plan: &Plan, edit: LineEdit) -> Result<Edit, Refusal>
     ensures ok { IfOk result (λ e. edit_in (line_edit_of edit) plan.now.groups ≡ Some (edit_of e)) }
     ensures fault { IfErr result (λ r. Mismatches r (edit_in (line_edit_of edit) plan.now.groups)) }
 {
-    match edit {
-        LineEdit::SetVar {
-            g,
-            t,
-            p,
-            var,
-            k,
-            value,
-        } => Ok(Edit::SetVar {
-            g,
-            t,
-            p,
-            var,
-            k,
-            value,
-        }),
-        LineEdit::SetHead { g, t, var, value } => Ok(Edit::SetHead { g, t, var, value }),
-        LineEdit::InsertPacket {
-            g,
-            t,
-            after,
-            packet: digits,
-        } => {
-            let Some(telegram) = plan.telegram(g, t) else {
-                return Err(Refusal::JournalMismatch);
-            };
-            match packet_in(&digits, telegram.version()) {
-                Ok(packet) => Ok(Edit::InsertPacket {
-                    g,
-                    t,
-                    after,
-                    packet: Box::new(plan.allocator(), packet)?,
-                }),
-                Err(Refusal::OutOfMemory) => Err(Refusal::OutOfMemory),
-                Err(_) => Err(Refusal::JournalMismatch),
-            }
-        }
-        LineEdit::DeletePacket { g, t, p } => Ok(Edit::DeletePacket { g, t, p }),
-        LineEdit::MovePacket { g, t, p, after } => Ok(Edit::MovePacket { g, t, p, after }),
-        LineEdit::AddGroup { after, telegrams } => Ok(Edit::AddGroup { after, telegrams }),
-        LineEdit::DropGroup { g } => Ok(Edit::DropGroup { g }),
-        LineEdit::Renumber { g, number } => Ok(Edit::Renumber { g, number }),
-        LineEdit::TurnGroup { g } => Ok(Edit::TurnGroup { g }),
-    }
+    edit.try_map(
+        |g, t, digits| packet_for(plan, g, t, &digits),
+        |telegrams| Ok(telegrams),
+    )
 }
 
 // Whether the edit of a serial may come next: nothing was undone or struck, and it is above the last serial and below

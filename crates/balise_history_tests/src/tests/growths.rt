@@ -1,6 +1,6 @@
-//! Undo, redo and strike where one growth of memory is refused: the call answers that, all stays as it was, and the same
-//! call is accepted then. `scripts/check/test_growths.py` refuses each growth of `each_growth_refused` in turn. With ample
-//! memory nothing is refused.
+//! Undo, redo, strike and edits where one growth of memory is refused: the call answers that, all stays as it was, and
+//! the same call is accepted then. `scripts/check/test_growths.py` refuses each growth of `each_growth_refused` in turn.
+//! With ample memory nothing is refused.
 
 use crate::tests::sessions::{ABROAD, EMPTY, LINKING, Step, answer_to, ask, session_of};
 use balise_history::{Bits, Refusal, Session, Var};
@@ -13,6 +13,9 @@ const NAMING: &str = "a1007f80a033c15049a04b0096630406400966300fa012cc67ffc0";
 /// A packet 5 that names 5.400 three times.
 const NAMES: &str = "054126812c03218c1019003218c03e80643180";
 
+/// A packet 5 that names 5.100.
+const NAME: &str = "05408a81f400c98c00";
+
 const OVER: &[&str] = &[EMPTY, LINKING, ABROAD, NAMING];
 
 /// A packet put in, a link that names another group, a group that gets another number, and a packet taken out. A third
@@ -24,6 +27,8 @@ const EDITS: &[(Step, u32)] = &[
     (Step::Delete(103, 0), 4),
 ];
 
+/// At the end edits whose notes have a place of their own: a link that names another group, a packet put in and one taken
+/// out, and a group taken out.
 const CALLS: &[(Step, u32)] = &[
     (Step::Undo, 4),
     (Step::Undo, 3),
@@ -37,6 +42,10 @@ const CALLS: &[(Step, u32)] = &[
     (Step::Strike(4), 4),
     (Step::Redo, 4),
     (Step::Redo, 1),
+    (Step::Set(102, Var::NidBg, 0, 300), 5),
+    (Step::Insert(101, 0, NAME), 6),
+    (Step::Delete(101, 0), 7),
+    (Step::Drop(102), 8),
 ];
 
 /// Whether a growth may be refused in this run.
@@ -60,10 +69,15 @@ fn shown(rt: &impl Abort, session: &Session) -> Vec<Vec<Bits>> {
 }
 
 /// That a session is as far as another one was.
-fn check_same(rt: &impl Abort, session: &Session, groups: &Vec<Vec<Bits>>, standing: usize) {
+fn check_same(
+    rt: &impl Abort,
+    session: &Session,
+    groups: &Vec<Vec<Bits>>,
+    (standing, next): (usize, u32),
+) {
     assert!(rt; shown(rt, session) == *groups);
     assert!(rt; session.standing().len() == standing);
-    assert!(rt; session.next_serial() == 5);
+    assert!(rt; session.next_serial() == next);
 }
 
 /// Does a step, which is refused at most once, as out of memory, and changes nothing then.
@@ -75,11 +89,11 @@ fn call(
     memory: Memory,
 ) {
     let groups = shown(rt, session);
-    let standing = session.standing().len();
+    let stage = (session.standing().len(), session.next_serial());
     let answer = answer_to(rt, alloc, session, step);
     if answer == Err(Refusal::OutOfMemory) {
         check_short(rt, memory);
-        check_same(rt, session, &groups, standing);
+        check_same(rt, session, &groups, stage);
         ask(rt, alloc, session, step, Ok(serial));
     } else {
         assert!(rt; answer == Ok(serial));

@@ -55,10 +55,18 @@ fn edit_a_million_times(rt: &impl Abort, session: &mut Session) {
     check_standing(rt, session, 1_000_000);
 }
 
+/// All that come after the first edit depend on it.
+fn check_dependents(rt: &impl Abort, session: &Session) {
+    let dependents = session.dependents(1).expect(rt, "memory");
+    assert!(rt; dependents.len() == 999_999);
+    assert!(rt; dependents.last().copied() == Some(1_000_000));
+}
+
 #[test]
 fn a_million_edits(rt: HostRuntime) {
     let mut session = session_of(&rt, rt.alloc(), &[EMPTY]);
     edit_a_million_times(&rt, &mut session);
+    check_dependents(&rt, &session);
 }
 
 /// That so many edits are undone, the last one done first.

@@ -83,6 +83,13 @@ no-place-of {A} g xs e = by (find same_tag g xs) (sym (some_index (same_tag g) x
     by (Some x) h = absurd (true≢false h)
     by None h = refl
 
+pub no-place : {A : Type 0} (g : Tag) (xs : List (Tag × A)) → find same_tag g xs ≡ None → position (same_tag g) (keys_of xs) ≡ None
+no-place g xs e = by (position (same_tag g) (keys_of xs)) (some_index (same_tag g) xs ∙ ap is_some e)
+  where
+    by : (o : Option ℕ) → is_some o ≡ false → o ≡ None
+    by (Some i) h = absurd (true≢false h)
+    by None h = refl
+
 pub none-removed : {A : Type 0} (g : Tag) (xs : List (Tag × A)) → find same_tag g xs ≡ None → remove_entry (same_tag g) xs ≡ xs
 none-removed g [] e = refl
 none-removed g (y ∷ ys) e = split_on (same_tag g y.0) (λ d. absurd (let h = simp d at e in cc)) (λ d. let h : find same_tag g ys ≡ None = simp d at e in simp d (ap (λ l. y ∷ l) (none-removed g ys h)))

@@ -9,7 +9,7 @@ use Rattle.std.proofs.lemmas.Bool.{true≢false}
 use Rattle.balise_rules.specs.declared.tag.Tag.{Tag}
 use Rattle.balise_rules.specs.Tagged.{find}
 use Rattle.balise_rules.specs.Tags.{same_tag}
-use Rattle.balise_rules.proofs.Tests.{split_on, split_keys, tag_test, test-sym}
+use Rattle.balise_rules.proofs.Tests.{split_on, split_keys, tag_test, test-sym, IsTest}
 use Rattle.balise_index.specs.InOrder.{is_among, Once, in_order, IsOrder}
 use Rattle.balise_index.proofs.order.Entries.{All, same-order, rest_there, first_held, other, all_there}
 
@@ -53,24 +53,30 @@ set_order held new g w (k ∷ ks) f o h =
 pub set-order : {A : Type 0} (held new : List (Tag × A)) (gs : List Tag) (g : Tag) (w : A) → new ≡ set_value (same_tag g) held w → IsOrder held gs → in_order new gs ≡ set_value (same_tag g) (in_order held gs) w
 set-order held new gs g w e o = set_order held new g w gs (λ q. ap (find same_tag q) e ∙ found-set held g q w) o.once (all_there o)
 
-not_here : (g k : Tag) (ks : List Tag) (i : ℕ) → AllByRecursion (λ y. same_tag k y ≡ false) ks → slice_get ks i ≡ Some g → same_tag g k ≡ false
-not_here g k [] i h e = absurd (true≢false (ap is_some (sym e)))
-not_here g k (q ∷ qs) zero h e = ap (λ r. option_map_or (λ z. same_tag z k) r false) (sym e) ∙ test-sym tag_test q k ∙ h.0
-not_here g k (q ∷ qs) (suc i) h e = not_here g k qs i h.1 e
+-- nothing is written where nothing stands
+pub none-written : {A : Type 0} (g : Tag) (xs : List (Tag × A)) (w : A) → find same_tag g xs ≡ None → set_value (same_tag g) xs w ≡ xs
+none-written g [] w n = refl
+none-written g (y ∷ ys) w n = split_on (same_tag g y.0) (λ d. absurd (let h = simp d at n in cc)) (λ d. let h : find same_tag g ys ≡ None = simp d at n in simp d (ap (λ l. y ∷ l) (none-written g ys w h)))
 
-here : (g k : Tag) → Some k ≡ Some g → same_tag g k ≡ true
-here g k e = ap (λ r. option_map_or (λ z. same_tag z k) r false) (sym e) ∙ tag_test.itself k
+module _ {K : Type 0} {same : K → K → Bool} (t : IsTest same) where
+  not_here : (g k : K) (ks : List K) (i : ℕ) → AllByRecursion (λ y. same k y ≡ false) ks → slice_get ks i ≡ Some g → same g k ≡ false
+  not_here g k [] i h e = absurd (true≢false (ap is_some (sym e)))
+  not_here g k (q ∷ qs) zero h e = ap (λ r. option_map_or (λ z. same z k) r false) (sym e) ∙ test-sym t q k ∙ h.0
+  not_here g k (q ∷ qs) (suc i) h e = not_here g k qs i h.1 e
 
-pub set-own : {A : Type 0} (held : List (Tag × A)) (i : ℕ) (g : Tag) (w : A) → IsDistinct same_tag (keys_of held) → slice_get (keys_of held) i ≡ Some g → set_value_at held i w ≡ set_value (same_tag g) held w
-unfolding IsDistinct
-set-own [] i g w u e = refl
-set-own (x ∷ xs) zero g w u e = sym (ap (λ b. cond b ((x.0, w) ∷ xs) (x ∷ set_value (same_tag g) xs w)) (here g x.0 e))
-set-own (x ∷ xs) (suc i) g w u e =
-    ap (λ l. x ∷ l) (set-own xs i g w u.1 e) ∙ sym (ap (λ b. cond b ((x.0, w) ∷ xs) (x ∷ set_value (same_tag g) xs w)) (not_here g x.0 (keys_of xs) i u.0 e))
+  here : (g k : K) → Some k ≡ Some g → same g k ≡ true
+  here g k e = ap (λ r. option_map_or (λ z. same z k) r false) (sym e) ∙ t.itself k
 
-pub found-own : {A : Type 0} (held : List (Tag × A)) (i : ℕ) (g : Tag) → IsDistinct same_tag (keys_of held) → slice_get (keys_of held) i ≡ Some g → slice_get (values_of held) i ≡ find same_tag g held
-unfolding IsDistinct
-found-own [] i g u e = refl
-found-own (x ∷ xs) zero g u e = sym (ap (λ b. cond b (Some x.1) (find same_tag g xs)) (here g x.0 e))
-found-own (x ∷ xs) (suc i) g u e =
-    found-own xs i g u.1 e ∙ sym (ap (λ b. cond b (Some x.1) (find same_tag g xs)) (not_here g x.0 (keys_of xs) i u.0 e))
+  pub set-own : {A : Type 0} (held : List (K × A)) (i : ℕ) (g : K) (w : A) → IsDistinct same (keys_of held) → slice_get (keys_of held) i ≡ Some g → set_value_at held i w ≡ set_value (same g) held w
+  unfolding IsDistinct
+  set-own [] i g w u e = refl
+  set-own (x ∷ xs) zero g w u e = sym (ap (λ b. cond b ((x.0, w) ∷ xs) (x ∷ set_value (same g) xs w)) (here g x.0 e))
+  set-own (x ∷ xs) (suc i) g w u e =
+      ap (λ l. x ∷ l) (set-own xs i g w u.1 e) ∙ sym (ap (λ b. cond b ((x.0, w) ∷ xs) (x ∷ set_value (same g) xs w)) (not_here g x.0 (keys_of xs) i u.0 e))
+
+  pub found-own : {A : Type 0} (held : List (K × A)) (i : ℕ) (g : K) → IsDistinct same (keys_of held) → slice_get (keys_of held) i ≡ Some g → slice_get (values_of held) i ≡ find same g held
+  unfolding IsDistinct
+  found-own [] i g u e = refl
+  found-own (x ∷ xs) zero g u e = sym (ap (λ b. cond b (Some x.1) (find same g xs)) (here g x.0 e))
+  found-own (x ∷ xs) (suc i) g u e =
+      found-own xs i g u.1 e ∙ sym (ap (λ b. cond b (Some x.1) (find same g xs)) (not_here g x.0 (keys_of xs) i u.0 e))

@@ -7,7 +7,7 @@ use Rattle.std.proofs.lemmas.List.Sums.{prefix_len-le-length}
 use borrow.Author.Tests.{ltb-false}
 use Rattle.std.specs.declared.cmp.Ordering.{Ordering}
 use Rattle.std.specs.declared.cmp.Ordering.TheVariants.{Less, Equal, Greater}
-use Rattle.std.specs.Ordering.{is_eq, is_le, ordering_reverse}
+use Rattle.std.specs.Ordering.{is_eq, is_gt, is_le, ordering_reverse}
 use Rattle.std.specs.List.{AllByRecursion}
 use Rattle.std.specs.List.Sorted.{IsStrictlySortedBy}
 use Rattle.balise_rules.proofs.Cases.{unsome}
@@ -59,6 +59,37 @@ spot-rank w vs = sym (is_position_or_len (spot w) (λ v. is_le (compare_place w 
 
 pub rank-within : (w : LinkPlace) (vs : List LinkPlace) → rank w vs ≤ length vs
 rank-within w vs = prefix_len-le-length (λ v. not (is_le (compare_place w v))) vs
+
+-- ---- a place that comes after the last one comes after all
+
+not_le : (o : Ordering) → is_gt o ≡ true → is_le o ≡ false
+not_le Less e = absurd (true≢false (sym e))
+not_le Equal e = absurd (true≢false (sym e))
+not_le Greater e = refl
+
+greater : (v w : LinkPlace) → compare_place v w ≡ Less → is_le (compare_place w v) ≡ false
+greater v w l = ap is_le (place.total-law.antisymm w v ∙ ap ordering_reverse l)
+
+under-at : (v z : LinkPlace) (vs : List LinkPlace) (i : ℕ) → Under v vs → slice_get vs i ≡ Some z → compare_place v z ≡ Less
+under-at v z [] i u e = absurd cc
+under-at v z (x ∷ xs) zero u e = ap (compare_place v) (sym (unsome e)) ∙ u.0
+under-at v z (x ∷ xs) (suc i) u e = under-at v z xs i u.1 e
+
+spot-above : (w z : LinkPlace) (vs : List LinkPlace) (i : ℕ) → suc i ≡ length vs → slice_get vs i ≡ Some z → IsStrictlySortedBy compare_place vs → compare_place z w ≡ Less → length vs ≡ spot w vs
+unfolding IsStrictlySortedBy
+spot-above w z [] i n e s l = absurd cc
+spot-above w z (v ∷ []) zero n e s l =
+    let k : compare_place v w ≡ Less = ap (λ u. compare_place u w) (unsome e) ∙ l in
+    ap (λ b. cond b 0 1) (sym (greater v w k))
+spot-above w z (v ∷ []) (suc i) n e s l = absurd cc
+spot-above w z (v ∷ x ∷ xs) zero n e s l = absurd (omega arith)
+spot-above w z (v ∷ x ∷ xs) (suc i) n e s l =
+    let k = place.total-law.trans v z w (under-at v z (x ∷ xs) i s.0 e) l in
+    let r : suc i ≡ length (x ∷ xs) = omega arith in
+    ap suc (spot-above w z (x ∷ xs) i r e s.1 l) ∙ ap (λ b. cond b 0 (suc (spot w (x ∷ xs)))) (sym (greater v w k))
+
+pub rank-above : (w z : LinkPlace) (vs : List LinkPlace) (i : ℕ) → suc i ≡ length vs → slice_get vs i ≡ Some z → IsStrictlySortedBy compare_place vs → is_gt (compare_place w z) ≡ true → length vs ≡ rank w vs
+rank-above w z vs i n e s g = spot-above w z vs i n e s (after w z (not_le (compare_place w z) g)) ∙ sym (spot-rank w vs)
 
 -- ---- put in
 
@@ -250,3 +281,20 @@ ordered-above w x g = ordered-below x w (after w x (ap is_le g))
 
 pub keeps-two : (w x y : LinkPlace) → is_place w x ≡ false → is_place w y ≡ false → PutsIn (x ∷ y ∷ []) (x ∷ y ∷ []) w false
 keeps-two w x y d e = keeps w (x ∷ y ∷ []) (ap (λ b. b || (is_place w y || false)) d ∙ ap (λ b. b || false) e)
+
+-- ---- three places by themselves
+
+pub ordered-first : (w x y : LinkPlace) → compare_place w x ≡ Less → IsStrictlySortedBy compare_place (x ∷ y ∷ []) → IsStrictlySortedBy compare_place (w ∷ x ∷ y ∷ [])
+unfolding IsStrictlySortedBy
+ordered-first w x y l s = ((l, under-all w x (y ∷ []) l s.0), s)
+
+pub ordered-second : (w x y : LinkPlace) → compare_place w x ≡ Greater → compare_place w y ≡ Less → IsStrictlySortedBy compare_place (x ∷ y ∷ []) → IsStrictlySortedBy compare_place (x ∷ w ∷ y ∷ [])
+unfolding IsStrictlySortedBy
+ordered-second w x y g l s = ((after w x (ap is_le g), s.0), ((l, tt), (tt, tt)))
+
+pub ordered-third : (w x y : LinkPlace) → compare_place w y ≡ Greater → IsStrictlySortedBy compare_place (x ∷ y ∷ []) → IsStrictlySortedBy compare_place (x ∷ y ∷ w ∷ [])
+unfolding IsStrictlySortedBy
+ordered-third w x y g s = let l = after w y (ap is_le g) in ((s.0.0, (place.total-law.trans x y w s.0.0 l, tt)), ((l, tt), (tt, tt)))
+
+pub keeps-three : (w x y z : LinkPlace) → is_place w x ≡ false → is_place w y ≡ false → is_place w z ≡ false → PutsIn (x ∷ y ∷ z ∷ []) (x ∷ y ∷ z ∷ []) w false
+keeps-three w x y z d e f = keeps w (x ∷ y ∷ z ∷ []) (ap (λ b. b || (is_place w y || (is_place w z || false))) d ∙ ap (λ b. b || (is_place w z || false)) e ∙ ap (λ b. b || false) f)

@@ -7,6 +7,8 @@ ghost use Rattle.balise_index.specs.LinkSet.{places_held};
 use crate::link_place::LinkPlace;
 use crate::links::Held;
 use crate::links::narrow::NarrowPlace;
+use crate::links::small::SmallPlace;
+use crate::links::three::ThreePlaces;
 use std::collections::btree_set;
 use std::iter::FusedIterator;
 use std::marker::Model;
@@ -22,7 +24,8 @@ pub struct Places<'a> {
 pub(crate) enum Left<'a> {
     Nothing,
     One(NarrowPlace),
-    Two(NarrowPlace, NarrowPlace),
+    Two(SmallPlace, SmallPlace),
+    Three(ThreePlaces),
     Few(&'a [NarrowPlace]),
     Many(btree_set::Iter<'a, LinkPlace>),
 }
@@ -52,6 +55,9 @@ impl<'a> Places<'a> {
             Held::Two(first, second) => Places {
                 left: Left::Two(*first, *second),
             },
+            Held::Three(three) => Places {
+                left: Left::Three(*three),
+            },
             Held::Few(list) => Places {
                 left: Left::Few(list.as_slice()),
             },
@@ -79,7 +85,12 @@ impl<'a> Iterator for Places<'a> {
             }
             Left::Two(first, second) => {
                 let place = first.wide();
-                self.left = Left::One(*second);
+                self.left = Left::One(second.narrow());
+                Some(place)
+            }
+            Left::Three(three) => {
+                let place = three.first().wide();
+                self.left = Left::Two(three.second(), three.third());
                 Some(place)
             }
             Left::Few(places) => {

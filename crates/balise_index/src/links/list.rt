@@ -1,6 +1,6 @@
 //! Places in a list, each once and in order.
 
-ghost use Rattle.std.specs.Prelude.{◌≡◌, ◌<◌, ◌≤◌, length, position, slice_get, OnErr, OnOk, true, false};
+ghost use Rattle.std.specs.Prelude.{◌≡◌, ◌<◌, ◌≤◌, length, position, slice_get, IsTrue, OnErr, OnOk, true, false};
 ghost use Rattle.std.specs.List.Sorted.{IsStrictlySortedBy};
 ghost use Rattle.std.specs.Ordering.{is_le};
 ghost use Rattle.balise_index.specs.LinkSet.{rank, stands, PutsIn};
@@ -49,15 +49,31 @@ pub(crate) fn remove(list: &mut Vec<NarrowPlace>, place: &LinkPlace)
     }
 }
 
-// How many of the places come before this one.
+// How many of the places come before this one. The last of them is looked at first, as places mostly come in order.
 fn place_for(list: &Vec<NarrowPlace>, place: LinkPlace) -> usize
+    requires { IsStrictlySortedBy compare_place (wide_places list.now.items) }
     ensures rank { result ≡ rank place (wide_places list.now.items) }
     ensures within { result ≤ length list.now.items }
 {
+    if comes_last(list, place) {
+        return list.len();
+    }
     match first_from(list, place) {
         Some(i) => i,
         None => list.len(),
     }
+}
+
+// Whether a place comes after all of these.
+fn comes_last(list: &Vec<NarrowPlace>, place: LinkPlace) -> bool
+    requires { IsStrictlySortedBy compare_place (wide_places list.now.items) }
+    ensures { IsTrue result → length list.now.items ≡ rank place (wide_places list.now.items) }
+{
+    let len = list.len();
+    if len == 0 {
+        return true;
+    }
+    place.cmp(&list[len - 1].wide()).is_gt()
 }
 
 fn first_from(list: &Vec<NarrowPlace>, place: LinkPlace) -> Option<usize>

@@ -10,12 +10,12 @@ use balise_rules::Tag;
 /// packet, so each place of a plan does. A tag is its kind and its number, so that the four small fields stand together.
 #[derive(Clone, Copy)]
 pub(crate) struct NarrowPlace {
-    group: u32,
-    packet: u32,
-    group_kind: TagKind,
-    packet_kind: TagKind,
-    telegram: u8,
-    element: u8,
+    pub(super) group: u32,
+    pub(super) packet: u32,
+    pub(super) group_kind: TagKind,
+    pub(super) packet_kind: TagKind,
+    pub(super) telegram: u8,
+    pub(super) element: u8,
 }
 
 /// Which kind a tag is.

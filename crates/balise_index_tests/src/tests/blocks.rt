@@ -119,3 +119,114 @@ fn check_thousands(rt: &impl Abort, both: &mut Both) {
 fn thousands_of_values_stand_in_order(rt: HostRuntime) {
     check_thousands(&rt, &mut Both::new(rt.alloc()));
 }
+
+/// Takes so many values out all over, and puts none in.
+fn take_all_over(rt: &impl Abort, both: &mut Both, count: usize) {
+    let mut i: usize = 7;
+    for _ in 0..count {
+        let len = both.list.len();
+        if len == 0 {
+            return;
+        }
+        i = i.wrapping_mul(31).wrapping_add(17) % len;
+        take_both(rt, both, i);
+    }
+}
+
+#[test]
+fn values_are_taken_out_and_none_put_in(rt: HostRuntime) {
+    let mut both = Both::new(rt.alloc());
+    put_last(&rt, &mut both, 0, 2500);
+    take_all_over(&rt, &mut both, 1500);
+    assert!(&rt; both.are_same());
+    take_all_over(&rt, &mut both, 1000);
+    assert!(&rt; (both.map.len() == 0) & both.are_same());
+}
+
+/// Takes the value at a place out, and puts another one back under its tag.
+fn put_back(rt: &impl Abort, both: &mut Both, i: usize) {
+    if i >= both.list.len() {
+        return;
+    }
+    let (tag, _) = both.list[i];
+    take_both(rt, both, i);
+    put_both(rt, both, i, tag);
+}
+
+#[test]
+fn values_are_put_back_where_they_stood(rt: HostRuntime) {
+    let mut both = Both::new(rt.alloc());
+    put_last(&rt, &mut both, 0, 1500);
+    for n in 0..300 {
+        put_back(&rt, &mut both, n * 331 % 1500);
+    }
+    assert!(&rt; (both.map.len() == 1500) & both.are_same());
+}
+
+/// Puts one value in among many, and then takes many out. Memory is taken for the one, and none after it.
+fn put_one_and_take(rt: &impl Abort, both: &mut Both, serial: u32, i: usize) {
+    put_both(rt, both, i, Tag::Fresh(serial));
+    take_all_over(rt, both, 400);
+    assert!(rt; both.are_same());
+}
+
+#[test]
+fn one_is_put_among_many_and_many_are_taken_out(rt: HostRuntime) {
+    let mut both = Both::new(rt.alloc());
+    put_last(&rt, &mut both, 0, 2000);
+    for i in &[1000, 799, 3, 256] {
+        let serial = u32::try_from(*i).unwrap_or(0);
+        put_one_and_take(&rt, &mut both, serial, *i);
+    }
+    put_within(&rt, &mut both, 2000, 2600);
+    take_all_over(&rt, &mut both, 400);
+    assert!(&rt; both.are_same());
+}
+
+/// The last tags that have a code of their own, and the first and the last that have none.
+fn edges() -> [Tag; 8] {
+    [
+        Tag::Base(0),
+        Tag::Base(293999998),
+        Tag::Base(293999999),
+        Tag::Base(4294967295),
+        Tag::Fresh(0),
+        Tag::Fresh(4000000000),
+        Tag::Fresh(4000000001),
+        Tag::Fresh(4294967295),
+    ]
+}
+
+/// The place of a tag in the list, or the end.
+fn place_of(both: &Both, tag: Tag) -> usize {
+    for i in 0..both.list.len() {
+        if both.list[i].0 == tag {
+            return i;
+        }
+    }
+    both.list.len()
+}
+
+/// Puts each of these tags in among the others, and takes them out again.
+fn check_edges(rt: &impl Abort, both: &mut Both) {
+    for tag in &edges() {
+        let middle = both.list.len() / 2;
+        put_both(rt, both, middle, *tag);
+        assert!(rt; both.are_same());
+    }
+    for tag in &edges() {
+        let i = place_of(both, *tag);
+        take_both(rt, both, i);
+        assert!(rt; both.are_same());
+    }
+}
+
+#[test]
+fn tags_without_a_code_of_their_own(rt: HostRuntime) {
+    let mut both = Both::new(rt.alloc());
+    put_last(&rt, &mut both, 1, 400);
+    for _ in 0..3 {
+        check_edges(&rt, &mut both);
+        assert!(&rt; both.map.len() == 399);
+    }
+}

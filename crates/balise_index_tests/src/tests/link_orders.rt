@@ -114,7 +114,7 @@ fn check_each_order(rt: &impl Abort, alloc: Global, count: u32) {
 
 #[test]
 fn places_go_in_and_out_in_each_order(rt: HostRuntime) {
-    for count in &[1, 2, 3, 64, 65] {
+    for count in &[1, 2, 3, 4, 64, 65] {
         check_each_order(&rt, rt.alloc(), *count);
     }
 }
@@ -123,7 +123,7 @@ fn places_go_in_and_out_in_each_order(rt: HostRuntime) {
 fn check_refused(rt: &impl Abort, alloc: Global, count: u32) {
     let (zero, last) = (Tag::Base(0), Tag::Fresh(4294967295));
     let mut both = Both::new(alloc);
-    for place in &first(rt, alloc, count) {
+    for place in &first(rt, alloc, count, 0) {
         put_both(rt, alloc, &mut both, *place);
     }
     for above in &[
@@ -141,7 +141,55 @@ fn check_refused(rt: &impl Abort, alloc: Global, count: u32) {
 
 #[test]
 fn a_place_above_255_is_refused(rt: HostRuntime) {
-    for count in &[0, 1, 2, 3, 64, 65] {
+    for count in &[0, 1, 2, 3, 4, 64, 65] {
         check_refused(&rt, rt.alloc(), *count);
+    }
+}
+
+/// Places with the largest telegram, packet and element of which three stand by themselves, and two, and places just past
+/// them.
+fn edges() -> [LinkPlace; 12] {
+    let (base, fresh) = (Tag::Base(4294967295), Tag::Fresh(4294967295));
+    [
+        place(base, 7, Tag::Base(63), 31),
+        place(base, 7, Tag::Fresh(63), 31),
+        place(fresh, 7, Tag::Base(63), 31),
+        place(fresh, 7, Tag::Fresh(63), 31),
+        place(base, 0, Tag::Base(64), 0),
+        place(fresh, 0, Tag::Fresh(64), 0),
+        place(base, 7, Tag::Base(4194303), 31),
+        place(fresh, 7, Tag::Fresh(4194303), 31),
+        place(base, 8, Tag::Base(0), 0),
+        place(base, 0, Tag::Base(4194304), 0),
+        place(fresh, 0, Tag::Fresh(4194304), 0),
+        place(fresh, 0, Tag::Base(0), 32),
+    ]
+}
+
+/// Puts four places in, and takes them out again in that order.
+fn check_four(rt: &impl Abort, alloc: Global, list: &[LinkPlace; 4]) {
+    let mut both = Both::new(alloc);
+    for place in list {
+        put_both(rt, alloc, &mut both, *place);
+    }
+    for place in list {
+        take_both(rt, &mut both, *place);
+    }
+}
+
+#[test]
+fn three_places_at_the_edges(rt: HostRuntime) {
+    let edges = edges();
+    let (low, high) = (
+        place(Tag::Base(0), 0, Tag::Base(0), 0),
+        place(Tag::Fresh(9), 0, Tag::Base(0), 0),
+    );
+    for i in 0..12 {
+        for j in 0..12 {
+            if i != j {
+                check_four(&rt, rt.alloc(), &[low, edges[i], edges[j], high]);
+                check_four(&rt, rt.alloc(), &[edges[i], high, edges[j], low]);
+            }
+        }
     }
 }

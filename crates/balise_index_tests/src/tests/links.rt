@@ -14,9 +14,13 @@ pub(crate) fn place(group: Tag, telegram: u32, packet: Tag, element: u32) -> Lin
     }
 }
 
-/// The place of a serial. They are in order of their serials.
-pub(crate) fn nth(n: u32) -> LinkPlace {
-    place(Tag::Base(n / 64), n / 8 % 8, Tag::Fresh(n / 4 % 2), n % 4)
+/// The lowest packets of places of which three stand by themselves, of which two do, and of which one does.
+pub(crate) const LOWEST: [u32; 3] = [0, 64, 4194304];
+
+/// The place of a serial, in one of two packets. They are in order of their serials.
+pub(crate) fn nth(n: u32, lowest: u32) -> LinkPlace {
+    let packet = lowest.wrapping_add(n / 4 % 2);
+    place(Tag::Base(n / 64), n / 8 % 8, Tag::Fresh(packet), n % 4)
 }
 
 /// Whether the places come one by one as a list has them.
@@ -75,40 +79,43 @@ fn places_stand_in_order(rt: HostRuntime) {
 }
 
 /// The first places, in order.
-pub(crate) fn first(rt: &impl Abort, alloc: Global, count: u32) -> Vec<LinkPlace> {
+pub(crate) fn first(rt: &impl Abort, alloc: Global, count: u32, lowest: u32) -> Vec<LinkPlace> {
     let mut list = Vec::new(alloc);
     for n in 0..count {
-        list.push(nth(n)).expect(rt, "memory");
+        list.push(nth(n, lowest)).expect(rt, "memory");
     }
     list
 }
 
 /// Puts in the first places of these, the odd ones before the even ones.
-fn put_first(rt: &impl Abort, alloc: Global, links: &mut Links, count: u32) {
+fn put_first(rt: &impl Abort, alloc: Global, links: &mut Links, count: u32, lowest: u32) {
     for n in 0..count {
         if n % 2 == 1 {
-            links.insert(alloc, nth(n)).expect(rt, "memory");
+            links.insert(alloc, nth(n, lowest)).expect(rt, "memory");
         }
     }
     for n in 0..count {
-        links.insert(alloc, nth(n)).expect(rt, "memory");
+        links.insert(alloc, nth(n, lowest)).expect(rt, "memory");
     }
 }
 
 /// That a set of so many places has them, and no other one.
-fn check_size(rt: &impl Abort, alloc: Global, count: u32) {
+fn check_size(rt: &impl Abort, alloc: Global, count: u32, lowest: u32) {
     let mut links = Links::new();
-    put_first(rt, alloc, &mut links, count);
-    let list = first(rt, alloc, count);
-    assert!(rt; has(&links, list.as_slice()) & !links.contains(&nth(count)));
-    links.remove(&nth(count));
+    put_first(rt, alloc, &mut links, count, lowest);
+    let list = first(rt, alloc, count, lowest);
+    let next = nth(count, lowest);
+    assert!(rt; has(&links, list.as_slice()) & !links.contains(&next));
+    links.remove(&next);
     assert!(rt; has(&links, list.as_slice()));
 }
 
 #[test]
 fn sets_of_each_kind(rt: HostRuntime) {
-    for count in &[0, 1, 2, 3, 63, 64, 65, 66, 300] {
-        check_size(&rt, rt.alloc(), *count);
+    for count in &[0, 1, 2, 3, 4, 63, 64, 65, 66, 300] {
+        for lowest in &LOWEST {
+            check_size(&rt, rt.alloc(), *count, *lowest);
+        }
     }
 }
 
@@ -128,9 +135,9 @@ fn shrink(rt: &impl Abort, links: &mut Links, list: &[LinkPlace]) {
     }
 }
 
-fn check_growth(rt: &impl Abort, alloc: Global) {
+fn check_growth(rt: &impl Abort, alloc: Global, lowest: u32) {
     let mut links = Links::new();
-    let list = first(rt, alloc, 130);
+    let list = first(rt, alloc, 100, lowest);
     grow(rt, alloc, &mut links, list.as_slice());
     shrink(rt, &mut links, list.as_slice());
     grow(rt, alloc, &mut links, list.as_slice());
@@ -138,5 +145,12 @@ fn check_growth(rt: &impl Abort, alloc: Global) {
 
 #[test]
 fn grows_from_one_to_a_tree_and_back(rt: HostRuntime) {
-    check_growth(&rt, rt.alloc());
+    for lowest in &LOWEST {
+        check_growth(&rt, rt.alloc(), *lowest);
+    }
+}
+
+#[test]
+fn a_set_takes_24_bytes(rt: HostRuntime) {
+    assert_eq!(&rt; size_of::<Links>(), 24);
 }

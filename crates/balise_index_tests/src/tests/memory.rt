@@ -4,9 +4,10 @@
 //! be refused. `scripts/check/test_growths.py` refuses each growth of the first in turn.
 
 use crate::tests::identities::{id, put as put_under, value};
-use crate::tests::links::nth;
+use crate::tests::links::{LOWEST, nth};
 use crate::tests::maps::{has, put};
-use balise_index::{IdentityMap, LinkPlace, Links, OrderedMap};
+use crate::tests::names::{name, named_from};
+use balise_index::{IdentityMap, LinkPlace, Links, NameIndex, OrderedMap};
 use balise_rules::{Id, Tag};
 use std::alloc::Global;
 use std::process::Abort;
@@ -45,12 +46,40 @@ fn put_up_to(map: &mut OrderedMap<u32>, count: u32) -> u32 {
     count
 }
 
-/// Fills two blocks one by one. A value is put in, or all stays.
+/// Puts values in one by one, each before all others, up to so many, and returns how many there was memory for.
+fn put_first_up_to(map: &mut OrderedMap<u32>, count: u32) -> u32 {
+    for n in 0..count {
+        if !put(map, 0, Tag::Base(n), n.wrapping_mul(2)) {
+            return n;
+        }
+    }
+    count
+}
+
+/// The value that stands under each tag is twice its number, and the last one stands first.
+fn is_turned(map: &OrderedMap<u32>, count: u32) -> bool {
+    let mut same = map.len() == count as usize;
+    for n in 0..count {
+        let tag = Tag::Base(count - 1 - n);
+        same &= map.place_of(tag) == Some(n as usize);
+        same &= match map.get(tag) {
+            Some(value) => *value == (count - 1 - n).wrapping_mul(2),
+            None => false,
+        };
+    }
+    same
+}
+
+/// Fills two blocks one by one, in order and turned. A value is put in, or all stays.
 fn fill_map(rt: &impl Abort, alloc: Global, memory: Memory) {
     let mut map = OrderedMap::new(alloc);
     let held = put_up_to(&mut map, 1025);
     assert!(rt; is_doubled(&map, held));
     check_held(rt, memory, held, 1025);
+    let mut turned = OrderedMap::new(alloc);
+    let held = put_first_up_to(&mut turned, 700);
+    assert!(rt; is_turned(&turned, held));
+    check_held(rt, memory, held, 700);
 }
 
 #[test]
@@ -158,11 +187,11 @@ fn far_identities_take_values_with_ample_memory(rt: HostRuntime) {
 }
 
 /// Whether a set has exactly the first places.
-fn is_first(links: &Links, count: u32) -> bool {
+fn is_first(links: &Links, count: u32, lowest: u32) -> bool {
     let mut same = links.len() == count as usize;
     let mut n: u32 = 0;
     for place in links.iter() {
-        let expected: LinkPlace = nth(n);
+        let expected: LinkPlace = nth(n, lowest);
         same &= place == expected;
         n = n.saturating_add(1);
     }
@@ -170,9 +199,9 @@ fn is_first(links: &Links, count: u32) -> bool {
 }
 
 /// Puts places in one by one, and returns how many there was memory for.
-fn insert_up_to(alloc: Global, links: &mut Links, count: u32) -> u32 {
+fn insert_up_to(alloc: Global, links: &mut Links, count: u32, lowest: u32) -> u32 {
     for n in 0..count {
-        if links.insert(alloc, nth(n)).is_err() {
+        if links.insert(alloc, nth(n, lowest)).is_err() {
             return n;
         }
     }
@@ -180,11 +209,18 @@ fn insert_up_to(alloc: Global, links: &mut Links, count: u32) -> u32 {
 }
 
 /// Grows a set from one place over a list to a tree. A place is put in, or all stays.
-fn fill_links(rt: &impl Abort, alloc: Global, memory: Memory) {
+fn grow_links(rt: &impl Abort, alloc: Global, memory: Memory, lowest: u32) {
     let mut links = Links::new();
-    let held = insert_up_to(alloc, &mut links, 100);
-    assert!(rt; is_first(&links, held));
+    let held = insert_up_to(alloc, &mut links, 100, lowest);
+    assert!(rt; is_first(&links, held, lowest));
     check_held(rt, memory, held, 100);
+}
+
+/// Grows sets that begin a list with their fourth place, with their third one, and with their second one.
+fn fill_links(rt: &impl Abort, alloc: Global, memory: Memory) {
+    for lowest in &LOWEST {
+        grow_links(rt, alloc, memory, *lowest);
+    }
 }
 
 #[test]
@@ -195,4 +231,44 @@ fn a_set_takes_a_place_or_stays(rt: HostRuntime) {
 #[test]
 fn a_set_takes_places_with_ample_memory(rt: HostRuntime) {
     fill_links(&rt, rt.alloc(), Memory::Ample);
+}
+
+/// Gives up to so many groups an identity each, and returns how many there was memory for.
+fn tags_up_to(index: &mut NameIndex, count: u32) -> u32 {
+    for n in 0..count {
+        if index.set_tag(id(7, n), Tag::Base(n)).is_err() {
+            return n;
+        }
+    }
+    count
+}
+
+/// Whether these groups have their identities, and the next one has none.
+fn are_tagged(index: &NameIndex, count: u32) -> bool {
+    let mut same = index.tag(id(7, count)).is_none();
+    for n in 0..count {
+        same &= index.tag(id(7, n)) == Some(Tag::Base(n));
+    }
+    same
+}
+
+/// Names one identity by many places, and tags others. Each is noted, or all stays.
+fn fill_index(rt: &impl Abort, alloc: Global, memory: Memory) {
+    let mut index = NameIndex::new(alloc);
+    let named = name(&mut index, alloc, id(7, 3), 0, 70);
+    assert!(rt; named_from(&index, id(7, 3), 0, named) & index.tag(id(7, 3)).is_none());
+    let tagged = tags_up_to(&mut index, 40);
+    assert!(rt; are_tagged(&index, tagged) & named_from(&index, id(7, 3), 0, named));
+    check_held(rt, memory, named, 70);
+    check_held(rt, memory, tagged, 40);
+}
+
+#[test]
+fn an_index_takes_a_name_or_a_tag_or_stays(rt: HostRuntime) {
+    fill_index(&rt, rt.alloc(), Memory::OneRefused);
+}
+
+#[test]
+fn an_index_takes_names_and_tags_with_ample_memory(rt: HostRuntime) {
+    fill_index(&rt, rt.alloc(), Memory::Ample);
 }

@@ -15,7 +15,8 @@ use Rattle.balise_rules.specs.Packet.{Packet, field_of}
 use Rattle.balise_rules.specs.Telegram.{Telegram}
 use Rattle.balise_rules.specs.Plan.{Group, Plan, IsSound, telegram_at, country_of}
 use Rattle.balise_rules.specs.Doing.{refusal, first_of, when, too_wide}
-use Rattle.balise_rules.specs.Edits.{SetVar, effect, field_after}
+use Rattle.balise_rules.specs.Edits.{effect, field_after}
+use Rattle.balise_rules.specs.declared.tagged_edit.TaggedEdit.TheVariants.{SetVar}
 use Rattle.balise_rules.proofs.Tests.{IsTest, split_on, tag_test, nat_test}
 use Rattle.balise_rules.proofs.Cases.{unsome}
 use Rattle.balise_rules.proofs.Found.{group_sound}

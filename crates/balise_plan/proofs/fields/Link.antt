@@ -20,7 +20,7 @@ use Rattle.balise_rules.specs.Plan as rules
 use Rattle.balise_rules.specs.Doing.{refusal, first_of, when, too_wide}
 use Rattle.balise_rules.specs.Names.{country_at, is_it, is_real}
 use Rattle.balise_rules.specs.Notes.{note_at, noted, set_note}
-use Rattle.balise_rules.specs.Edits.{SetVar}
+use Rattle.balise_rules.specs.declared.tagged_edit.TaggedEdit.TheVariants.{SetVar}
 use Rattle.balise_rules.proofs.Tests.{split_on, test-sym, tag_test, key_test, nat_test}
 use Rattle.balise_rules.proofs.Cases.{found, unsome}
 use Rattle.balise_rules.proofs.Found.{group_sound}
@@ -29,10 +29,10 @@ use Rattle.balise_rules.proofs.Keys.{other_key}
 use Rattle.balise_layout.specs.Held.{with_field as with_packet_field}
 use Rattle.balise_telegram.specs.Setting.{field_refusal, with_changed}
 use Rattle.balise_index.specs.declared.link_place.LinkPlace.{LinkPlace}
-use Rattle.balise_index.specs.Identities.{IndexOf}
+use Rattle.balise_index.specs.NameIndex.{held, IndexOf}
 use Rattle.balise_index.proofs.places.Equal.{place_is}
 use Rattle.balise_plan.specs.declared.links.change.Change.TheVariants.{Name}
-use Rattle.balise_plan.specs.Links.{held, named_at, named_in_packet, AreFull}
+use Rattle.balise_plan.specs.Links.{named_at, named_in_packet}
 use Rattle.balise_plan.specs.ElementIn.{ElementIn, NoElement, element_refusal, link_refusal}
 use Rattle.balise_plan.specs.PacketLinks.{is_in}
 use Rattle.balise_plan.specs.Relinking.{AddsReal, ForgetsOther}
@@ -202,13 +202,13 @@ module _ (plan : rules.Plan) (ids : IndexOf Tag) (names : IndexOf (set.BTreeSet 
             ∙ ap (λ b. is_real q && b) (sym (named-old k n link.packet (country_of y) w.element q m)))
 
         -- set
-        pub link-set : AreFull after → (zs : Group) → zs ≡ in_group t p (changed (Name n) k) ys → Outcome (SetVar g t p NidBg k n) ids after plan (set_value (same_tag g) plan zs)
-        link-set full zs e =
+        pub link-set : (zs : Group) → zs ≡ in_group t p (changed (Name n) k) ys → Outcome (SetVar g t p NidBg k n) ids after plan (set_value (same_tag g) plan zs)
+        link-set zs e =
             let w : set_value (same_tag g) plan zs ≡ with_telegram g t next plan = written g t plan held_is.sound ys zs here next (e ∙ at-one ys (group_sound plan held_is.sound g ys here).tags element.1) in
             record {
               accepted = none-refused n fits;
               is = value-each tag_test g _ plan ys zs held_is.sound.tags here e ∙ set-is 0 (noted (SetVar g t p NidBg k n) plan).own g t p NidBg k n plan;
-              held = subst (IsHeld ids after) (sym w) (held-put plan held_is.sound g t y next stands (element-changed p (Name n) k fits y next refl) ids names held_is p (Some changed_packet) itself other after full index);
+              held = subst (IsHeld ids after) (sym w) (held-put plan held_is.sound g t y next stands (element-changed p (Name n) k fits y next refl) ids names held_is p (Some changed_packet) itself other after index);
             }
           where
             at-one : (us : Group) → Distinct eqb us → find eqb t us ≡ Some y → in_group t p (changed (Name n) k) us ≡ with_item eqb t next us

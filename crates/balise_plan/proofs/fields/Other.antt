@@ -17,7 +17,8 @@ use Rattle.balise_rules.specs.Packet.{Packet}
 use Rattle.balise_rules.specs.Accepting.{Accepted}
 use Rattle.balise_rules.specs.Doing.{refusal}
 use Rattle.balise_rules.specs.Notes.{noted}
-use Rattle.balise_rules.specs.Edits.{SetVar, effect, field_after, telegram_after, head_after, group_after, SetHead}
+use Rattle.balise_rules.specs.Edits.{effect, field_after, telegram_after, head_after, group_after}
+use Rattle.balise_rules.specs.declared.tagged_edit.TaggedEdit.TheVariants.{SetVar, SetHead}
 use Rattle.balise_rules.proofs.Tests.{split_on, var_test}
 use Rattle.balise_edit_laws.proofs.Refusing.{refused_exactly}
 use Rattle.balise_edit_laws.proofs.SoundKept.{groups_kept, sound_parts}
@@ -28,7 +29,7 @@ use Rattle.balise_plan.proofs.fields.Levels.{InGroup, left, set_plan}
 use Rattle.balise_plan.proofs.renumbering.Plans.{telegram-each}
 use Rattle.balise_plan.proofs.turned.Plans.{tags-kept, map-id}
 use Rattle.balise_plan.proofs.naming.Identities.{id_at, is_the, named-is, id-after}
-use Rattle.balise_index.specs.Identities.{IndexOf}
+use Rattle.balise_index.specs.NameIndex.{IndexOf}
 use Rattle.balise_rules.specs.Telegram.{Telegram}
 use Rattle.balise_telegram.specs.Setting.{SetsHead}
 use Rattle.balise_plan.specs.Within.{Within, Passed, no_telegram}
@@ -79,7 +80,6 @@ module _ (plan : rules.Plan) (ids : IndexOf Tag) (names : IndexOf (set.BTreeSet 
     sound = new_sound;
     tags = λ q. held_is.tags q ∙ sym (tags-kept plan new held_is.sound new_sound (group_after (0, SetVar g t p v k n) own) refl (λ h ys e. (groups_kept (0, SetVar g t p v k n) own plan held_is.sound accepted (λ g t y h. tt) h ys e).identity) q);
     named = λ q w. held_is.named q w ∙ named-is q w plan ∙ ap (λ o. is_real q && is_the q o) (sym (id_new w)) ∙ sym (named-is q w new);
-    full = held_is.full;
   }
 
 module _ (plan : rules.Plan) (ids : IndexOf Tag) (names : IndexOf (set.BTreeSet LinkPlace)) (held_is : IsHeld ids names plan) (g : Tag) (t : ℕ) (p : Tag) (v : Var) (k n : ℕ) (ys zs : Group) (here : find same_tag g plan ≡ Some ys) where

@@ -11,7 +11,9 @@ use Rattle.balise_rules.proofs.Cases.{unsome}
 use Rattle.balise_rules.proofs.Tests.{IsTest, split_keys, flip_no, tag_test, id_test}
 use Rattle.balise_edit_laws.proofs.Naming.{no_group_from}
 use Rattle.balise_plan.specs.Held.{IsHeld}
-use Rattle.balise_index.specs.Identities.{IndexOf}
+use Rattle.balise_index.specs.NameIndex.{indexed, IndexOf}
+use Rattle.balise_rules.specs.declared.identity.Id.{Id}
+use Rattle.std.proofs.Math.Path.{fun_ext}
 use Rattle.balise_index.specs.declared.link_place.LinkPlace.{LinkPlace}
 use Rattle.balise_plan.proofs.naming.GroupLists.{found_at}
 
@@ -43,22 +45,24 @@ pub record Copied (plan : Plan) (i : ℕ) (ids : IndexOf Tag) (names : IndexOf (
   pub first : groups ≡ take i plan
   pub held : IsHeld ids names groups
 
-held-none : IsHeld [] [] []
+abbrev nobody : {V : Type 0} → IndexOf V
+nobody i = None
+
+held-none : IsHeld nobody nobody []
 held-none = record {
   sound = record { tags = tt; identities = tt; groups = λ k d l. absurd (omega (arith, l)) };
   tags = λ i. refl;
   named = λ q w. by (is_real q);
-  full = λ r. tt;
 }
   where
     by : (b : Bool) → false ≡ (b && false)
     by true = refl
     by false = refl
 
-pub copied-none : (plan : Plan) (ids : IndexOf Tag) (names : IndexOf (set.BTreeSet LinkPlace)) (groups : Plan) → ids ≡ [] → names ≡ [] → groups ≡ [] → Copied plan 0 ids names groups
+pub copied-none : (plan : Plan) (ids : IndexOf Tag) (names : IndexOf (set.BTreeSet LinkPlace)) (groups : Plan) → ((q : Id) → indexed ids q ≡ None) → ((q : Id) → indexed names q ≡ None) → groups ≡ [] → Copied plan 0 ids names groups
 copied-none plan ids names groups i n e = record {
   first = e;
-  held = subst (IsHeld ids names) (sym e) (subst (λ m. IsHeld ids m []) (sym n) (subst (λ m. IsHeld m [] []) (sym i) held-none));
+  held = subst (IsHeld ids names) (sym e) (subst (λ m. IsHeld ids m []) (sym (fun_ext n)) (subst (λ m. IsHeld m nobody []) (sym (fun_ext i)) held-none));
 }
 
 -- the next group may be put in at the end

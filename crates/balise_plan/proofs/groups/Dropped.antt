@@ -13,7 +13,7 @@ use Rattle.balise_rules.specs.Plan.{Group, IsSound, IsSoundGroup, identity_of, g
 use Rattle.balise_rules.specs.Plan as rules
 use Rattle.balise_rules.specs.Names.{is_real}
 use Rattle.balise_rules.specs.Doing.{when}
-use Rattle.balise_rules.specs.Edits.{DropGroup}
+use Rattle.balise_rules.specs.declared.tagged_edit.TaggedEdit.TheVariants.{DropGroup}
 use Rattle.balise_rules.specs.Notes.{noted, note_drop}
 use Rattle.balise_rules.specs.declared.refusal.Refusal.TheVariants.{NoSuchGroup}
 use Rattle.balise_rules.proofs.Tests.{split_keys, test-sym, tag_test, id_test}
@@ -25,8 +25,9 @@ use Rattle.balise_rules.proofs.Found.{group_sound}
 use Rattle.balise_edit_laws.proofs.Naming.{no_group_from, no_group_to}
 use Rattle.balise_edit_laws.proofs.Identities.{differ_apart, apart_differ, apart_without}
 use Rattle.balise_index.specs.declared.link_place.LinkPlace.{LinkPlace}
-use Rattle.balise_index.specs.Identities.{IndexOf, indexed, is_id}
-use Rattle.balise_plan.specs.Links.{held, named_at, named_in_telegram, AreFull}
+use Rattle.balise_index.specs.NameIndex.{held, indexed, IndexOf}
+use Rattle.balise_index.specs.Identities.{is_id}
+use Rattle.balise_plan.specs.Links.{named_at, named_in_telegram}
 use Rattle.balise_plan.specs.GroupLinks.{links_in_group, ForgetsAll}
 use Rattle.balise_plan.specs.Held.{IsHeld, tag_named}
 use Rattle.balise_plan.proofs.plans.Outcomes.{Outcome}
@@ -102,7 +103,7 @@ module _ (plan : rules.Plan) (ids : IndexOf Tag) (names : IndexOf (set.BTreeSet 
       no true = refl
       no false = refl
 
-  module _ (after : IndexOf (set.BTreeSet LinkPlace)) (full : AreFull after) (forgets : ForgetsAll (links_in_group g ys) names after) (i : Id) (is_own : i ≡ identity_of ys) (left : IndexOf Tag) (out : (q : Id) → indexed left q ≡ cond (is_id i q) None (indexed ids q)) where
+  module _ (after : IndexOf (set.BTreeSet LinkPlace)) (forgets : ForgetsAll (links_in_group g ys) names after) (i : Id) (is_own : i ≡ identity_of ys) (left : IndexOf Tag) (out : (q : Id) → indexed left q ≡ cond (is_id i q) None (indexed ids q)) where
     -- the group is taken out of the plan and of both indexes
     pub dropped : Outcome (DropGroup g) left after plan (remove_entry (same_tag g) plan)
     dropped =
@@ -115,7 +116,6 @@ module _ (plan : rules.Plan) (ids : IndexOf Tag) (names : IndexOf (set.BTreeSet 
             tags = λ q. out q ∙ ap (λ j. cond (is_id j q) None (indexed ids q)) is_own ∙ ap (λ b. cond b None (indexed ids q)) (id_is (identity_of ys) q)
                 ∙ ap (cond (same_id (identity_of ys) q) None) (held_is.tags q) ∙ sym (tags-dropped q);
             named = names-dropped after forgets;
-            full = full;
           });
         }
 

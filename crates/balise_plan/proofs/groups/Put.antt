@@ -17,8 +17,9 @@ use Rattle.balise_rules.proofs.Cases.{unsome, parts3}
 use Rattle.balise_edit_laws.proofs.Naming.{no_group_from}
 use Rattle.balise_edit_laws.proofs.Identities.{AllApart, differ_apart, apart_differ}
 use Rattle.balise_index.specs.declared.link_place.LinkPlace.{LinkPlace}
-use Rattle.balise_index.specs.Identities.{IndexOf, indexed, is_id}
-use Rattle.balise_plan.specs.Links.{held, named_at, named_in_telegram, AreFull}
+use Rattle.balise_index.specs.NameIndex.{held, indexed, IndexOf}
+use Rattle.balise_index.specs.Identities.{is_id}
+use Rattle.balise_plan.specs.Links.{named_at, named_in_telegram}
 use Rattle.balise_plan.specs.GroupLinks.{listed, links_in_group, AddsAll}
 use Rattle.balise_plan.specs.Held.{IsHeld, tag_named}
 use Rattle.balise_index.proofs.identities.Equal.{id_is}
@@ -107,7 +108,7 @@ module _ (plan : rules.Plan) (ids : IndexOf Tag) (names : IndexOf (set.BTreeSet 
         either true false = refl
         either false x = refl
 
-  module _ (free : group_named (identity_of ys) plan ≡ None) (after : IndexOf (set.BTreeSet LinkPlace)) (full : AreFull after) (adds : AddsAll (links_in_group g ys) names after) (i : Id) (is_own : i ≡ identity_of ys) (left : IndexOf Tag) (put : (q : Id) → indexed left q ≡ cond (is_id i q) (Some g) (indexed ids q)) where
+  module _ (free : group_named (identity_of ys) plan ≡ None) (after : IndexOf (set.BTreeSet LinkPlace)) (adds : AddsAll (links_in_group g ys) names after) (i : Id) (is_own : i ≡ identity_of ys) (left : IndexOf Tag) (put : (q : Id) → indexed left q ≡ cond (is_id i q) (Some g) (indexed ids q)) where
     pub held-inserted : (n : ℕ) → IsHeld left after (insert plan n (g, ys))
     held-inserted n =
         let new = insert plan n (g, ys) in
@@ -117,5 +118,4 @@ module _ (plan : rules.Plan) (ids : IndexOf Tag) (names : IndexOf (set.BTreeSet 
           tags = λ q. put q ∙ ap (λ j. cond (is_id j q) (Some g) (indexed ids q)) is_own ∙ ap (λ x. cond x (Some g) (indexed ids q)) (id_is (identity_of ys) q)
               ∙ ap (cond (same_id (identity_of ys) q) (Some g)) (held_is.tags q) ∙ sym (tags-put free new b q);
           named = names-put free new b after adds;
-          full = full;
         }

@@ -1,7 +1,8 @@
 -- Reading the telegrams of a group one after another.
 -- From the definition: what was read stands before what is read of the rest.
-use Rattle.std.proofs.Common.{◌≡◌, ◌∙◌, ℕ, suc, ◌+◌, ◌-◌, ◌≤◌, ◌<◌, ◌≢◌, Bool, true, false, cond, not, eqb, ◌&&◌, ◌||◌, List, [], ◌∷◌, ◌++◌, length, Result, Ok, Err, IfOk, IfErr, refl, sym, ap, append_assoc, length-append, arith}
+use Rattle.std.proofs.Common.{◌≡◌, ◌∙◌, ℕ, suc, ◌+◌, ◌-◌, ◌≤◌, ◌<◌, ◌≢◌, Bool, true, false, cond, not, eqb, ◌&&◌, ◌||◌, List, [], ◌∷◌, ◌++◌, length, Result, Ok, Err, IfOk, IfErr, refl, sym, ap, subst, append_assoc, length-append, arith}
 use Rattle.std.specs.Prelude.{nat_lt, nat_le}
+use Rattle.std.specs.List.{enumerate_from}
 use Rattle.std.proofs.lemmas.Bool.{ne_eqb, or_parts, leb-false, ltb-false, ltb-true, lt-leb}
 use Rattle.std.proofs.lemmas.List.{append-nil}
 use Rattle.balise_rules.specs.declared.refusal.Refusal.{Refusal}
@@ -10,6 +11,8 @@ use Rattle.balise_rules.specs.Telegram.{Telegram, read_telegram}
 use Rattle.balise_rules.proofs.Cases.{unok}
 use Rattle.balise_rules.specs.Refusals.{and_then}
 use Rattle.balise_plan.specs.GroupReading.{WereRead, group_of, with_read, with_telegram}
+use Rattle.balise_plan.specs.OneOrMore.{AreInOrder}
+use Rattle.balise_plan.proofs.items.Tagged.{push-in_order}
 use Rattle.balise_edit_laws.proofs.GroupsRead.{GroupRead, group_read}
 use Rattle.balise_rules.specs.Plan.{Group, Plan, pushed, with_group, agree_from, checked_group, identity_of, read_group, read_telegrams, reserved, with_telegrams}
 
@@ -18,18 +21,18 @@ abbrev pub behind : Group → Result Group Refusal → Result Group Refusal
 behind read (Err r) = Err r
 behind read (Ok more) = Ok (read ++ more)
 
-pub record Reading (all : List (List Bool)) (read : Group) (rest : List (List Bool)) (tag : ℕ) : Type 0 where
-  pub so_far : read_telegrams 0 all ≡ behind read (read_telegrams tag rest)
-  pub counted : tag + length rest ≡ length all
-  pub long : length read ≡ tag
+pub record Reading (all : List (List Bool)) (read : Group) (rest : List (List Bool)) : Type 0 where
+  pub so_far : read_telegrams 0 all ≡ behind read (read_telegrams (length read) rest)
+  pub counted : length read + length rest ≡ length all
+  pub in_order : AreInOrder read
   pub few : length all ≤ 8
   pub some : 1 ≤ length all
 
-pub begins : (all rest : List (List Bool)) (ys : Group) → rest ≡ all → ys ≡ [] → length all ≤ 8 → 1 ≤ length all → Reading all ys rest 0
+pub begins : (all rest : List (List Bool)) (ys : Group) → rest ≡ all → ys ≡ [] → length all ≤ 8 → 1 ≤ length all → Reading all ys rest
 begins all rest ys e n few some = record {
-  so_far = by (read_telegrams 0 all) ∙ ap (λ (l : List (List Bool)). behind [] (read_telegrams 0 l)) (sym e) ∙ ap (λ (l : Group). behind l (read_telegrams 0 rest)) (sym n);
-  counted = omega (arith, ap length e);
-  long = ap length n;
+  so_far = by (read_telegrams 0 all) ∙ ap (λ (l : List (List Bool)). behind [] (read_telegrams 0 l)) (sym e) ∙ ap (λ (l : Group). behind l (read_telegrams (length l) rest)) (sym n);
+  counted = omega (arith, ap length e, ap length n);
+  in_order = ([], n);
   few = few;
   some = some;
 }
@@ -39,22 +42,23 @@ begins all rest ys e n few some = record {
     by (Ok ys) = refl
 
 -- one telegram more
-pub reads_on : (all : List (List Bool)) (read new : Group) (rest more : List (List Bool)) (b : List Bool) (tag : ℕ) (y : Telegram) → Reading all read rest tag → rest ≡ b ∷ more → read_telegram b ≡ Ok y → new ≡ read ++ (tag, y) ∷ [] → Reading all new more (tag + 1)
+pub reads_on : (all : List (List Bool)) (read new : Group) (rest more : List (List Bool)) (b : List Bool) (y : Telegram) → Reading all read rest → rest ≡ b ∷ more → read_telegram b ≡ Ok y → new ≡ read ++ (length read, y) ∷ [] → Reading all new more
 unfolding read_telegrams
-reads_on all read new rest more b tag y r e t n =
-    let one : suc tag ≡ tag + 1 = omega arith in
+reads_on all read new rest more b y r e t n =
+    let tag = length read in
+    let size : length new ≡ suc tag = ap length n ∙ length-append read ((tag, y) ∷ []) ∙ (let one : tag + 1 ≡ suc tag = omega arith in one) in
     record {
       so_far = r.so_far ∙ ap (λ (l : List (List Bool)). behind read (read_telegrams tag l)) e ∙ ap (λ (x : Result Telegram Refusal). behind read (with_telegrams tag x (read_telegrams (suc tag) more))) t
-          ∙ by (read_telegrams (suc tag) more) ∙ ap (λ (k : ℕ). behind (read ++ (tag, y) ∷ []) (read_telegrams k more)) one ∙ ap (λ (l : Group). behind l (read_telegrams (tag + 1) more)) (sym n);
-      counted = omega (arith, r.counted, ap length e);
-      long = ap length n ∙ length-append read ((tag, y) ∷ []) ∙ ap (λ (k : ℕ). k + 1) r.long;
+          ∙ by (read_telegrams (suc tag) more) ∙ ap (λ (k : ℕ). behind (read ++ (tag, y) ∷ []) (read_telegrams k more)) (sym size) ∙ ap (λ (l : Group). behind l (read_telegrams (length new) more)) (sym n);
+      counted = omega (arith, r.counted, ap length e, size);
+      in_order = subst AreInOrder (sym n) (push-in_order read y r.in_order);
       few = r.few;
       some = r.some;
     }
   where
-    by : (r : Result Group Refusal) → behind read (with_telegrams tag (Ok y) r) ≡ behind (read ++ (tag, y) ∷ []) r
+    by : (r : Result Group Refusal) → behind read (with_telegrams (length read) (Ok y) r) ≡ behind (read ++ (length read, y) ∷ []) r
     by (Err x) = refl
-    by (Ok ys) = ap Ok (sym (append_assoc read ((tag, y) ∷ []) ys))
+    by (Ok ys) = ap Ok (sym (append_assoc read ((length read, y) ∷ []) ys))
 
 -- one to eight, as the code tests it
 out : (k : ℕ) → (nat_lt k 1 || nat_lt 8 k) ≡ true → (nat_le 1 k && nat_le k 8) ≡ false
@@ -91,29 +95,28 @@ pub right_size : (all : List (List Bool)) (n : ℕ) → n ≡ length all → (na
 right_size all n e h = let i = inside n h in (omega (arith, e, i.0), omega (arith, e, i.1))
 
 -- a telegram that isn't read
-pub fails : (all : List (List Bool)) (read : Group) (rest more : List (List Bool)) (b : List Bool) (tag : ℕ) (r : Refusal) → Reading all read rest tag → rest ≡ b ∷ more → read_telegram b ≡ Err r → read_group all ≡ Err r
+pub fails : (all : List (List Bool)) (read : Group) (rest more : List (List Bool)) (b : List Bool) (r : Refusal) → Reading all read rest → rest ≡ b ∷ more → read_telegram b ≡ Err r → read_group all ≡ Err r
 unfolding read_telegrams
-fails all read rest more b tag r g e t =
+fails all read rest more b r g e t =
+    let tag = length read in
     sized all g.few g.some ∙ ap checked_group (g.so_far ∙ ap (λ (l : List (List Bool)). behind read (read_telegrams tag l)) e ∙ ap (λ (x : Result Telegram Refusal). behind read (with_telegrams tag x (read_telegrams (suc tag) more))) t)
 
 -- all are read
-all_read : (all : List (List Bool)) (read : Group) (rest : List (List Bool)) (tag : ℕ) → Reading all read rest tag → rest ≡ [] → read_group all ≡ checked_group (Ok read)
+read_to_end : (all : List (List Bool)) (read : Group) (rest : List (List Bool)) → Reading all read rest → rest ≡ [] → read_telegrams 0 all ≡ Ok read
 unfolding read_telegrams
-all_read all read rest tag g e =
-    sized all g.few g.some ∙ ap checked_group (g.so_far ∙ ap (λ (l : List (List Bool)). behind read (read_telegrams tag l)) e ∙ ap Ok (append-nil read))
+read_to_end all read rest g e = g.so_far ∙ ap (λ (l : List (List Bool)). behind read (read_telegrams (length read) l)) e ∙ ap Ok (append-nil read)
 
 -- they are those of a group that was read
-pub were_read : (all : List (List Bool)) (read : Group) (rest : List (List Bool)) (tag : ℕ) → Reading all read rest tag → rest ≡ [] → WereRead read
-unfolding read_telegrams
-were_read all read rest tag g e = (all, g.few, g.so_far ∙ ap (λ (l : List (List Bool)). behind read (read_telegrams tag l)) e ∙ ap Ok (append-nil read))
+pub were_read : (all : List (List Bool)) (read : Group) (rest : List (List Bool)) → Reading all read rest → rest ≡ [] → WereRead read
+were_read all read rest g e = (all, g.few, read_to_end all read rest g e)
 
 -- a group of some telegrams is what its heads make it
 some_group : (ys : Group) → 1 ≤ length ys → group_of ys ≡ checked_group (Ok ys)
 some_group [] h = absurd (omega (arith, h))
 some_group (y ∷ ys) h = refl
 
-pub read_so : (all : List (List Bool)) (read : Group) (rest : List (List Bool)) (tag : ℕ) → Reading all read rest tag → rest ≡ [] → read_group all ≡ group_of read
-read_so all read rest tag g e = all_read all read rest tag g e ∙ sym (some_group read (omega (arith, g.some, g.long, g.counted, ap length e)))
+pub read_so : (all : List (List Bool)) (read : Group) (rest : List (List Bool)) → Reading all read rest → rest ≡ [] → read_group all ≡ group_of read
+read_so all read rest g e = sized all g.few g.some ∙ ap checked_group (read_to_end all read rest g e) ∙ sym (some_group read (omega (arith, g.some, g.counted, ap length e)))
 
 -- what is answered is what is read
 pub so_answered : (all : List (List Bool)) (r : Result Group Refusal) (x : Result Group Refusal) → r ≡ x → read_group all ≡ x → IfOk r (λ g. read_group all ≡ Ok g)
@@ -156,14 +159,30 @@ read_last n [] ys b y h t =
     ap (λ (r : Result Telegram Refusal). with_telegrams n r (Ok [])) t ∙ ap (λ (k : ℕ). Ok ((k, y) ∷ [])) none ∙ ap (λ (l : Group). Ok (l ++ (n + length ys, y) ∷ [])) (unok h)
 read_last n (c ∷ bs) ys b y h t = last_step n c b bs ys y (λ zs q. read_last (suc n) bs zs b y q t) (read_telegram c) (read_telegrams (suc n) bs) refl refl h
 
+-- each stands at the place that is its tag
+in_order_step : (n : ℕ) (ys : Group) → (r : Result Telegram Refusal) (s : Result Group Refusal) → ((zs : Group) → s ≡ Ok zs → (ts : List Telegram) × (zs ≡ enumerate_from (n + 1) ts)) → with_telegrams n r s ≡ Ok ys → (ts : List Telegram) × (ys ≡ enumerate_from n ts)
+in_order_step n ys (Err x) s again h = absurd cc
+in_order_step n ys (Ok z) (Err x) again h = absurd cc
+in_order_step n ys (Ok z) (Ok zs) again h = let rest = again zs refl in (z ∷ rest.0, sym (unok h) ∙ ap (λ (l : Group). (n, z) ∷ l) rest.1)
+
+in_order_from : (n : ℕ) (bs : List (List Bool)) (ys : Group) → read_telegrams n bs ≡ Ok ys → (ts : List Telegram) × (ys ≡ enumerate_from n ts)
+unfolding read_telegrams
+in_order_from n [] ys h = ([], sym (unok h))
+in_order_from n (b ∷ bs) ys h =
+    let next : suc n ≡ n + 1 = omega arith in
+    in_order_step n ys (read_telegram b) (read_telegrams (suc n) bs) (λ zs q. in_order_from (n + 1) bs zs (ap (λ (k : ℕ). read_telegrams k bs) (sym next) ∙ q)) h
+
+pub in_order_read : (ys : Group) → WereRead ys → AreInOrder ys
+in_order_read ys w = in_order_from 0 w.0 ys w.2
+
 pub few_read : (ys : Group) → WereRead ys → length ys ≤ 8
 few_read ys w = omega (arith, same_length 0 w.0 ys w.2, w.1)
 
-pub one_read : (ys new : Group) (k : ℕ) (b : List Bool) (y : Telegram) → WereRead ys → k ≡ length ys → k < 8 → read_telegram b ≡ Ok y → new ≡ ys ++ (k, y) ∷ [] → WereRead new
-one_read ys new k b y w e h t n =
-    let first : 0 + length ys ≡ k = omega (arith, e) in (
+pub one_read : (ys new : Group) (b : List Bool) (y : Telegram) → WereRead ys → length ys < 8 → read_telegram b ≡ Ok y → new ≡ ys ++ (length ys, y) ∷ [] → WereRead new
+one_read ys new b y w h t n =
+    let first : 0 + length ys ≡ length ys = omega arith in (
       w.0 ++ b ∷ [],
-      omega (arith, length-append w.0 (b ∷ []), same_length 0 w.0 ys w.2, e, h),
+      omega (arith, length-append w.0 (b ∷ []), same_length 0 w.0 ys w.2, h),
       read_last 0 w.0 ys b y w.2 t ∙ ap (λ (m : ℕ). Ok (ys ++ (m, y) ∷ [])) first ∙ ap Ok (sym n),
     )
 
@@ -192,7 +211,7 @@ telegram_added ys zs b w e = by (nat_le 8 (length ys)) refl (read_telegram b) re
     by : (c : Bool) → nat_le 8 (length ys) ≡ c → (r : Result Telegram Refusal) → read_telegram b ≡ r → cond c (Err GroupSize) (and_then r (λ y. Ok (ys ++ (length ys, y) ∷ []))) ≡ Ok zs → WereRead zs
     by true h r q e = absurd cc
     by false h (Err f) q e = absurd cc
-    by false h (Ok y) q e = one_read ys zs (length ys) b y w refl (leb-false 8 (length ys) h) q (sym (unok e))
+    by false h (Ok y) q e = one_read ys zs b y w (leb-false 8 (length ys) h) q (sym (unok e))
 
 -- a group of telegrams that were read is pushed as what they were read of
 pub group_pushed : (plan more : Plan) (ys : Group) → WereRead ys → with_read plan ys ≡ Ok more → (bs : List (List Bool)) × (pushed plan bs ≡ Ok more)

@@ -14,7 +14,8 @@ use Rattle.balise_rules.specs.Telegram.{Telegram, version_of}
 use Rattle.balise_rules.specs.Packets.{packet}
 use Rattle.balise_rules.specs.Plan.{Group, Plan, IsSound, IsSoundGroup, IsSoundTelegram, SoundFrom, country_of, identity_of, reserved, telegram_at}
 use Rattle.balise_rules.specs.Names.{country_at, is_it, calls}
-use Rattle.balise_rules.specs.Edits.{Renumber, TurnGroup, group_after}
+use Rattle.balise_rules.specs.Edits.{group_after}
+use Rattle.balise_rules.specs.declared.tagged_edit.TaggedEdit.TheVariants.{Renumber, TurnGroup}
 use Rattle.balise_rules.proofs.Cases.{found, unsome}
 use Rattle.balise_rules.proofs.Distincts.{distinct-each}
 use Rattle.balise_rules.proofs.Each.{length-each}

@@ -10,9 +10,9 @@ use Rattle.balise_rules.specs.Names.{is_real}
 use Rattle.balise_rules.proofs.Cases.{unsome}
 use Rattle.balise_rules.proofs.Tests.{IsTest, split_on, equal_yes}
 use Rattle.balise_index.specs.declared.link_place.LinkPlace.{LinkPlace}
-use Rattle.balise_index.specs.Identities.{IndexOf, is_id}
+use Rattle.balise_index.specs.NameIndex.{held, IndexOf, Keeps, Sets}
+use Rattle.balise_index.specs.Identities.{is_id}
 use Rattle.balise_index.specs.Places.{is_place}
-use Rattle.balise_plan.specs.Links.{held, Keeps, Sets}
 use Rattle.balise_plan.specs.GroupLinks.{listed, links_from, AddsAll, ForgetsAll, KeepsOthers}
 
 abbrev pub Links : Type 0
@@ -65,6 +65,10 @@ others_before a b old mid f = others_then a b old mid mid f (λ q w e. refl)
 pub on_err : {A E P : Type 0} (r : Result A E) → P → OnErr r P
 on_err (Ok a) p = tt
 on_err (Err e) p = p
+
+pub when_err : {A E P Q : Type 0} (r : Result A E) → (P → Q) → OnErr r P → OnErr r Q
+when_err (Ok a) f p = tt
+when_err (Err e) f p = f p
 
 pub keeps_others : (ls : Links) (old new : Index) → Keeps old new → KeepsOthers ls old new
 keeps_others ls old new k q w e = k q w

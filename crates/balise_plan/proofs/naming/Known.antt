@@ -14,9 +14,9 @@ use Rattle.balise_rules.specs.Names.{Names, is_named, is_real, is_it, calls, cou
 use Rattle.balise_rules.proofs.Tests.{split_on, id_test}
 use Rattle.balise_edit_laws.proofs.Naming.{no_name_from, no_name_to}
 use Rattle.balise_index.specs.declared.link_place.LinkPlace.{LinkPlace}
-use Rattle.balise_index.specs.Identities.{IndexOf, indexed}
+use Rattle.balise_index.specs.NameIndex.{held, in_links, indexed, AreFull, IndexOf}
 use Rattle.balise_index.specs.Places.{compare_place, is_place}
-use Rattle.balise_plan.specs.Links.{held, in_links, named_at, named_in_telegram, named_in_packet, AreFull}
+use Rattle.balise_plan.specs.Links.{named_at, named_in_telegram, named_in_packet}
 use Rattle.balise_plan.proofs.naming.Walking.{place}
 use Rattle.balise_index.proofs.places.Equal.{places}
 

@@ -15,8 +15,8 @@ use Rattle.balise_rules.proofs.Tests.{tag_test}
 use Rattle.balise_rules.proofs.Cases.{parts3}
 use Rattle.balise_rules.proofs.Found.{stood, place_is, packet_spelt}
 use Rattle.balise_index.specs.declared.link_place.LinkPlace.{LinkPlace}
-use Rattle.balise_index.specs.Identities.{IndexOf}
-use Rattle.balise_plan.specs.Links.{held, named_at, named_in_packet, named_in_telegram}
+use Rattle.balise_index.specs.NameIndex.{held, IndexOf}
+use Rattle.balise_plan.specs.Links.{named_at, named_in_packet, named_in_telegram}
 use Rattle.balise_plan.specs.PacketLinks.{is_in}
 use Rattle.balise_plan.specs.GroupLinks.{listed, links_from, AddsAll, ForgetsAll}
 use Rattle.balise_plan.proofs.naming.OfGroup.{of-packet}

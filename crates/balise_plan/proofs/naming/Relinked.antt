@@ -12,9 +12,10 @@ use Rattle.balise_rules.specs.Plan.{Plan, IsSound, country_of, telegram_at}
 use Rattle.balise_rules.specs.Names.{is_real}
 use Rattle.balise_rules.proofs.Tests.{tag_test, nat_test, id_test}
 use Rattle.balise_index.specs.declared.link_place.LinkPlace.{LinkPlace}
-use Rattle.balise_index.specs.Identities.{IndexOf, is_id}
+use Rattle.balise_index.specs.NameIndex.{held, IndexOf}
+use Rattle.balise_index.specs.Identities.{is_id}
 use Rattle.balise_index.specs.Places.{is_place}
-use Rattle.balise_plan.specs.Links.{held, named_at}
+use Rattle.balise_plan.specs.Links.{named_at}
 use Rattle.balise_plan.specs.PacketLinks.{is_in}
 use Rattle.balise_plan.specs.Relinking.{AddsReal, ForgetsOther}
 use Rattle.balise_index.proofs.identities.Equal.{id_is}

@@ -13,7 +13,7 @@ use Rattle.balise_rules.specs.Plan as rules
 use Rattle.balise_rules.specs.Doing.{refusal, done}
 use Rattle.balise_rules.specs.Edits.{Edit}
 use Rattle.balise_index.specs.declared.link_place.LinkPlace.{LinkPlace}
-use Rattle.balise_index.specs.Identities.{IndexOf}
+use Rattle.balise_index.specs.NameIndex.{IndexOf}
 use Rattle.balise_plan.specs.Held.{IsHeld, Plan, edited}
 
 -- An edit done, and the indexes for what it makes.

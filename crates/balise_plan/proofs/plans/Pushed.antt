@@ -10,7 +10,7 @@ use Rattle.balise_index.specs.declared.link_place.LinkPlace.{LinkPlace}
 use Rattle.balise_plan.specs.Held.{IsKept, IsBased, IsHeld}
 use Rattle.balise_plan.specs.Spots.{Pushes}
 use Rattle.balise_plan.proofs.items.KeyPlaces.{end-place}
-use Rattle.balise_index.specs.Identities.{IndexOf}
+use Rattle.balise_index.specs.NameIndex.{IndexOf}
 use Rattle.std.proofs.lemmas.Bool.{ne_eqb}
 use Rattle.balise_rules.specs.Tagged.{find}
 use Rattle.balise_rules.specs.Tags.{same_tag}
@@ -18,6 +18,10 @@ use Rattle.std.specs.BTreeSet as set
 use Rattle.balise_plan.specs.Held as held
 
 -- a change is counted
+-- where the tags of the groups are the same
+pub with_tags : {ids new : IndexOf Tag} {names : IndexOf (set.BTreeSet LinkPlace)} {groups : Plan} → new ≡ ids → IsHeld ids names groups → IsHeld new names groups
+with_tags {names = names} {groups = groups} e h = subst (λ t. IsHeld t names groups) (sym e) h
+
 pub changed : {ids : IndexOf Tag} {names : IndexOf (set.BTreeSet LinkPlace)} {groups : Plan} (n : ℕ) → IsHeld ids names groups → IsKept ids names groups (n + 1)
 changed n h = record { held = h; based = λ e. absurd (omega (arith, e)) }
 

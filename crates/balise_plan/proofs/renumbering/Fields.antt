@@ -11,7 +11,8 @@ use Rattle.balise_rules.specs.Packet.{Packet, with_value}
 use Rattle.balise_rules.specs.Telegram.{Telegram}
 use Rattle.balise_rules.specs.Plan.{Group, Plan, IsSound, country_of, telegram_at}
 use Rattle.balise_rules.specs.Names.{is_real, is_it, calls, country_at}
-use Rattle.balise_rules.specs.Edits.{Renumber, effect, field_after, head_after}
+use Rattle.balise_rules.specs.Edits.{effect, field_after, head_after}
+use Rattle.balise_rules.specs.declared.tagged_edit.TaggedEdit.TheVariants.{Renumber}
 use Rattle.balise_rules.proofs.Tests.{split_on, tag_test, nat_test, key_test, var_test}
 use Rattle.balise_rules.proofs.Found.{group_sound, placed, packet_spelt, fields_distinct, head_distinct}
 use Rattle.balise_edit_laws.proofs.Headers.{header_once}

@@ -22,7 +22,8 @@ use Rattle.balise_rules.specs.Names.{is_real, country_at, is_named}
 use Rattle.balise_rules.specs.Accepting.{Accepted}
 use Rattle.balise_rules.specs.Doing.{refusal, taken, renumbered, first_of, when}
 use Rattle.balise_rules.specs.Notes.{note_group}
-use Rattle.balise_rules.specs.Edits.{Renumber, effect, field_after, telegram_after, head_after, group_after}
+use Rattle.balise_rules.specs.Edits.{effect, field_after, telegram_after, head_after, group_after}
+use Rattle.balise_rules.specs.declared.tagged_edit.TaggedEdit.TheVariants.{Renumber}
 use Rattle.balise_rules.proofs.Tests.{split_on, split_keys, tag_test, nat_test, var_test, id_test, flip_no}
 use Rattle.balise_rules.proofs.Lists.{find-each}
 use Rattle.balise_rules.proofs.Cases.{unsome}
@@ -33,8 +34,9 @@ use Rattle.balise_edit_laws.proofs.Refusing.{refused_exactly}
 use Rattle.balise_edit_laws.proofs.SoundKept.{groups_kept, sound_parts}
 use Rattle.balise_index.specs.declared.link_place.LinkPlace.{LinkPlace}
 use Rattle.balise_plan.specs.declared.links.change.Change.TheVariants.{Name}
-use Rattle.balise_index.specs.Identities.{IndexOf, Updates, indexed, is_id}
-use Rattle.balise_plan.specs.Links.{held, in_links, named_at, Keeps, Moves, AreFull}
+use Rattle.balise_index.specs.NameIndex.{held, in_links, indexed, AreFull, IndexOf, Moves, Updates}
+use Rattle.balise_index.specs.Identities.{is_id}
+use Rattle.balise_plan.specs.Links.{named_at}
 use Rattle.balise_plan.specs.Walks.{change_all, places_of, renumbered_heads}
 use Rattle.balise_plan.specs.Held.{IsHeld, tag_named}
 use Rattle.balise_index.proofs.identities.Equal.{id_one, id_is, id_itself}
@@ -234,7 +236,6 @@ record Steps (plan : rules.Plan) (g0 : Tag) (n : ℕ) (own : Id) (ids first ids_
   pub taken_out : (q : Id) → indexed ids_after q ≡ cond (is_id own q) None (indexed first q)
   pub index : (q : Id) (w : LinkPlace) → held names q w ≡ named_at q w plan
   pub moves : Moves names after own (record { country = own.country; number = n })
-  pub full : AreFull after
   pub no_id : is_some (indexed ids (record { country = own.country; number = n })) ≡ false
   pub no_name : is_some (indexed names (record { country = own.country; number = n })) ≡ false
   pub links : walked_groups ≡ change_all (Name n) (places_of (indexed after (record { country = own.country; number = n }))) plan
@@ -272,7 +273,6 @@ module _ (plan : rules.Plan) (sound : IsSound plan) (g0 : Tag) (ys0 : Group) (n 
               ∙ ap (λ b. cond b None (cond (is_id i q) (Some g0) (tag_named q plan))) (id_is (identity_of ys0) q) ∙ ap (λ b. cond (same_id (identity_of ys0) q) None (cond b (Some g0) (tag_named q plan))) (id_is i q)
               ∙ sym (tags_new plan sound g0 ys0 n here small other no_group no_name q);
           named = names_new plan sound g0 ys0 n here small other no_group no_name names s.index empty after s.moves;
-          full = s.full;
         });
       }
 
@@ -289,28 +289,32 @@ module _ (plan : rules.Plan) (ids : IndexOf Tag) (names : IndexOf (set.BTreeSet 
   pub known_id : (i : Id) → is_some (indexed ids i) ≡ is_some (group_named i plan)
   known_id i = ap is_some (held_is.tags i) ∙ some-map (λ (y : Tag × Group). y.0) (group_named i plan)
 
-  known_name : (i : Id) → is_some (indexed names i) ≡ is_named i plan
-  known_name i =
+  known_name : AreFull names → (i : Id) → is_some (indexed names i) ≡ is_named i plan
+  known_name full i =
       split_on (is_some (indexed names i))
-      (λ e. e ∙ sym (told names plan held_is.sound held_is.named i held_is.full e))
+      (λ e. e ∙ sym (told names plan held_is.sound held_is.named i full e))
       (λ e. e ∙ sym (untold names plan held_is.sound held_is.named i (none-of (indexed names i) e)))
 
   module _ (g0 : Tag) (ys0 : Group) (n : ℕ) (here : find same_tag g0 plan ≡ Some ys0) where
     abbrev known : Id → Bool
     known own = is_some (indexed ids (record { country = own.country; number = n })) || is_some (indexed names (record { country = own.country; number = n }))
 
-    by_known : n < 16384 → n ≢ 16383 → (own : Id) → own ≡ identity_of ys0 → refusal (Renumber g0 n) plan ≡ by_taken (known own)
-    by_known l r own e =
+    by_known : AreFull names → n < 16384 → n ≢ 16383 → (own : Id) → own ≡ identity_of ys0 → refusal (Renumber g0 n) plan ≡ by_taken (known own)
+    by_known full l r own e =
         let i = renumbered (Some ys0) n in
-        taken_or_free g0 n plan ys0 here l r ∙ ap by_taken (ap (λ b. b || is_named i plan) (sym (known_id i)) ∙ ap (λ b. is_some (indexed ids i) || b) (sym (known_name i)) ∙ sym (ap known e))
+        taken_or_free g0 n plan ys0 here l r ∙ ap by_taken (ap (λ b. b || is_named i plan) (sym (known_id i)) ∙ ap (λ b. is_some (indexed ids i) || b) (sym (known_name full i)) ∙ sym (ap known e))
 
-    pub known_taken : n < 16384 → n ≢ 16383 → (own : Id) → own ≡ identity_of ys0 → known own ≡ true → refusal (Renumber g0 n) plan ≡ Some NumberTaken
+    pub known_taken : AreFull names → n < 16384 → n ≢ 16383 → (own : Id) → own ≡ identity_of ys0 → known own ≡ true → refusal (Renumber g0 n) plan ≡ Some NumberTaken
     unfolding by_taken
-    known_taken l r own e k = by_known l r own e ∙ ap by_taken k
+    known_taken full l r own e k = by_known full l r own e ∙ ap by_taken k
 
-    pub unknown_free : n < 16384 → n ≢ 16383 → (own : Id) → own ≡ identity_of ys0 → known own ≡ false → refusal (Renumber g0 n) plan ≡ None
+    pub unknown_free : AreFull names → n < 16384 → n ≢ 16383 → (own : Id) → own ≡ identity_of ys0 → known own ≡ false → refusal (Renumber g0 n) plan ≡ None
     unfolding by_taken
-    unknown_free l r own e k = by_known l r own e ∙ ap by_taken k
+    unknown_free full l r own e k = by_known full l r own e ∙ ap by_taken k
+
+    -- nothing has the other identity, nor names it
+    pub unnamed : (own : Id) → known own ≡ false → indexed names (record { country = own.country; number = n }) ≡ None
+    unnamed own k = none-of (indexed names (record { country = own.country; number = n })) (or_parts _ _ k).1
 
     pub moved_apart : (own : Id) → own ≡ identity_of ys0 → (is_some (indexed ids (record { country = own.country; number = n })) || is_some (indexed names (record { country = own.country; number = n }))) ≡ false → own ≢ (record { country = own.country; number = n })
     moved_apart own e k same =
@@ -320,22 +324,11 @@ module _ (plan : rules.Plan) (ids : IndexOf Tag) (names : IndexOf (set.BTreeSet 
 
     -- all of it, as the code does it
     pub is-renamed : n < 16384 → n ≢ 16383 → (own : Id) → own ≡ identity_of ys0 → (first ids_after : IndexOf Tag) → Updates ids first (record { country = own.country; number = n }) (Some g0) → Updates first ids_after own None →
-        (after : IndexOf (set.BTreeSet LinkPlace)) → Moves names after own (record { country = own.country; number = n }) → AreFull after →
+        (after : IndexOf (set.BTreeSet LinkPlace)) → Moves names after own (record { country = own.country; number = n }) →
         (is_some (indexed ids (record { country = own.country; number = n })) || is_some (indexed names (record { country = own.country; number = n }))) ≡ false →
         (walked_groups groups : rules.Plan) → walked_groups ≡ change_all (Name n) (places_of (indexed after (record { country = own.country; number = n }))) plan → groups ≡ renumbered_heads g0 n walked_groups →
         Outcome (Renumber g0 n) ids_after after plan groups
-    is-renamed small other own is_own first ids_after put out after moves full unknown walked_groups groups links heads =
+    is-renamed small other own is_own first ids_after put out after moves unknown walked_groups groups links heads =
         let free = or_parts _ _ unknown in
         finish plan held_is.sound g0 ys0 n here small other ids first ids_after names after walked_groups groups own is_own
-        (record { tags = held_is.tags; put = put; taken_out = out; index = held_is.named; moves = moves; full = full; no_id = free.0; no_name = free.1; links = links; heads = heads })
-
-    -- a number put under and taken out again
-    pub was-put : (own : Id) → (is_some (indexed ids (record { country = own.country; number = n })) || is_some (indexed names (record { country = own.country; number = n }))) ≡ false → (mid left : IndexOf Tag) →
-        Updates ids mid (record { country = own.country; number = n }) (Some g0) → Updates mid left (record { country = own.country; number = n }) None → (after : IndexOf (set.BTreeSet LinkPlace)) → Keeps names after → AreFull after → IsHeld left after plan
-    was-put own unknown mid left put out after keeps full =
-        let free = or_parts _ _ unknown in record {
-          sound = held_is.sound;
-          tags = λ q. there_and_back ids mid left (record { country = own.country; number = n }) g0 free.0 put out q ∙ held_is.tags q;
-          named = λ q w. keeps q w ∙ held_is.named q w;
-          full = full;
-        }
+        (record { tags = held_is.tags; put = put; taken_out = out; index = held_is.named; moves = moves; no_id = free.0; no_name = free.1; links = links; heads = heads })

@@ -16,7 +16,8 @@ use Rattle.balise_rules.specs.Telegram.{Telegram, room}
 use Rattle.balise_rules.specs.Plan.{Group, Plan, telegram_at}
 use Rattle.balise_rules.specs.Doing.{refusal, first_of, when, too_wide, in_telegram, same_place}
 use Rattle.balise_rules.specs.Back.{with_packets}
-use Rattle.balise_rules.specs.Edits.{SetVar, SetHead, DeletePacket, MovePacket, telegram_after, packet_after}
+use Rattle.balise_rules.specs.Edits.{telegram_after, packet_after}
+use Rattle.balise_rules.specs.declared.tagged_edit.TaggedEdit.TheVariants.{SetVar, SetHead, DeletePacket, MovePacket}
 use Rattle.balise_rules.proofs.Tests.{split_on, tag_test, nat_test}
 use Rattle.balise_rules.proofs.Each.{each-id, each-same}
 use Rattle.balise_telegram.specs.Setting.{head_refusal, with_field, with_head}

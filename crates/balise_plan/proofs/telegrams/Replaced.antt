@@ -12,7 +12,7 @@ use Rattle.balise_rules.specs.Telegram.{Telegram}
 use Rattle.balise_rules.specs.Plan.{Group, IsSound, IsSoundTelegram, country_of, identity_of, telegram_at}
 use Rattle.balise_rules.specs.Plan as rules
 use Rattle.balise_rules.specs.Names.{is_real}
-use Rattle.balise_rules.specs.Edits.{TurnGroup}
+use Rattle.balise_rules.specs.declared.tagged_edit.TaggedEdit.TheVariants.{TurnGroup}
 use Rattle.balise_rules.proofs.Tests.{split_on, test-sym, tag_test}
 use Rattle.balise_rules.proofs.Cases.{unsome}
 use Rattle.balise_rules.proofs.AllItems.{all-each_found}
@@ -22,8 +22,8 @@ use Rattle.balise_rules.specs.Plan.{IsSoundGroup}
 use Rattle.balise_edit_laws.proofs.GroupsKept.{GroupKept}
 use Rattle.balise_edit_laws.proofs.Identities.{differ_apart, apart_differ, apart_each}
 use Rattle.balise_index.specs.declared.link_place.LinkPlace.{LinkPlace}
-use Rattle.balise_index.specs.Identities.{IndexOf}
-use Rattle.balise_plan.specs.Links.{held, named_at, named_in_packet, named_in_telegram, AreFull}
+use Rattle.balise_index.specs.NameIndex.{held, IndexOf}
+use Rattle.balise_plan.specs.Links.{named_at, named_in_packet, named_in_telegram}
 use Rattle.balise_plan.specs.PacketLinks.{is_in}
 use Rattle.balise_plan.specs.Held.{IsHeld, tag_named}
 use Rattle.balise_plan.proofs.groups.Sound.{each-kept}
@@ -127,15 +127,13 @@ module _ (plan : rules.Plan) (sound : IsSound plan) (g : Tag) (t : ℕ) (y z : T
       sound = replaced-sound;
       tags = λ q. held_is.tags q ∙ sym (replaced-tags q);
       named = λ q w. held_is.named q w ∙ sym (named-kept same q w);
-      full = held_is.full;
     }
 
     pub held-put : (p : Tag) (o : Option Packet) → find same_tag p z.packets ≡ o → ((r : Tag) → same_tag r p ≡ false → find same_tag r z.packets ≡ find same_tag r y.packets) →
-        (after : IndexOf (set.BTreeSet LinkPlace)) → AreFull after → ((q : Id) (w : LinkPlace) → held after q w ≡ cond (is_in g t p w) (is_real q && named_in_packet (country_of y) q w.element o) (named_at q w plan)) →
+        (after : IndexOf (set.BTreeSet LinkPlace)) → ((q : Id) (w : LinkPlace) → held after q w ≡ cond (is_in g t p w) (is_real q && named_in_packet (country_of y) q w.element o) (named_at q w plan)) →
         IsHeld ids after (with_telegram g t z plan)
-    held-put p o e same after full index = record {
+    held-put p o e same after index = record {
       sound = replaced-sound;
       tags = λ q. held_is.tags q ∙ sym (replaced-tags q);
       named = λ q w. index q w ∙ sym (named-put p o e same q w);
-      full = full;
     }

@@ -20,7 +20,7 @@ use Rattle.balise_rules.specs.Plan.{IsSoundTelegram}
 use Rattle.balise_rules.specs.Accepting.{Lawful}
 use Rattle.balise_rules.specs.Back.{with_packets, put_back}
 use Rattle.balise_rules.specs.Doing.{first_of, when}
-use Rattle.balise_rules.specs.Edits.{SetVar, SetHead, DeletePacket, MovePacket}
+use Rattle.balise_rules.specs.declared.tagged_edit.TaggedEdit.TheVariants.{SetVar, SetHead, DeletePacket, MovePacket}
 use Rattle.balise_rules.proofs.Tests.{tag_test}
 use Rattle.balise_rules.proofs.AllItems.{all-each, all_found}
 use Rattle.balise_rules.proofs.Distincts.{distinct-each}

@@ -13,7 +13,8 @@ use Rattle.balise_rules.specs.Packet.{Packet, value}
 use Rattle.balise_rules.specs.Telegram.{Telegram}
 use Rattle.balise_rules.specs.Plan.{Group, Plan, IsSound, country_of}
 use Rattle.balise_rules.specs.Names.{is_real, calls}
-use Rattle.balise_rules.specs.Edits.{TurnGroup, effect, exchanged, field_after, head_after}
+use Rattle.balise_rules.specs.Edits.{effect, exchanged, field_after, head_after}
+use Rattle.balise_rules.specs.declared.tagged_edit.TaggedEdit.TheVariants.{TurnGroup}
 use Rattle.balise_rules.proofs.Tests.{split_on, tag_test, nat_test, key_test, var_test, flip_no}
 use Rattle.balise_rules.proofs.Lists.{find-each}
 use Rattle.balise_rules.proofs.Found.{group_sound, placed, packet_spelt, fields_distinct, head_distinct}

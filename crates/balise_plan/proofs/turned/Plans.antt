@@ -14,7 +14,8 @@ use Rattle.balise_rules.specs.Plan as rules
 use Rattle.balise_rules.specs.Names.{is_real}
 use Rattle.balise_rules.specs.Accepting.{Accepted}
 use Rattle.balise_rules.specs.Notes.{note_group}
-use Rattle.balise_rules.specs.Edits.{TurnGroup, effect, field_after, telegram_after, head_after, group_after}
+use Rattle.balise_rules.specs.Edits.{effect, field_after, telegram_after, head_after, group_after}
+use Rattle.balise_rules.specs.declared.tagged_edit.TaggedEdit.TheVariants.{TurnGroup}
 use Rattle.balise_rules.proofs.Tests.{tag_test, nat_test}
 use Rattle.balise_rules.proofs.Lists.{find-each}
 use Rattle.balise_rules.proofs.Distincts.{distinct-each}
@@ -25,8 +26,8 @@ use Rattle.balise_rules.proofs.Reversed.{find-reverse}
 use Rattle.balise_edit_laws.proofs.SoundKept.{groups_kept, sound_parts}
 use Rattle.balise_index.specs.declared.link_place.LinkPlace.{LinkPlace}
 use Rattle.balise_plan.specs.declared.links.change.Change.TheVariants.{Flip}
-use Rattle.balise_index.specs.Identities.{IndexOf, indexed}
-use Rattle.balise_plan.specs.Links.{in_links, named_at}
+use Rattle.balise_index.specs.NameIndex.{in_links, indexed, IndexOf}
+use Rattle.balise_plan.specs.Links.{named_at}
 use Rattle.balise_plan.specs.Walks.{change_all, places_of, turned_in}
 use Rattle.balise_plan.specs.Held.{IsHeld, tag_named}
 use Rattle.balise_plan.proofs.naming.Walking.{among_after, change-all, all-same, all-flip, found-each}
@@ -103,7 +104,6 @@ module _ (plan : rules.Plan) (ids : IndexOf Tag) (names : IndexOf (set.BTreeSet 
     sound = new_sound;
     tags = λ q. held_is.tags q ∙ sym (tags-kept plan new held_is.sound new_sound (group_after (0, TurnGroup g0) (identity_of ys0)) refl kept q);
     named = λ q w. held_is.named q w ∙ named-is q w plan ∙ ap (λ o. is_real q && is_the q o) (sym (id_new w)) ∙ sym (named-is q w new);
-    full = held_is.full;
   }
 
   real : is_real (identity_of ys0) ≡ true

@@ -9,10 +9,10 @@ ghost use Rattle.balise_telegram.specs.Setting.{SetsField, SetsHead};
 ghost use Rattle.balise_telegram.specs.Changes.{OrWants};
 ghost use Rattle.balise_telegram.specs.Moving.{TakesOut};
 
-use crate::group::{Group, Telegrams, find};
+use crate::group::{Group, Telegrams};
 use crate::links::change::Change;
-use balise_layout::Packet;
 use balise_rules::{Id, Refusal, Tag, Var};
+use balise_telegram::Packet;
 
 impl Group {
     /// Sets a field of a packet of one telegram.
@@ -26,10 +26,10 @@ impl Group {
     ) -> Result<u32, Refusal>
         ensures { Within eqb t no_telegram (Passed (SetsField p var k value)) self.old result self.new }
     {
-        let Some(i) = find(&self.telegrams, t) else {
+        let Some(i) = self.telegrams.place_of(t) else {
             return Err(Refusal::NoSuchTelegram);
         };
-        let telegram = &mut self.telegrams[i].1;
+        let telegram = &mut self.telegrams[i];
         let old = match telegram.set_field(p, var, k, value) {
             Ok(old) => old,
             Err(fault) => return Err(fault.refusal()),
@@ -41,10 +41,10 @@ impl Group {
     pub(crate) fn set_head(&mut self, t: u32, var: Var, value: u32) -> Result<u32, Refusal>
         ensures { Within eqb t no_telegram (Passed (SetsHead var value)) self.old result self.new }
     {
-        let Some(i) = find(&self.telegrams, t) else {
+        let Some(i) = self.telegrams.place_of(t) else {
             return Err(Refusal::NoSuchTelegram);
         };
-        let telegram = &mut self.telegrams[i].1;
+        let telegram = &mut self.telegrams[i];
         let old = match telegram.set_head(var, value) {
             Ok(old) => old,
             Err(fault) => return Err(fault.refusal()),
@@ -57,10 +57,10 @@ impl Group {
         ensures ok { IfOk result (λ id. ElementIn t p k self.now id) }
         ensures fault { IfErr result (λ e. NoElement t p k self.now e) }
     {
-        let Some(i) = find(&self.telegrams, t) else {
+        let Some(i) = self.telegrams.place_of(t) else {
             return Err(Refusal::NoSuchTelegram);
         };
-        let telegram = &self.telegrams[i].1;
+        let telegram = &self.telegrams[i];
         let Some(packet) = telegram.packet(p) else {
             return Err(Refusal::NoSuchPacket);
         };
@@ -75,10 +75,10 @@ impl Group {
     pub(crate) fn take_packet(&mut self, t: u32, p: Tag) -> Result<(Packet, Option<Tag>), Refusal>
         ensures { Within eqb t no_telegram (Passed (OrWants (TakesOut p))) self.old result self.new }
     {
-        let Some(i) = find(&self.telegrams, t) else {
+        let Some(i) = self.telegrams.place_of(t) else {
             return Err(Refusal::NoSuchTelegram);
         };
-        let telegram = &mut self.telegrams[i].1;
+        let telegram = &mut self.telegrams[i];
         let taken = match telegram.take(p) {
             Ok(taken) => taken,
             Err(fault) => return Err(fault.refusal()),
@@ -91,10 +91,10 @@ impl Group {
         requires { FitsName change }
         ensures { self.new ≡ in_group t p (changed change k) self.old }
     {
-        let Some(i) = find(&self.telegrams, t) else {
+        let Some(i) = self.telegrams.place_of(t) else {
             return;
         };
-        let telegram = &mut self.telegrams[i].1;
+        let telegram = &mut self.telegrams[i];
         if let Change::Name(number) = change {
             telegram.name_link(p, k, number);
             return;
@@ -119,7 +119,7 @@ fn number_each(telegrams: &mut Telegrams, number: u32)
     ensures { telegrams.new ≡ with_number number telegrams.old }
 {
     for i in 0..telegrams.len() {
-        let telegram = &mut telegrams[i].1;
+        let telegram = &mut telegrams[i];
         telegram.put_head(Var::NidBg, number);
     }
 }

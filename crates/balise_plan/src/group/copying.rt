@@ -12,10 +12,14 @@ impl Group {
         ensures ok { IfOk result (λ group. group ≡ self.now) }
         ensures fault { IsOkUnless result Refusal.OutOfMemory }
     {
-        let mut telegrams = OneOrMore::new(self.telegrams.allocator());
-        for (tag, telegram) in self.telegrams.as_slice() {
-            telegrams.push((*tag, telegram.copy()?))?;
+        let (telegrams, turned) = self.telegrams.by_tag();
+        let mut copies = OneOrMore::new(self.telegrams.allocator());
+        for telegram in telegrams {
+            copies.push(telegram.copy()?)?;
         }
-        Ok(Group { telegrams })
+        if turned {
+            copies.reverse();
+        }
+        Ok(Group { telegrams: copies })
     }
 }

@@ -10,21 +10,20 @@ ghost use Rattle.balise_plan.specs.PutsIn.{PutsIn, ShiftsIn, no_telegram};
 ghost use Rattle.balise_plan.specs.Within.{Within, Passed, no_telegram as lacking};
 ghost use Rattle.balise_telegram.specs.Changes.{OrWants};
 
-use crate::group::{Group, find};
+use crate::group::Group;
 use balise_index::Spot;
-use balise_layout::Packet;
 use balise_rules::{Refusal, Tag, Var};
-use balise_telegram::{Telegram, TelegramFault};
+use balise_telegram::{Packet, Telegram, TelegramFault};
 
 impl Group {
     /// NID_C of one telegram, of 10 bits.
     pub fn country(&self, t: u32) -> Option<u32>
         ensures { result ≡ option_map country_of (under eqb t self.now) }
     {
-        let Some(i) = find(&self.telegrams, t) else {
+        let Some(i) = self.telegrams.place_of(t) else {
             return None;
         };
-        let telegram = &self.telegrams[i].1;
+        let telegram = &self.telegrams[i];
         Some(telegram.head(Var::NidC).unwrap_or(0))
     }
 
@@ -40,10 +39,10 @@ impl Group {
         requires spelt { (y : Telegram) → under eqb t self.old ≡ Some y → IsSpelt (version_of y) packet }
         ensures { Within eqb t (no_telegram packet) (PutsIn spot p packet) self.old result self.new }
     {
-        let Some(i) = find(&self.telegrams, t) else {
+        let Some(i) = self.telegrams.place_of(t) else {
             return Err((Refusal::NoSuchTelegram, packet));
         };
-        let telegram = &mut self.telegrams[i].1;
+        let telegram = &mut self.telegrams[i];
         put(telegram, spot, p, packet)
     }
 
@@ -56,10 +55,10 @@ impl Group {
     ) -> Result<Option<Tag>, Refusal>
         ensures { Within eqb t lacking (Passed (OrWants (ShiftsIn spot p))) self.old result self.new }
     {
-        let Some(i) = find(&self.telegrams, t) else {
+        let Some(i) = self.telegrams.place_of(t) else {
             return Err(Refusal::NoSuchTelegram);
         };
-        let telegram = &mut self.telegrams[i].1;
+        let telegram = &mut self.telegrams[i];
         let next = match shift(telegram, p, spot) {
             Ok(next) => next,
             Err(fault) => return Err(fault.refusal()),

@@ -6,9 +6,8 @@ ghost use Rattle.balise_rules.specs.Plan.{agree_from, read_group, IsSoundGroup};
 
 use crate::group::{Group, Telegrams, identity};
 use crate::one_or_more::OneOrMore;
-use balise_bits::Bits;
 use balise_rules::{Id, NO_GROUP, Refusal};
-use balise_telegram::Telegram;
+use balise_telegram::{Bits, Telegram};
 use std::alloc::Global;
 
 impl Group {
@@ -26,14 +25,12 @@ impl Group {
             return Err(Refusal::GroupSize);
         }
         let mut read = OneOrMore::new(alloc);
-        let mut tag = 0;
         for bits in telegrams {
             let telegram = match Telegram::of_bits(bits) {
                 Ok(telegram) => telegram,
                 Err(fault) => return Err(fault.refusal()),
             };
-            read.push((tag, telegram))?;
-            tag += 1;
+            read.push(telegram)?;
         }
         Group::of_read(read)
     }
@@ -68,7 +65,7 @@ fn agree(telegrams: &Telegrams, id: Id) -> bool
 {
     let last = telegrams.len().saturating_sub(1);
     for i in 0..telegrams.len() {
-        let telegram = &telegrams[i].1;
+        let telegram = &telegrams[i];
         let (place, total) = telegram.place_in_group();
         let own = telegram.identity();
         if (place as usize != i) | (total as usize != last) | (own != id) {

@@ -3,49 +3,48 @@
 ghost use Rattle.std.specs.Prelude.{◌≡◌, ◌≤◌, OnOk, OnErr, length};
 ghost use Rattle.balise_rules.specs.Names.{links_of};
 ghost use Rattle.balise_plan.specs.GroupLinks.{links_from, AddsAll, ForgetsAll, KeepsOthers};
-ghost use Rattle.balise_plan.specs.Links.{AreFull};
+ghost use Rattle.balise_index.specs.NameIndex.{names_of, tags_of};
 
-use crate::links::names::{add, forget};
 use crate::packet_place::PacketPlace;
-use balise_index::{IdentityMap, Links};
-use balise_layout::PacketRef;
+use balise_index::NameIndex;
 use balise_rules::{Id, NO_GROUP};
+use balise_telegram::PacketRef;
 use std::alloc::{AllocError, Global};
 
 /// Notes the links of a packet in a telegram of this country. Where memory runs out, some of them may be noted.
 pub(crate) fn add_packet(
     alloc: Global,
-    names: &mut IdentityMap<Links>,
+    index: &mut NameIndex,
     place: PacketPlace,
     country: u32,
     packet: &PacketRef,
 ) -> Result<(), AllocError>
-    ensures added { OnOk result (AddsAll (links_from place.group place.telegram place.packet 0 (links_of country packet.now)) names.old names.new) }
-    ensures others { OnErr result (KeepsOthers (links_from place.group place.telegram place.packet 0 (links_of country packet.now)) names.old names.new) }
-    ensures full { AreFull names.old → AreFull names.new }
+    ensures added { OnOk result (AddsAll (links_from place.group place.telegram place.packet 0 (links_of country packet.now)) (names_of index.old) (names_of index.new)) }
+    ensures others { OnErr result (KeepsOthers (links_from place.group place.telegram place.packet 0 (links_of country packet.now)) (names_of index.old) (names_of index.new)) }
+    ensures tags { tags_of index.new ≡ tags_of index.old }
 {
     if !packet.has_elements() {
         return Ok(());
     }
-    add_linking(alloc, names, place, country, packet)
+    add_linking(alloc, index, place, country, packet)
 }
 
 // The same of a packet that has elements. Its elements stand in no frame of a packet that has none.
 #[inline(never)]
 fn add_linking(
     alloc: Global,
-    names: &mut IdentityMap<Links>,
+    index: &mut NameIndex,
     place: PacketPlace,
     country: u32,
     packet: &PacketRef,
 ) -> Result<(), AllocError>
-    ensures added { OnOk result (AddsAll (links_from place.group place.telegram place.packet 0 (links_of country packet.now)) names.old names.new) }
-    ensures others { OnErr result (KeepsOthers (links_from place.group place.telegram place.packet 0 (links_of country packet.now)) names.old names.new) }
-    ensures full { AreFull names.old → AreFull names.new }
+    ensures added { OnOk result (AddsAll (links_from place.group place.telegram place.packet 0 (links_of country packet.now)) (names_of index.old) (names_of index.new)) }
+    ensures others { OnErr result (KeepsOthers (links_from place.group place.telegram place.packet 0 (links_of country packet.now)) (names_of index.old) (names_of index.new)) }
+    ensures tags { tags_of index.new ≡ tags_of index.old }
 {
     match packet.few_elements(country) {
-        Some(few) => add_elements(alloc, names, place, few.as_slice()),
-        None => add_many(alloc, names, place, country, packet),
+        Some(few) => add_elements(alloc, index, place, few.as_slice()),
+        None => add_many(alloc, index, place, country, packet),
     }
 }
 
@@ -53,94 +52,89 @@ fn add_linking(
 #[inline(never)]
 fn add_many(
     alloc: Global,
-    names: &mut IdentityMap<Links>,
+    index: &mut NameIndex,
     place: PacketPlace,
     country: u32,
     packet: &PacketRef,
 ) -> Result<(), AllocError>
-    ensures added { OnOk result (AddsAll (links_from place.group place.telegram place.packet 0 (links_of country packet.now)) names.old names.new) }
-    ensures others { OnErr result (KeepsOthers (links_from place.group place.telegram place.packet 0 (links_of country packet.now)) names.old names.new) }
-    ensures full { AreFull names.old → AreFull names.new }
+    ensures added { OnOk result (AddsAll (links_from place.group place.telegram place.packet 0 (links_of country packet.now)) (names_of index.old) (names_of index.new)) }
+    ensures others { OnErr result (KeepsOthers (links_from place.group place.telegram place.packet 0 (links_of country packet.now)) (names_of index.old) (names_of index.new)) }
+    ensures tags { tags_of index.new ≡ tags_of index.old }
 {
     let elements = packet.elements(country);
-    add_elements(alloc, names, place, elements.as_slice())
+    add_elements(alloc, index, place, elements.as_slice())
 }
 
 #[inline(always)]
 fn add_elements(
     alloc: Global,
-    names: &mut IdentityMap<Links>,
+    index: &mut NameIndex,
     place: PacketPlace,
     identities: &[Id],
 ) -> Result<(), AllocError>
     requires { length identities.now ≤ 32 }
-    ensures added { OnOk result (AddsAll (links_from place.group place.telegram place.packet 0 identities.now) names.old names.new) }
-    ensures others { OnErr result (KeepsOthers (links_from place.group place.telegram place.packet 0 identities.now) names.old names.new) }
-    ensures full { AreFull names.old → AreFull names.new }
+    ensures added { OnOk result (AddsAll (links_from place.group place.telegram place.packet 0 identities.now) (names_of index.old) (names_of index.new)) }
+    ensures others { OnErr result (KeepsOthers (links_from place.group place.telegram place.packet 0 identities.now) (names_of index.old) (names_of index.new)) }
+    ensures tags { tags_of index.new ≡ tags_of index.old }
 {
     for k in 0..identities.len() {
         let id = identities[k];
         if id.number == NO_GROUP {
             continue;
         }
-        add(alloc, names, id, place.element(k as u32))?;
+        index.add_name(alloc, id, place.element(k as u32))?;
     }
     Ok(())
 }
 
 /// Forgets the links of a packet in a telegram of this country. Takes no memory.
 pub(crate) fn forget_packet(
-    names: &mut IdentityMap<Links>,
+    index: &mut NameIndex,
     place: PacketPlace,
     country: u32,
     packet: &PacketRef,
 )
-    ensures forgotten { ForgetsAll (links_from place.group place.telegram place.packet 0 (links_of country packet.now)) names.old names.new }
-    ensures full { AreFull names.old → AreFull names.new }
+    ensures forgotten { ForgetsAll (links_from place.group place.telegram place.packet 0 (links_of country packet.now)) (names_of index.old) (names_of index.new) }
+    ensures tags { tags_of index.new ≡ tags_of index.old }
 {
     if packet.has_elements() {
-        forget_linking(names, place, country, packet);
+        forget_linking(index, place, country, packet);
     }
 }
 
 // The same of a packet that has elements.
 #[inline(never)]
-fn forget_linking(
-    names: &mut IdentityMap<Links>,
-    place: PacketPlace,
-    country: u32,
-    packet: &PacketRef,
-)
-    ensures forgotten { ForgetsAll (links_from place.group place.telegram place.packet 0 (links_of country packet.now)) names.old names.new }
-    ensures full { AreFull names.old → AreFull names.new }
+fn forget_linking(index: &mut NameIndex, place: PacketPlace, country: u32, packet: &PacketRef)
+    ensures forgotten { ForgetsAll (links_from place.group place.telegram place.packet 0 (links_of country packet.now)) (names_of index.old) (names_of index.new) }
+    ensures tags { tags_of index.new ≡ tags_of index.old }
 {
     match packet.few_elements(country) {
-        Some(few) => forget_elements(names, place, few.as_slice()),
-        None => forget_many(names, place, country, packet),
+        Some(few) => forget_elements(index, place, few.as_slice()),
+        None => forget_many(index, place, country, packet),
     }
 }
 
 // Forgets the links of a packet of any number of elements. Out of line, since `Elements` takes much of the stack.
 #[inline(never)]
-fn forget_many(names: &mut IdentityMap<Links>, place: PacketPlace, country: u32, packet: &PacketRef)
-    ensures forgotten { ForgetsAll (links_from place.group place.telegram place.packet 0 (links_of country packet.now)) names.old names.new }
-    ensures full { AreFull names.old → AreFull names.new }
+fn forget_many(index: &mut NameIndex, place: PacketPlace, country: u32, packet: &PacketRef)
+    ensures forgotten { ForgetsAll (links_from place.group place.telegram place.packet 0 (links_of country packet.now)) (names_of index.old) (names_of index.new) }
+    ensures tags { tags_of index.new ≡ tags_of index.old }
 {
     let elements = packet.elements(country);
-    forget_elements(names, place, elements.as_slice());
+    forget_elements(index, place, elements.as_slice());
 }
 
 #[inline(always)]
-fn forget_elements(names: &mut IdentityMap<Links>, place: PacketPlace, identities: &[Id])
+fn forget_elements(index: &mut NameIndex, place: PacketPlace, identities: &[Id])
     requires { length identities.now ≤ 32 }
-    ensures forgotten { ForgetsAll (links_from place.group place.telegram place.packet 0 identities.now) names.old names.new }
-    ensures full { AreFull names.old → AreFull names.new }
+    ensures forgotten { ForgetsAll (links_from place.group place.telegram place.packet 0 identities.now) (names_of index.old) (names_of index.new) }
+    ensures tags { tags_of index.new ≡ tags_of index.old }
 {
     for k in 0..identities.len() {
         let id = identities[k];
         if id.number == NO_GROUP {
             continue;
         }
-        forget(names, id, place.element(k as u32));
+        index.forget_name(id, place.element(k as u32));
     }
 }

@@ -1,7 +1,7 @@
 //! Going over links.
 
 ghost use Rattle.std.specs.Prelude.{◌≡◌, ◌≢◌, ◌<◌, ◌^◌};
-ghost use Rattle.balise_index.specs.Identities.{indexed};
+ghost use Rattle.balise_index.specs.NameIndex.{indexed, names_of};
 ghost use Rattle.balise_rules.specs.Plan.{reserved};
 ghost use Rattle.balise_rules.specs.Tagged.{Distinct};
 ghost use Rattle.balise_rules.specs.Tags.{same_tag};
@@ -10,7 +10,7 @@ ghost use Rattle.balise_plan.specs.Walks.{change_all, change_at, places_of, renu
 
 use crate::group::Group;
 use crate::links::change::Change;
-use balise_index::{IdentityMap, LinkPlace, Links, OrderedMap};
+use balise_index::{LinkPlace, Links, NameIndex, OrderedMap};
 use balise_rules::{Id, Tag};
 
 /// Changes the elements at these places. Takes no memory.
@@ -41,17 +41,17 @@ fn change_one(groups: &mut OrderedMap<Group>, place: &LinkPlace, change: Change)
 /// Changes the elements that name an identity, as the index has them. Takes no memory.
 pub(crate) fn change_links(
     groups: &mut OrderedMap<Group>,
-    names: &IdentityMap<Links>,
+    index: &NameIndex,
     id: Id,
     change: Change,
 )
     requires fits { FitsName change }
     requires tags { Distinct same_tag groups.old.entries }
-    ensures once { Once (places_of (indexed names.now id)) }
+    ensures once { Once (places_of (indexed (names_of index.now) id)) }
     ensures tags { Distinct same_tag groups.new.entries }
-    ensures changed { groups.new.entries ≡ change_all change (places_of (indexed names.now id)) groups.old.entries }
+    ensures changed { groups.new.entries ≡ change_all change (places_of (indexed (names_of index.now) id)) groups.old.entries }
 {
-    let Some(links) = names.get(id) else {
+    let Some(links) = index.names(id) else {
         return;
     };
     change_each(groups, links, change);

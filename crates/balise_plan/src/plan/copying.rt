@@ -5,7 +5,7 @@ ghost use Rattle.std.specs.Prelude.{◌≡◌, IfOk, IsOkUnless};
 use crate::group::Group;
 use crate::group_places::put_at;
 use crate::plan::Plan;
-use balise_index::{IdentityMap, OrderedMap};
+use balise_index::{NameIndex, OrderedMap};
 use balise_rules::Refusal;
 
 impl Plan {
@@ -16,21 +16,19 @@ impl Plan {
     {
         let alloc = self.groups.allocator();
         let mut groups = OrderedMap::new(alloc);
-        let mut identities = IdentityMap::new(alloc);
-        let mut names = IdentityMap::new(alloc);
+        let mut index = NameIndex::new(alloc);
         for i in 0..self.groups.len() {
             let Some((tag, group)) = self.groups.at(i) else {
                 break;
             };
             let group = group.copy()?;
-            if put_at(&mut groups, &mut identities, &mut names, i, tag, group).is_err() {
+            if put_at(&mut groups, &mut index, i, tag, group).is_err() {
                 return Err(Refusal::OutOfMemory);
             }
         }
         Ok(Plan {
             groups,
-            identities,
-            names,
+            index,
             changes: self.changes,
         })
     }

@@ -1,7 +1,7 @@
 //! Groups of a plan put in and taken out.
 
 ghost use Rattle.std.specs.Prelude.{◌≡◌, IfOk, Some, None, option_map, slice_get};
-ghost use Rattle.balise_rules.specs.Edits.{DropGroup};
+ghost use Rattle.balise_rules.specs.declared.tagged_edit.TaggedEdit.TheVariants.{DropGroup};
 ghost use Rattle.balise_rules.specs.Notes.{noted};
 ghost use Rattle.balise_rules.specs.Plan.{IsSoundGroup};
 ghost use Rattle.balise_rules.specs.Tagged.{find};
@@ -35,17 +35,10 @@ impl Plan {
             return Err((Refusal::NoSuchGroup, group));
         };
         let own = group.identity();
-        if is_taken(&self.identities, own) {
+        if is_taken(&self.index, own) {
             return Err((Refusal::GroupTwice, group));
         }
-        if let Err(back) = put_at(
-            &mut self.groups,
-            &mut self.identities,
-            &mut self.names,
-            i,
-            g,
-            group,
-        ) {
+        if let Err(back) = put_at(&mut self.groups, &mut self.index, i, g, group) {
             return Err((Refusal::OutOfMemory, back));
         }
         self.changes += 1;
@@ -65,8 +58,8 @@ impl Plan {
             return Err(Refusal::NoSuchGroup);
         };
         let own = group.sound_identity();
-        forget_group(&mut self.names, g, group);
-        let _ = self.identities.remove(own);
+        forget_group(&mut self.index, g, group);
+        self.index.forget_tag(own);
         let (i, group) = self.groups.remove(g).unwrap();
         let before = tag_at(&self.groups, i);
         self.changes += 1;

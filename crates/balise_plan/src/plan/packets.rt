@@ -1,7 +1,7 @@
 //! Packets of a plan put in, taken out and moved.
 
 ghost use Rattle.std.specs.Prelude.{◌≡◌, IfOk, Some, None};
-ghost use Rattle.balise_rules.specs.Edits.{DeletePacket, MovePacket};
+ghost use Rattle.balise_rules.specs.declared.tagged_edit.TaggedEdit.TheVariants.{DeletePacket, MovePacket};
 ghost use Rattle.balise_rules.specs.Notes.{noted};
 ghost use Rattle.balise_rules.specs.Packet.{IsSpelt};
 ghost use Rattle.balise_rules.specs.Plan.{telegram_at};
@@ -15,8 +15,8 @@ use crate::links::packet::{add_packet, forget_packet};
 use crate::packet_place::PacketPlace;
 use crate::plan::Plan;
 use balise_index::Spot;
-use balise_layout::Packet;
 use balise_rules::{Refusal, Tag};
+use balise_telegram::Packet;
 
 impl Plan {
     /// Puts a packet into a telegram under a tag that is new there. The packet is spelt in the telegram's version.
@@ -49,12 +49,12 @@ impl Plan {
             telegram: t,
             packet: p,
         };
-        if add_packet(alloc, &mut self.names, place, country, &packet.lend()).is_err() {
-            forget_packet(&mut self.names, place, country, &packet.lend());
+        if add_packet(alloc, &mut self.index, place, country, &packet.lend()).is_err() {
+            forget_packet(&mut self.index, place, country, &packet.lend());
             return Err((Refusal::OutOfMemory, packet));
         }
         if let Err((fault, packet)) = group.put_packet(t, spot, p, packet) {
-            forget_packet(&mut self.names, place, country, &packet.lend());
+            forget_packet(&mut self.index, place, country, &packet.lend());
             return Err((fault, packet));
         }
         self.changes += 1;
@@ -85,7 +85,7 @@ impl Plan {
             telegram: t,
             packet: p,
         };
-        forget_packet(&mut self.names, place, country, &taken.lend());
+        forget_packet(&mut self.index, place, country, &taken.lend());
         self.changes += 1;
         Ok((taken, next))
     }

@@ -9,9 +9,9 @@ use crate::group::Group;
 use crate::group_places::{is_taken, put_at};
 use crate::group_reader::GroupReader;
 use crate::plan::Plan;
-use balise_bits::Bits;
-use balise_index::{IdentityMap, OrderedMap};
+use balise_index::{NameIndex, OrderedMap};
 use balise_rules::{Refusal, Tag};
+use balise_telegram::Bits;
 use std::alloc::Global;
 
 impl Plan {
@@ -22,8 +22,7 @@ impl Plan {
     {
         Plan {
             groups: OrderedMap::new(alloc),
-            identities: IdentityMap::new(alloc),
-            names: IdentityMap::new(alloc),
+            index: NameIndex::new(alloc),
             changes: 0,
         }
     }
@@ -67,7 +66,7 @@ impl Plan {
         ensures { PushesGroup group self.old result self.new }
     {
         let own = group.identity();
-        if is_taken(&self.identities, own) {
+        if is_taken(&self.index, own) {
             return Err(Refusal::GroupTwice);
         }
         let place = self.groups.len();
@@ -75,14 +74,7 @@ impl Plan {
             return Err(Refusal::OutOfMemory);
         }
         let tag = Tag::Base(place as u32);
-        if let Err(_back) = put_at(
-            &mut self.groups,
-            &mut self.identities,
-            &mut self.names,
-            place,
-            tag,
-            group,
-        ) {
+        if let Err(_back) = put_at(&mut self.groups, &mut self.index, place, tag, group) {
             return Err(Refusal::OutOfMemory);
         }
         Ok(())

@@ -6,8 +6,8 @@ ghost use Rattle.balise_rules.specs.Telegram.{shown};
 
 use crate::group::Group;
 use crate::plan::Plan;
-use balise_bits::Bits;
 use balise_rules::Refusal;
+use balise_telegram::Bits;
 use std::alloc::Global;
 
 impl Plan {

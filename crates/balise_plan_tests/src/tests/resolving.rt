@@ -170,9 +170,41 @@ fn is_answer(found: Result<Place, Refusal>, wanted: Result<Place, Refusal>) -> b
     }
 }
 
+/// The telegram that is lent from an address, by its tags.
+fn lent_telegram(plan: &Plan, id: Id, pig: u32) -> Result<Place, Refusal> {
+    let (g, t, telegram) = plan.find_telegram(id, pig)?;
+    if telegram.identity() != id {
+        return Err(Refusal::HeaderDisagrees);
+    }
+    Ok(Place::Telegram(g, t))
+}
+
+/// The packet that is lent from an address, by its tags.
+fn lent_packet(plan: &Plan, id: Id, pig: u32, pkt: u32) -> Result<Place, Refusal> {
+    let (g, t, telegram, p, packet) = plan.find_packet(id, pig, pkt)?;
+    match telegram.packet(p) {
+        Some(same) if same.width() == packet.width() => Ok(Place::Packet(g, t, p)),
+        _ => Err(Refusal::PacketCut),
+    }
+}
+
+/// What stands at an address, by the calls that lend it where there are such.
+fn lent_at(plan: &Plan, address: Address) -> Result<Place, Refusal> {
+    match address {
+        Address::Group(id) => {
+            let g = plan.find_group(id)?;
+            Ok(Place::Group(g))
+        }
+        Address::Telegram(id, pig) => lent_telegram(plan, id, pig),
+        Address::Packet(id, pig, pkt) => lent_packet(plan, id, pig, pkt),
+        _ => plan.resolve(address),
+    }
+}
+
 fn check_rows(rt: &impl Abort, plan: &Plan, rows: &[Row]) {
     for (address, wanted) in rows.iter() {
         assert!(rt; is_answer(plan.resolve(*address), *wanted));
+        assert!(rt; is_answer(lent_at(plan, *address), *wanted));
     }
 }
 

@@ -27,6 +27,7 @@ impl Telegram {
     ) -> Result<u32, TelegramFault>
         ensures { SetsField tag var k value self.old result self.new }
     {
+        let bits = self.packed();
         let Some(packet) = self.bits_of(tag) else {
             return Err(TelegramFault::NoSuchPacket);
         };
@@ -40,7 +41,7 @@ impl Telegram {
         if value >> width != 0 {
             return Err(TelegramFault::ValueTooWide);
         }
-        let old = self.packed.number(at, width);
+        let old = bits.number(at, width);
         self.put_field(at, var, value);
         Ok(old)
     }
@@ -80,7 +81,7 @@ impl Telegram {
         ensures { self.new ≡ with_head var value self.old }
     {
         if let Some(place) = head_place(var) {
-            self.packed.put(place, var.width(), value);
+            self.contents.put(place, var.width(), value);
         }
     }
 
@@ -89,10 +90,11 @@ impl Telegram {
     pub fn flip_dir(&mut self, tag: PacketTag)
         ensures { self.new ≡ with_changed tag turned self.old }
     {
+        let bits = self.packed();
         let Some(packet) = self.bits_of(tag) else {
             return;
         };
-        let dir = self.packed.number(packet + 8, 2);
+        let dir = bits.number(packet + 8, 2);
         if dir < 2 {
             self.put_field(packet + 8, Var::QDir, 1 - dir);
         }
@@ -103,11 +105,12 @@ impl Telegram {
     pub fn flip_link(&mut self, tag: PacketTag, k: u32)
         ensures { self.new ≡ with_changed tag (flipped k) self.old }
     {
+        let bits = self.packed();
         let Some(packet) = self.bits_of(tag) else {
             return;
         };
         if let Some(at) = self.place_in(packet, Var::QLinkorientation, k) {
-            let old = self.packed.number(at, 1);
+            let old = bits.number(at, 1);
             self.put_field(at, Var::QLinkorientation, 1 - old);
         }
     }
@@ -133,6 +136,6 @@ impl Telegram {
         requires fits { value < 2 ^ width_of var }
         ensures { (tag : Tag) (k : ℕ) → place_from 50 tag (var, k) self.old.packets ≡ Some at → self.new ≡ with_field tag var k value self.old }
     {
-        self.packed.put(at, var.width(), value);
+        self.contents.put(at, var.width(), value);
     }
 }

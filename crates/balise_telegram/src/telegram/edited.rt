@@ -1,6 +1,6 @@
 //! What a telegram keeps besides its bits once its packets were edited.
 
-ghost use Rattle.std.specs.Prelude.{◌≡◌, ◌<◌, ◌+◌, ◌^◌, IfOk, IfSome, IsOkUnless, OnErr, length, option_map, slice_get, Option, None};
+ghost use Rattle.std.specs.Prelude.{◌≡◌, ◌<◌, ◌+◌, ◌^◌, IfOk, IfSome, IsOkUnless, length, option_map, slice_get, None};
 ghost use Rattle.std.specs.List.{position};
 ghost use Rattle.balise_rules.specs.Tags.{same_tag};
 ghost use Rattle.balise_rules.specs.Telegram.{TaggedFrom, Telegram};
@@ -10,7 +10,7 @@ ghost use Rattle.balise_telegram.specs.declared.telegram.walking.Place.{Place};
 use crate::PacketTag;
 use crate::fault::TelegramFault;
 use crate::telegram::walking::{Place, ends, walk};
-use balise_bits::Bits;
+use balise_layout::Bits;
 use std::alloc::Global;
 
 /// The tags of a telegram's packets in order, its ground, which are the bits that it shows where no packet stands, and
@@ -42,14 +42,14 @@ impl Edited {
     }
 
     /// The same once more.
-    pub(crate) fn copy(&self, alloc: Global) -> Result<Box<Edited>, TelegramFault>
-        ensures ok { IfOk result (λ e. (e.value.tags.items ≡ self.now.tags.items) × (e.value.ground ≡ self.now.ground) × (e.value.used ≡ self.now.used)) }
+    pub(crate) fn copy(&self, alloc: Global) -> Result<Edited, TelegramFault>
+        ensures ok { IfOk result (λ e. (e.tags.items ≡ self.now.tags.items) × (e.ground ≡ self.now.ground) × (e.used ≡ self.now.used)) }
         ensures fault { IsOkUnless result TelegramFault.OutOfMemory }
     {
         let tags = Vec::from_slice(alloc, self.tags.as_slice())?;
         let ground = self.ground.copy()?;
         let used = self.used;
-        Ok(Box::new(alloc, Edited { tags, ground, used })?)
+        Ok(Edited { tags, ground, used })
     }
 }
 
@@ -83,28 +83,11 @@ pub(crate) fn tag_read(bits: &Bits, place: Place) -> Option<PacketTag>
     Some(PacketTag::Base(place.index as u32))
 }
 
-/// Tags and ground of bits: those that are kept, or as the bits are read.
-#[inline]
-pub(crate) fn edited_or_read(
-    kept: Option<Box<Edited>>,
-    bits: &Bits,
-) -> Result<Box<Edited>, TelegramFault>
-    requires { (y : Telegram) × StandsFor bits.now kept y }
-    ensures ok { IfOk result (λ e. (y : Telegram) → StandsFor bits.now kept y → IsOver e.value y) }
-    ensures none { OnErr result (kept ≡ None) }
-    ensures fault { IsOkUnless result TelegramFault.OutOfMemory }
-{
-    match kept {
-        Some(edited) => Ok(edited),
-        None => edited_read(bits),
-    }
-}
-
-// Tags and ground of bits as they are read.
+/// Tags and ground of bits as they are read.
 #[inline(never)]
-fn edited_read(bits: &Bits) -> Result<Box<Edited>, TelegramFault>
+pub(crate) fn edited_read(bits: &Bits) -> Result<Edited, TelegramFault>
     requires { (y : Telegram) × StandsFor bits.now None y }
-    ensures ok { IfOk result (λ e. (y : Telegram) → StandsFor bits.now None y → IsOver e.value y) }
+    ensures ok { IfOk result (λ e. (y : Telegram) → StandsFor bits.now None y → IsOver e y) }
     ensures fault { IsOkUnless result TelegramFault.OutOfMemory }
 {
     let alloc = bits.allocator();
@@ -116,5 +99,5 @@ fn edited_read(bits: &Bits) -> Result<Box<Edited>, TelegramFault>
     let mut ground = bits.copy()?;
     let used = end.at + 8;
     ground.put_ones(0, used);
-    Ok(Box::new(alloc, Edited { tags, ground, used })?)
+    Ok(Edited { tags, ground, used })
 }

@@ -16,10 +16,10 @@ ghost use Rattle.balise_telegram.specs.declared.telegram.walking.Place.{Place};
 use crate::PacketTag;
 use crate::fault::TelegramFault;
 use crate::telegram::Telegram;
-use crate::telegram::edited::{Edited, edited_or_read};
+use crate::telegram::contents::{Contents, EditedBits};
+use crate::telegram::edited::Edited;
 use crate::telegram::walking::{Place, first};
-use balise_bits::Bits;
-use balise_layout::Packet;
+use balise_layout::{Bits, Packet};
 
 impl Telegram {
     /// How many bits of padding it shows, which is the room for further packets.
@@ -27,7 +27,7 @@ impl Telegram {
         ensures room { result ≡ room self.now }
         ensures fits { used self.now.packets ≤ length self.now.padding }
     {
-        self.packed.len() - self.used()
+        self.packed().len() - self.used()
     }
 
     /// Takes the packet with this tag out, and answers it and the tag of its next neighbour.
@@ -44,16 +44,10 @@ impl Telegram {
         let next = self.tag_at(after);
         let packet = lent.to_packet()?;
         let used = self.end().at + 8;
-        let kept = self.edited.take();
-        let mut edited = edited_or_read(kept, &self.packed)?;
-        cut_out(
-            &mut self.packed,
-            &mut edited,
-            place,
-            after.at - place.at,
-            used,
-        );
-        self.edited = Some(edited);
+        let mut edited = self.contents.take_edited()?;
+        let EditedBits { packed, kept } = &mut *edited;
+        cut_out(packed, kept, place, after.at - place.at, used);
+        self.contents = Contents::Edited(edited);
         Ok((packet, next))
     }
 
@@ -150,19 +144,10 @@ impl Telegram {
         let next = self.tag_at(after);
         let packet = self.lent(from).to_packet()?;
         let used = self.end().at + 8;
-        let kept = self.edited.take();
-        let mut edited = edited_or_read(kept, &self.packed)?;
-        move_between(
-            &mut self.packed,
-            &mut edited,
-            from,
-            after,
-            to,
-            used,
-            tag,
-            &packet,
-        );
-        self.edited = Some(edited);
+        let mut edited = self.contents.take_edited()?;
+        let EditedBits { packed, kept } = &mut *edited;
+        move_between(packed, kept, from, after, to, used, tag, &packet);
+        self.contents = Contents::Edited(edited);
         Ok(next)
     }
 
@@ -182,16 +167,16 @@ impl Telegram {
             return Err((TelegramFault::NoSuchPacket, packet));
         };
         let used = self.end().at + 8;
-        if self.packed.len() - used < packet.width() {
+        if self.packed().len() - used < packet.width() {
             return Err((TelegramFault::NoRoom, packet));
         }
-        let kept = self.edited.take();
-        let mut edited = match edited_or_read(kept, &self.packed) {
+        let mut edited = match self.contents.take_edited() {
             Ok(edited) => edited,
             Err(fault) => return Err((fault, packet)),
         };
-        let done = put_between(&mut self.packed, &mut edited, place, used, tag, &packet);
-        self.edited = Some(edited);
+        let EditedBits { packed, kept } = &mut *edited;
+        let done = put_between(packed, kept, place, used, tag, &packet);
+        self.contents = Contents::Edited(edited);
         match done {
             Ok(()) => Ok(()),
             Err(fault) => Err((fault, packet)),

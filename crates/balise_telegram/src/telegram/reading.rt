@@ -9,8 +9,8 @@ ghost use Rattle.balise_telegram.specs.Faults.{refusal_of};
 use crate::fault::TelegramFault;
 use crate::header::Header;
 use crate::telegram::Telegram;
-use balise_bits::Bits;
-use balise_layout::Packet;
+use crate::telegram::contents::Contents;
+use balise_layout::{Bits, Packet};
 
 impl Telegram {
     /// The telegram that these bits are, its packets tagged `Base` by their places, from 0. Takes no memory.
@@ -30,8 +30,7 @@ impl Telegram {
         }
         check_packets(&bits, Header::version_in(&bits))?;
         Ok(Telegram {
-            packed: bits,
-            edited: None,
+            contents: Contents::Read(bits),
         })
     }
 
@@ -54,19 +53,18 @@ fn check_packets(bits: &Bits, version: u32) -> Result<(), TelegramFault>
 {
     let mut at = 50;
     'packets: loop {
-        if bits.len() - at < 8 {
-            return Err(TelegramFault::NoEnd);
-        }
-        let number = bits.number(at, 8);
-        if number == 255 {
-            return Ok(());
-        }
-        if number == 0 {
-            return Err(TelegramFault::PacketZero);
-        }
+        // It reads the number too. So packet 255, which is none, is looked for only where it finds a fault.
         let end = match Packet::check(bits, at, version) {
             Ok(end) => end,
-            Err(fault) => return Err(TelegramFault::from(fault)),
+            Err(fault) => {
+                if bits.len() - at < 8 {
+                    return Err(TelegramFault::NoEnd);
+                }
+                if bits.number(at, 8) == 255 {
+                    return Ok(());
+                }
+                return Err(TelegramFault::from(fault));
+            }
         };
         at = end;
     }

@@ -4,7 +4,7 @@ ghost use Rattle.std.specs.Prelude.{◌≡◌, ◌≤◌, ◌<◌, ◌+◌, leng
 ghost use Rattle.balise_rules.specs.Telegram.{used, Telegram};
 ghost use Rattle.balise_telegram.specs.Shown.{IsPlace, IsShown, Passes};
 
-use balise_bits::Bits;
+use balise_layout::Bits;
 
 /// A place before a packet, or before packet 255: how many packets stand before it, and the bit at which it is.
 #[derive(Clone, Copy)]

@@ -38,7 +38,7 @@ returns-in-Err-read-clause-reads g c =
     let p = plan_phase c.lines.plan in
     let took = took_line _ _ c.lines.lines c.next.new.lines (g.R.Read.remaining c.lines.reader.inner) (g.R.Read.remaining c.next.new.reader.inner) c.in-Ok-Line.field-0-is c.in-Ok-Line.ensures.took in
     λ flags had old now writes go.
-    line_out flags had old now p _ _ _ _ (c.lines.invariant.2 flags had old now go) _ took c.in-Ok-Line.ensures.over (plan_reading c.lines.plan.place c.lines.plan.plan) c.in-Err-read.fault c.in-Err-read.ensures.fault
+    line_out flags had old now p _ _ _ _ (c.lines.invariant.2 flags had old now go) _ took c.in-Ok-Line.ensures.over (plan_reading c.lines.plan.stage c.lines.plan.plan) c.in-Err-read.fault c.in-Err-read.ensures.fault
     (none_of_line flags p (number_of c.lines.lines) (line_of c.next.new.lines) now (subst (λ (t : Text). LineMayRunOut p (is_telegram (plan_line_of t))) c.line.ensures c.in-Err-read.ensures.takes))
     c.args.reader.now.failed c.next.new.reader.failed writes (c.in-Ok-Line.ensures.unfailed ∙ c.lines.invariant.0)
 
@@ -49,7 +49,7 @@ returns-in-Ok-Some-clause-reads g c =
     let took = took_line _ _ c.lines.lines c.next.new.lines (g.R.Read.remaining c.lines.reader.inner) (g.R.Read.remaining c.next.new.reader.inner) c.in-Ok-Line.field-0-is c.in-Ok-Line.ensures.took in
     let read = read_here p c.number-number.result (number_of c.lines.lines) c.line.result.now (line_of c.next.new.lines) q c.number-number.ensures c.line.ensures (c.in-Ok-Some.ensures.ok ∙ ap (plan_read c.read.new.self) c.in-Ok-Some.field-0-is) in (
       c.in-Ok-Line.ensures.unfailed ∙ c.lines.invariant.0,
-      λ flags had old now go. line_read flags had old now p _ _ _ _ (c.lines.invariant.2 flags had old now go) _ took c.in-Ok-Line.ensures.over (plan_reading c.lines.plan.place c.lines.plan.plan) q read,
+      λ flags had old now go. line_read flags had old now p _ _ _ _ (c.lines.invariant.2 flags had old now go) _ took c.in-Ok-Line.ensures.over (plan_reading c.lines.plan.stage c.lines.plan.plan) q read,
     )
 
 pub lines-preserved : goal.lines-preserved
@@ -59,6 +59,6 @@ lines-preserved g c =
       c.in-Ok-Line.ensures.unfailed ∙ c.lines.invariant.0,
       c.in-Ok-Line.ensures.over,
       λ flags had old now go.
-          line_read flags had old now p _ _ _ _ (c.lines.invariant.2 flags had old now go) _ took c.in-Ok-Line.ensures.over (plan_reading c.lines.plan.place c.lines.plan.plan) (plan_read c.read.new.self None)
+          line_read flags had old now p _ _ _ _ (c.lines.invariant.2 flags had old now go) _ took c.in-Ok-Line.ensures.over (plan_reading c.lines.plan.stage c.lines.plan.plan) (plan_read c.read.new.self None)
           (read_here p c.number-number.result (number_of c.lines.lines) c.line.result.now (line_of c.next.new.lines) (plan_read c.read.new.self None) c.number-number.ensures c.line.ensures (c.in-Ok-None.ensures.ok ∙ ap (plan_read c.read.new.self) c.in-Ok-None.field-0-is)),
     )

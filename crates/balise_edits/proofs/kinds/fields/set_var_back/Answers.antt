@@ -1,6 +1,6 @@
 use Rattle.std.proofs.Common.{◌≡◌, ◌∙◌, inl, inr, refl, ap}
 use Rattle.balise_rules.specs.Doing.{done}
-use Rattle.balise_rules.specs.Edits.{SetVar}
+use Rattle.balise_rules.specs.declared.tagged_edit.TaggedEdit.TheVariants.{SetVar}
 use Rattle.balise_edits.specs.Standing.{changed_to}
 use Rattle.balise_edits.proofs.Bare.{back_of, bare_last}
 use Rattle.balise_edits.proofs.TakingBack.{var_free}

@@ -1,6 +1,6 @@
 use Rattle.std.proofs.Common.{◌≡◌, ◌∙◌, None, inl, inr, refl, ap, sym}
 use Rattle.balise_rules.specs.Doing.{refusal}
-use Rattle.balise_rules.specs.Edits.{AddGroup}
+use Rattle.balise_rules.specs.declared.tagged_edit.TaggedEdit.TheVariants.{AddGroup}
 use Rattle.balise_rules.specs.Plan.{read_group}
 use Rattle.balise_edits.specs.Edits.{edit_of}
 use Rattle.balise_edits.proofs.Standing.{next_free}

@@ -2,7 +2,7 @@ use Rattle.std.proofs.Common.{◌≡◌, ◌∙◌, None, Option, Some, subst, s
 use Rattle.balise_rules.specs.declared.refusal.Refusal.{Refusal}
 use Rattle.balise_rules.specs.declared.tag.Tag.TheVariants.{Fresh}
 use Rattle.balise_rules.specs.Doing.{refusal}
-use Rattle.balise_rules.specs.Edits.{AddGroup, DropGroup}
+use Rattle.balise_rules.specs.declared.tagged_edit.TaggedEdit.TheVariants.{AddGroup, DropGroup}
 use Rattle.balise_edits.proofs.Bare.{asks_of}
 use Rattle.balise_edits.proofs.Standing.{last_free}
 use Rattle.balise_edits.proofs.kinds.groups.add_back.Goals as goal

@@ -1,6 +1,7 @@
 use Rattle.std.proofs.Common.{◌≡◌, ◌∙◌, None, inl, inr, refl, ap, subst, sym}
 use Rattle.balise_rules.specs.Doing.{refusal}
-use Rattle.balise_rules.specs.Edits.{Renumber, effect}
+use Rattle.balise_rules.specs.Edits.{effect}
+use Rattle.balise_rules.specs.declared.tagged_edit.TaggedEdit.TheVariants.{Renumber}
 use Rattle.balise_rules.specs.Notes.{noted}
 use Rattle.balise_edits.specs.Standing.{changed_to, IsLast}
 use Rattle.balise_edits.proofs.Bare.{asks_of, back_of, bare_last}

@@ -1,7 +1,7 @@
 use Rattle.std.proofs.Common.{◌≡◌, None, inl, inr, refl, subst, sym}
 use Rattle.balise_rules.specs.declared.tag.Tag.TheVariants.{Fresh}
 use Rattle.balise_rules.specs.Doing.{refusal}
-use Rattle.balise_rules.specs.Edits.{InsertPacket, DeletePacket}
+use Rattle.balise_rules.specs.declared.tagged_edit.TaggedEdit.TheVariants.{InsertPacket, DeletePacket}
 use Rattle.balise_edits.proofs.Bare.{asks_of}
 use Rattle.balise_edits.proofs.Standing.{last_free}
 use Rattle.balise_edits.proofs.kinds.packets.insert_back.Goals as goal

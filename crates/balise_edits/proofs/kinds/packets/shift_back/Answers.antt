@@ -1,5 +1,5 @@
 use Rattle.std.proofs.Common.{◌≡◌, ◌∙◌, None, inl, inr, refl, ap, subst, sym}
-use Rattle.balise_rules.specs.Edits.{MovePacket}
+use Rattle.balise_rules.specs.declared.tagged_edit.TaggedEdit.TheVariants.{MovePacket}
 use Rattle.balise_index.specs.declared.spot.Spot.TheVariants.{Before}
 use Rattle.balise_plan.specs.Spots.{shift_refusal}
 use Rattle.balise_edits.proofs.Bare.{asks_of}

@@ -1,5 +1,6 @@
 use Rattle.std.proofs.Common.{◌≡◌, ◌∙◌, refl, ap, subst}
-use Rattle.balise_rules.specs.Edits.{TurnGroup, effect}
+use Rattle.balise_rules.specs.Edits.{effect}
+use Rattle.balise_rules.specs.declared.tagged_edit.TaggedEdit.TheVariants.{TurnGroup}
 use Rattle.balise_rules.specs.Notes.{noted}
 use Rattle.balise_edits.specs.Standing.{changed_to, IsLast}
 use Rattle.balise_edits.proofs.Bare.{back_of, bare_last}

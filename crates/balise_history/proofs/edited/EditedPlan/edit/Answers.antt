@@ -10,9 +10,6 @@ use Rattle.balise_history.proofs.Answering.{view, added-one, edit-accepts}
 use Rattle.balise_edit_laws.proofs.ReadyCommands.{command_spelt}
 use Rattle.balise_history.proofs.edited.EditedPlan.edit.Goals as goal
 
-pub edit_asked-requires : goal.edit_asked-requires
-edit_asked-requires c = (plan-made (back_along c.self.inside.history.standing c.self.inside.plan.groups) c.self.inside.plan.groups c.self.inside.history.standing c.self.inside.history.stack c.self.inside.next c.self.invariant).0
-
 pub apply-requires-clause-new : goal.apply-requires-clause-new
 apply-requires-clause-new c = (plan-made (back_along c.self.inside.history.standing c.self.inside.plan.groups) c.self.inside.plan.groups c.self.inside.history.standing c.self.inside.history.stack c.self.inside.next c.self.invariant).1 c.self.inside.next (omega arith)
 

@@ -2,8 +2,7 @@ use Rattle.std.proofs.Common.{◌≡◌, ◌∙◌, true, false, cond, [], ◌�
 use Rattle.std.specs.Ordering.{is_eq}
 use Rattle.balise_index.specs.LinkSet.{places_held}
 use Rattle.balise_index.specs.NarrowPlace.{wide_place}
-use Rattle.balise_index.specs.Places.{is_place}
-use Rattle.balise_index.specs.Places.{among}
+use Rattle.balise_index.specs.Places.{Links, among, is_place}
 use Rattle.balise_index.proofs.places.Ranked.{keeps-one, ordered-none, takes-one}
 use Rattle.balise_index.proofs.links.Links.remove.Goals as goal
 use Rattle.balise_index.proofs.links.Links.remove.Goals.{in-Few-1, in-Many-1, in-Empty-1}
@@ -35,4 +34,6 @@ returns-else-is_eq c v =
 pub returns-in-Many : goal.returns-in-Many
 returns-in-Many c v =
     let old = ap (λ l. l.keys) (sym c.self.view_is) ∙ ap (λ h. (places_held h).keys) c.in-Many.is in
-    c.remove-in-Many.ensures.updates.0 v ∙ ap (λ l. cond (is_place c.args.place.now v) false (among v l)) (sym old)
+    c.remove-in-Many.ensures.updates.0 v
+    ∙ ap (λ (s : Links). cond (is_place c.args.place.now v) false (among v s.keys)) c.deref_mut-in-Many.ensures.value
+    ∙ ap (λ l. cond (is_place c.args.place.now v) false (among v l)) (sym old)

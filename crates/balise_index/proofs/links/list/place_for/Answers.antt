@@ -10,5 +10,5 @@ returns-in-Some-clause-rank c = first-some c.args.place (wide_places c.args.list
 
 pub returns-in-None-clause-rank : goal.returns-in-None-clause-rank
 returns-in-None-clause-rank c =
-    c.len.ensures ∙ c.args.list.now.ok.0 ∙ sym (length-map c.args.list.now.items wide_place)
+    c.len-in-None.ensures ∙ c.args.list.now.ok.0 ∙ sym (length-map c.args.list.now.items wide_place)
     ∙ first-none c.args.place (wide_places c.args.list.now.items) (c.in-None.ensures ∙ wide-position c.args.place c.args.list.now.items)

@@ -1,18 +1,23 @@
-use Rattle.std.proofs.Common.{◌≡◌, arith, ap, sym, subst, ℕ, List}
-use Rattle.balise_index.specs.Blocks.{RoomIn}
-use Rattle.balise_index.specs.declared.tag_list.Block.{Block}
-use Rattle.balise_index.proofs.blocks.Laid.{found}
-use Rattle.balise_index.proofs.tag_list.TagList.insert.Goals.{then-len-ge-MOST, else-len-ge-MOST}
+use Rattle.std.proofs.Common.{◌∙◌, sym, ap, subst, insert}
+use Rattle.indexmap.proofs.SetLemmas.{map-insert}
+use Rattle.balise_index.specs.TagCode.{tag_of, tags_of, AreKnown}
+use Rattle.balise_index.proofs.tags.Known.{known-insert, known-more, tags-kept}
 use Rattle.balise_index.proofs.tag_list.TagList.insert.Goals as goal
 
-room : (b c : ℕ) (xs ys : List Block) → b ≡ c → xs ≡ ys → RoomIn c ys → RoomIn b xs
-room b c xs ys e f h = subst (λ l. RoomIn b l) (sym f) (subst (λ k. RoomIn k ys) (sym e) h)
+pub invariant_of-self : goal.invariant_of-self
+invariant_of-self c =
+    let codes = c.self.inside.codes.items in
+    let new = c.make_code-code.new.rare.items in
+    let known = known-more c.self.inside.rare.items new codes c.make_code-code.ensures.more c.self.invariant.0 in
+    (subst (AreKnown new) (sym c.insert.ensures) (known-insert new codes c.args.i c.make_code-code.result c.make_code-code.ensures.known known), c.make_code-code.ensures.few, c.make_code-code.ensures.one)
 
-pub put_in-requires-clause-room : goal.put_in-requires-clause-room
-put_in-requires-clause-room c =
-    elim c.if-len-ge-MOST.branch [
-      | then-len-ge-MOST w ↦ room _ _ _ _ w.b-is (ap (λ s. s.blocks.items) w.self-inside-is) w.split-b.ensures.room
-      | else-len-ge-MOST w ↦
-          let f = found c.block_of-b.result c.self.inside.blocks.items c.index.result.now c.self.invariant.0 c.block_of-b.ensures.within c.index.ensures in
-          room _ _ _ _ w.b-is (ap (λ s. s.blocks.items) w.self-inside-is) (omega (arith, f.next, w.if-len-ge-MOST.false, c.len-2.ensures, c.index.result.now.tags.ok.0))
-    ]
+pub returns-clause-items : goal.returns-clause-items
+returns-clause-items c =
+    let codes = c.self.inside.codes.items in
+    let old = c.self.inside.rare.items in
+    let new = c.make_code-code.new.rare.items in
+    ap (tags_of new) c.insert.ensures
+    ∙ map-insert (tag_of new) codes c.args.i c.make_code-code.result
+    ∙ ap (λ l. insert l c.args.i (tag_of new c.make_code-code.result)) (tags-kept old new codes c.make_code-code.ensures.kept c.self.invariant.0)
+    ∙ ap (insert (tags_of old codes) c.args.i) c.make_code-code.ensures.tag
+    ∙ ap (λ v. insert v.items c.args.i c.args.tag) c.self.view_is

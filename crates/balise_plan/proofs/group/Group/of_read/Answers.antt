@@ -4,6 +4,9 @@ use Rattle.balise_rules.specs.Plan.{agree_from}
 use Rattle.balise_plan.proofs.groups.Reading.{few_read, read_sound, stands}
 use Rattle.balise_plan.proofs.group.Group.of_read.Goals as goal
 
+pub identity-id-requires : goal.identity-id-requires
+identity-id-requires c = let few = few_read c.args.telegrams c.requires in omega (arith, few)
+
 pub agree-requires : goal.agree-requires
 agree-requires c = let few = few_read c.args.telegrams c.requires in omega (arith, few)
 

@@ -1,5 +1,5 @@
-use Rattle.std.proofs.Common.{◌∙◌, length, Err, ap, sym, arith}
-use Rattle.balise_plan.proofs.naming.Moved.{no_length}
+use Rattle.std.proofs.Common.{◌∙◌, Err, ap, sym}
+use Rattle.balise_index.proofs.names.Written.{no_length}
 use Rattle.balise_plan.proofs.groups.Reading.{begins, reads_on, fails, wrong_size, right_size, were_read, read_so, so_answered, so_refused}
 use Rattle.balise_plan.proofs.group.Group.read.Goals as goal
 
@@ -13,28 +13,28 @@ loop-bits-init c =
 
 pub returns-in-Err-clause-fault : goal.returns-in-Err-clause-fault
 returns-in-Err-clause-fault c = λ _.
-    fails c.args.telegrams.items c.loop-bits.read c.loop-bits.bits-iterator.rest.items c.next.new.self.rest.items c.in-Some.bits c.loop-bits.tag c.refusal.result c.loop-bits.invariant c.in-Some.ensures.steps.0 (c.in-Err.ensures.fault ∙ ap Err (sym c.refusal.ensures))
+    fails c.args.telegrams.items c.loop-bits.read c.loop-bits.bits-iterator.rest.items c.next.new.self.rest.items c.in-Some.bits c.refusal.result c.loop-bits.invariant c.in-Some.ensures.steps.0 (c.in-Err.ensures.fault ∙ ap Err (sym c.refusal.ensures))
 
-pub overflow_add-tag : goal.overflow_add-tag
-overflow_add-tag c = let i = c.loop-bits.invariant in omega (arith, i.few, i.counted, ap length c.in-Some.ensures.steps.0)
+pub push-requires : goal.push-requires
+push-requires c = c.loop-bits.invariant.in_order
 
 pub loop-bits-preserved : goal.loop-bits-preserved
 loop-bits-preserved c =
-    reads_on c.args.telegrams.items c.loop-bits.read c.push.new.self c.loop-bits.bits-iterator.rest.items c.next.new.self.rest.items c.in-Some.bits c.loop-bits.tag c.in-Ok.telegram c.loop-bits.invariant c.in-Some.ensures.steps.0 c.in-Ok.ensures.ok c.in_ok-push.ensures.ok
+    reads_on c.args.telegrams.items c.loop-bits.read c.push.new.self c.loop-bits.bits-iterator.rest.items c.next.new.self.rest.items c.in-Some.bits c.in-Ok.telegram c.loop-bits.invariant c.in-Some.ensures.steps.0 c.in-Ok.ensures.ok c.in_ok-push.ensures.ok
 
 pub of_read-requires : goal.of_read-requires
 of_read-requires c =
     let ys = c.loop-bits.read in
-    were_read c.args.telegrams.items ys c.loop-bits.bits-iterator.rest.items c.loop-bits.tag c.loop-bits.invariant (no_length c.loop-bits.bits-iterator.rest.items (sym c.loop-bits.bits-iterator.rest.ok.0 ∙ c.in-None.ensures.steps.0))
+    were_read c.args.telegrams.items ys c.loop-bits.bits-iterator.rest.items c.loop-bits.invariant (no_length c.loop-bits.bits-iterator.rest.items (sym c.loop-bits.bits-iterator.rest.ok.0 ∙ c.in-None.ensures.steps.0))
 
 pub returns-clause-ok : goal.returns-clause-ok
 returns-clause-ok c =
     let ys = c.loop-bits.read in
     so_answered c.args.telegrams.items c.of_read.result _ c.of_read.ensures.group
-    (read_so c.args.telegrams.items ys c.loop-bits.bits-iterator.rest.items c.loop-bits.tag c.loop-bits.invariant (no_length c.loop-bits.bits-iterator.rest.items (sym c.loop-bits.bits-iterator.rest.ok.0 ∙ c.in-None.ensures.steps.0)))
+    (read_so c.args.telegrams.items ys c.loop-bits.bits-iterator.rest.items c.loop-bits.invariant (no_length c.loop-bits.bits-iterator.rest.items (sym c.loop-bits.bits-iterator.rest.ok.0 ∙ c.in-None.ensures.steps.0)))
 
 pub returns-clause-fault : goal.returns-clause-fault
 returns-clause-fault c =
     let ys = c.loop-bits.read in
     so_refused c.args.telegrams.items c.of_read.result _ c.of_read.ensures.group
-    (read_so c.args.telegrams.items ys c.loop-bits.bits-iterator.rest.items c.loop-bits.tag c.loop-bits.invariant (no_length c.loop-bits.bits-iterator.rest.items (sym c.loop-bits.bits-iterator.rest.ok.0 ∙ c.in-None.ensures.steps.0)))
+    (read_so c.args.telegrams.items ys c.loop-bits.bits-iterator.rest.items c.loop-bits.invariant (no_length c.loop-bits.bits-iterator.rest.items (sym c.loop-bits.bits-iterator.rest.ok.0 ∙ c.in-None.ensures.steps.0)))

@@ -1,9 +1,15 @@
+use Rattle.std.proofs.Common.{arith}
+use Rattle.std.proofs.lemmas.List.{at_drop_all}
+use Rattle.balise_plan.specs.GroupLinks.{links_in_group}
 use Rattle.balise_plan.proofs.naming.GroupLists.{on_err}
-use Rattle.balise_plan.proofs.naming.Parts.{adding_on, adding_stopped, group_rest}
+use Rattle.balise_plan.proofs.naming.Parts.{adding_on, all_added, adding_stopped, group_rest}
 use Rattle.balise_plan.proofs.links.group.add_group.Goals as goal
 
 pub loop-i-preserved : goal.loop-i-preserved
-loop-i-preserved c = adding_on _ _ c.add_telegram.new.names c.loop-i.invariant (group_rest c.args.g c.args.group.now c.loop-i.i c.in-Some.t c.in-Some.telegram.now c.in-Some.ensures) c.in_ok-add_telegram.ensures.added c.in_ok-add_telegram.ensures.full
+loop-i-preserved c = adding_on _ _ c.add_telegram.new.index c.loop-i.invariant (group_rest c.args.g c.args.group.now c.loop-i.i c.in-Some.t c.in-Some.telegram.now c.in-Some.ensures) c.in_ok-add_telegram.ensures.added c.in_ok-add_telegram.ensures.tags
 
 pub returns-in_err-add_telegram-clause-others : goal.returns-in_err-add_telegram-clause-others
-returns-in_err-add_telegram-clause-others c = on_err c.from_residual.result (adding_stopped _ _ c.add_telegram.new.names c.loop-i.invariant (group_rest c.args.g c.args.group.now c.loop-i.i c.in-Some.t c.in-Some.telegram.now c.in-Some.ensures) c.in_err-add_telegram.ensures.others)
+returns-in_err-add_telegram-clause-others c = on_err c.from_residual.result (adding_stopped _ _ c.add_telegram.new.index c.loop-i.invariant (group_rest c.args.g c.args.group.now c.loop-i.i c.in-Some.t c.in-Some.telegram.now c.in-Some.ensures) c.in_err-add_telegram.ensures.others)
+
+pub returns-clause-added : goal.returns-clause-added
+returns-clause-added c = all_added c.loop-i.invariant (at_drop_all (links_in_group c.args.g) c.args.group.now c.loop-i.i (omega (arith, c.loop-i-test.false, c.count-i-end.ensures)))

@@ -4,4 +4,4 @@ use Rattle.balise_plan.proofs.naming.Parts.{Adding}
 use Rattle.balise_plan.proofs.links.group.add_group.Given as goal
 
 abbrev pub invariant-loop-i : goal.invariant-loop-i
-invariant-loop-i l = Adding (links_in_group l.g l.group) (links_in_group l.g (drop l.i l.group)) l.initial.names l.names
+invariant-loop-i l = Adding (links_in_group l.g l.group) (links_in_group l.g (drop l.i l.group)) l.initial.index l.index

@@ -4,4 +4,4 @@ use Rattle.balise_plan.proofs.naming.Parts.{Forgetting}
 use Rattle.balise_plan.proofs.links.group.forget_group.Given as goal
 
 abbrev pub invariant-loop-i : goal.invariant-loop-i
-invariant-loop-i l = Forgetting (links_in_group l.g l.group) (links_in_group l.g (drop l.i l.group)) l.initial.names l.names
+invariant-loop-i l = Forgetting (links_in_group l.g l.group) (links_in_group l.g (drop l.i l.group)) l.initial.index l.index

@@ -1,24 +1,22 @@
-use Rattle.std.proofs.Common.{◌≡◌, ◌∙◌, ap, subst, arith}
+use Rattle.std.proofs.Common.{◌≡◌, ◌∙◌, ap, arith}
 use Rattle.balise_rules.specs.Packet.{width}
-use Rattle.balise_rules.specs.Telegram.{Telegram}
-use Rattle.balise_telegram.specs.Shown.{IsShown}
 use Rattle.balise_telegram.proofs.Walking.{few, next_below, shown_size}
 use Rattle.balise_telegram.proofs.telegram.Telegram.after_lent.Goals as goal
 
 pub overflow_add-result : goal.overflow_add-result
 overflow_add-result c =
-    let b = c.self.inside.packed in
+    let b = c.packed-packed.result.now in
     let y = c.args.self.now in
-    let s : IsShown b y = subst (λ (z : Telegram). IsShown b z) c.self.view_is c.self.invariant.shown in
+    let s = c.packed-packed.ensures in
     let most = few b y s in
     let below = c.requires.stands in
     omega (arith, most, below)
 
 pub overflow_add-result-2 : goal.overflow_add-result-2
 overflow_add-result-2 c =
-    let b = c.self.inside.packed in
+    let b = c.packed-packed.result.now in
     let y = c.args.self.now in
-    let s : IsShown b y = subst (λ (z : Telegram). IsShown b z) c.self.view_is c.self.invariant.shown in
+    let s = c.packed-packed.ensures in
     let z = next_below b y c.args.place.index c.args.place.at s c.requires.place.1 c.requires.stands in
     let size : c.width.result ≡ width z.packet.1 = c.width.ensures ∙ ap width (c.requires.lent z.packet z.is) in
     let most = (shown_size b y s).1 in
@@ -26,9 +24,9 @@ overflow_add-result-2 c =
 
 pub returns-clause-place : goal.returns-clause-place
 returns-clause-place c =
-    let b = c.self.inside.packed in
+    let b = c.packed-packed.result.now in
     let y = c.args.self.now in
-    let s : IsShown b y = subst (λ (z : Telegram). IsShown b z) c.self.view_is c.self.invariant.shown in
+    let s = c.packed-packed.ensures in
     let z = next_below b y c.args.place.index c.args.place.at s c.requires.place.1 c.requires.stands in
     let size : c.width.result ≡ width z.packet.1 = c.width.ensures ∙ ap width (c.requires.lent z.packet z.is) in
     (omega (arith, c.requires.stands), omega (arith, size, z.further, c.requires.place.1))

@@ -1,7 +1,4 @@
-use Rattle.std.proofs.Common.{sym, subst, arith}
-use Rattle.balise_rules.specs.Telegram.{Telegram}
-use Rattle.balise_rules.specs.Tagged.{Distinct}
-use Rattle.balise_rules.specs.Tags.{same_tag}
+use Rattle.std.proofs.Common.{sym, arith}
 use Rattle.balise_telegram.proofs.Tagging.{not_found}
 use Rattle.balise_telegram.proofs.Placing.{looked}
 use Rattle.balise_telegram.proofs.FieldPlaces.{no_place_there, place_there}
@@ -11,7 +8,7 @@ pub returns-in_default-clause-place : goal.returns-in_default-clause-place
 returns-in_default-clause-place c = sym (no_place_there c.args.tag 50 c.args.self.now.packets (not_found c.args.tag c.args.self.now.packets c.in_default.ensures.place))
 
 pub returns-in_default-clause-tags : goal.returns-in_default-clause-tags
-returns-in_default-clause-tags c = subst (λ (y : Telegram). Distinct same_tag y.packets) c.self.view_is c.self.invariant.shown.tags
+returns-in_default-clause-tags c = c.packed-packed.ensures.tags
 
 pub returns-clause-place : goal.returns-clause-place
 returns-clause-place c =
@@ -21,4 +18,4 @@ returns-clause-place c =
     sym (place_there c.args.tag 50 c.in-Some.place.at ps c.in-Some.place.index q.0 q.1 (omega (arith, far)))
 
 pub returns-clause-tags : goal.returns-clause-tags
-returns-clause-tags c = subst (λ (y : Telegram). Distinct same_tag y.packets) c.self.view_is c.self.invariant.shown.tags
+returns-clause-tags c = c.packed-packed.ensures.tags

@@ -1,10 +1,10 @@
 -- Q_DIR stands after 8 bits of every packet.
-use Rattle.std.proofs.Common.{◌≡◌, ◌∙◌, ◌-◌, ◌+◌, ℕ, ap, sym, subst, arith}
+use Rattle.std.proofs.Common.{◌≡◌, ◌∙◌, ◌-◌, ◌+◌, ℕ, ap, sym, arith}
 use Rattle.balise_rules.specs.declared.variable.Var.TheVariants.{QDir}
 use Rattle.balise_rules.specs.Edits.{exchanged}
 use Rattle.balise_rules.specs.Variables.{width_of}
 use Rattle.balise_rules.specs.Packet.{bits_of, value}
-use Rattle.balise_rules.specs.Telegram.{Telegram, version_of}
+use Rattle.balise_rules.specs.Telegram.{version_of}
 use Rattle.balise_layout.specs.Held.{with_field}
 use Rattle.balise_layout.specs.Setting.{turned}
 use Rattle.balise_layout.proofs.First.{spells_holds}
@@ -13,7 +13,6 @@ use Rattle.balise_telegram.proofs.PackedPlaces.{not_located}
 use Rattle.balise_telegram.proofs.PackedFields.{absent, its_value}
 use Rattle.balise_telegram.proofs.FieldPlaces.{dir_place, field_there, packet_within}
 use Rattle.balise_telegram.proofs.PackedChanges.{changed_alike, kept_as_is}
-use Rattle.balise_telegram.specs.Shown.{IsShown}
 use Rattle.balise_telegram.proofs.Walking.{shown_size}
 use Rattle.balise_telegram.proofs.telegram.Telegram.flip_dir.Goals as goal
 
@@ -22,43 +21,43 @@ returns-in_default c = absent c.args.tag turned c.args.self.now (not_located c.a
 
 pub overflow_add-packet : goal.overflow_add-packet
 overflow_add-packet c =
-    let b = c.self.inside.packed in
+    let b = c.packed-bits.result.now in
     let y = c.args.self.now in
     let e = sym c.in-Some.ensures.place in
-    let r : IsShown b y = subst (λ (x : Telegram). IsShown b x) c.self.view_is (c.self.invariant.shown) in
+    let r = c.packed-bits.ensures in
     omega (arith, packet_within b y c.args.tag c.in-Some.packet r e, (shown_size b y r).1)
 
 pub number-dir-requires-clause-within : goal.number-dir-requires-clause-within
 number-dir-requires-clause-within c =
-    let b = c.self.inside.packed in
+    let b = c.packed-bits.result.now in
     let y = c.args.self.now in
     let e = sym c.in-Some.ensures.place in
-    let r : IsShown b y = subst (λ (x : Telegram). IsShown b x) c.self.view_is (c.self.invariant.shown) in
+    let r = c.packed-bits.ensures in
     omega (arith, packet_within b y c.args.tag c.in-Some.packet r e)
 
 pub overflow_add-packet-then-dir-lt2 : goal.overflow_add-packet-then-dir-lt2
 overflow_add-packet-then-dir-lt2 c =
-    let b = c.self.inside.packed in
+    let b = c.packed-bits.result.now in
     let y = c.args.self.now in
     let e = sym c.in-Some.ensures.place in
-    let r : IsShown b y = subst (λ (x : Telegram). IsShown b x) c.self.view_is (c.self.invariant.shown) in
+    let r = c.packed-bits.ensures in
     omega (arith, packet_within b y c.args.tag c.in-Some.packet r e, (shown_size b y r).1)
 
 pub put_field-requires-clause-stands : goal.put_field-requires-clause-stands
 put_field-requires-clause-stands c =
-    let b = c.self.inside.packed in
+    let b = c.packed-bits.result.now in
     let y = c.args.self.now in
     let e = sym c.in-Some.ensures.place in
-    let r : IsShown b y = subst (λ (x : Telegram). IsShown b x) c.self.view_is (c.self.invariant.shown) in
+    let r = c.packed-bits.ensures in
     (c.args.tag, 0, dir_place b y c.args.tag c.in-Some.packet r e)
 
 pub returns-then-dir-lt2 : goal.returns-then-dir-lt2
 unfolding width_of
 returns-then-dir-lt2 c =
-    let b = c.self.inside.packed in
+    let b = c.packed-bits.result.now in
     let y = c.args.self.now in
     let e = sym c.in-Some.ensures.place in
-    let r : IsShown b y = subst (λ (x : Telegram). IsShown b x) c.self.view_is (c.self.invariant.shown) in
+    let r = c.packed-bits.ensures in
     let f = field_there b y c.args.tag QDir 0 c.in-Some.packet (c.in-Some.packet + 8) r e (dir_place b y c.args.tag c.in-Some.packet r e) in
     let dir : c.number-dir.result ≡ value QDir 0 f.packet.fields = c.number-dir.ensures ∙ sym (its_value b y c.args.tag QDir 0 (c.in-Some.packet + 8) f) in
     let new : 1 - c.number-dir.result ≡ exchanged 0 1 (value QDir 0 f.packet.fields) = sym (exchanged_low c.number-dir.result c.if-dir-lt2.true) ∙ ap (exchanged 0 1) dir in
@@ -68,10 +67,10 @@ returns-then-dir-lt2 c =
 pub returns-else-dir-lt2 : goal.returns-else-dir-lt2
 unfolding width_of
 returns-else-dir-lt2 c =
-    let b = c.self.inside.packed in
+    let b = c.packed-bits.result.now in
     let y = c.args.self.now in
     let e = sym c.in-Some.ensures.place in
-    let r : IsShown b y = subst (λ (x : Telegram). IsShown b x) c.self.view_is (c.self.invariant.shown) in
+    let r = c.packed-bits.ensures in
     let f = field_there b y c.args.tag QDir 0 c.in-Some.packet (c.in-Some.packet + 8) r e (dir_place b y c.args.tag c.in-Some.packet r e) in
     let p = f.packet in
     let holds = spells_holds (version_of y) (bits_of p) p f.spelt in

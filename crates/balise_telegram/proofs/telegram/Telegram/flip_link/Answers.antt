@@ -1,9 +1,8 @@
 -- The orientation is one bit.
-use Rattle.std.proofs.Common.{◌≡◌, ◌∙◌, ◌-◌, ℕ, drop, ap, sym, subst, arith}
+use Rattle.std.proofs.Common.{◌≡◌, ◌∙◌, ◌-◌, ℕ, drop, ap, sym, arith}
 use Rattle.balise_rules.specs.declared.variable.Var.TheVariants.{QLinkorientation}
 use Rattle.balise_rules.specs.Variables.{width_of}
 use Rattle.balise_rules.specs.Packet.{value}
-use Rattle.balise_rules.specs.Telegram.{Telegram}
 use Rattle.balise_layout.specs.Held.{with_field}
 use Rattle.balise_layout.specs.Setting.{flipped}
 use Rattle.balise_layout.proofs.Values.{small_bit, with_field-missing}
@@ -11,7 +10,6 @@ use Rattle.balise_telegram.proofs.PackedPlaces.{not_located}
 use Rattle.balise_telegram.proofs.PackedFields.{absent, found_there, its_value, none_stands}
 use Rattle.balise_telegram.proofs.FieldPlaces.{field_there}
 use Rattle.balise_telegram.proofs.PackedChanges.{changed_alike, kept_as_is}
-use Rattle.balise_telegram.specs.Shown.{IsShown}
 use Rattle.balise_telegram.proofs.telegram.Telegram.flip_link.Goals as goal
 
 pub returns-in_default : goal.returns-in_default
@@ -20,15 +18,15 @@ returns-in_default c = absent c.args.tag (flipped c.args.k) c.args.self.now (not
 pub number-old-requires-clause-within : goal.number-old-requires-clause-within
 unfolding width_of
 number-old-requires-clause-within c =
-    let b = c.self.inside.packed in
+    let b = c.packed-bits.result.now in
     let y = c.args.self.now in
     let e = sym c.in-Some.ensures.place in
-    let r : IsShown b y = subst (λ (x : Telegram). IsShown b x) c.self.view_is (c.self.invariant.shown) in
+    let r = c.packed-bits.ensures in
     let f = field_there b y c.args.tag QLinkorientation c.args.k c.in-Some.packet c.in-Some-place_in.at r e (sym (c.in-Some-place_in.ensures c.args.tag e)) in
     f.within
 
 pub overflow_sub-old : goal.overflow_sub-old
-overflow_sub-old c = omega (arith, c.number-old.ensures, small_bit (drop c.in-Some-place_in.at c.self.inside.packed))
+overflow_sub-old c = omega (arith, c.number-old.ensures, small_bit (drop c.in-Some-place_in.at c.packed-bits.result.now))
 
 pub put_field-requires-clause-stands : goal.put_field-requires-clause-stands
 put_field-requires-clause-stands c = (c.args.tag, c.args.k, sym (c.in-Some-place_in.ensures c.args.tag (sym c.in-Some.ensures.place)))
@@ -36,10 +34,10 @@ put_field-requires-clause-stands c = (c.args.tag, c.args.k, sym (c.in-Some-place
 pub returns-in-Some-place_in : goal.returns-in-Some-place_in
 unfolding width_of
 returns-in-Some-place_in c =
-    let b = c.self.inside.packed in
+    let b = c.packed-bits.result.now in
     let y = c.args.self.now in
     let e = sym c.in-Some.ensures.place in
-    let r : IsShown b y = subst (λ (x : Telegram). IsShown b x) c.self.view_is (c.self.invariant.shown) in
+    let r = c.packed-bits.ensures in
     let f = field_there b y c.args.tag QLinkorientation c.args.k c.in-Some.packet c.in-Some-place_in.at r e (sym (c.in-Some-place_in.ensures c.args.tag e)) in
     let old : c.number-old.result ≡ value QLinkorientation c.args.k f.packet.fields = c.number-old.ensures ∙ sym (its_value b y c.args.tag QLinkorientation c.args.k c.in-Some-place_in.at f) in
     c.put_field.ensures c.args.tag c.args.k (sym (c.in-Some-place_in.ensures c.args.tag (sym c.in-Some.ensures.place)))

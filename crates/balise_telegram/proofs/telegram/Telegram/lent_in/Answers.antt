@@ -1,25 +1,23 @@
-use Rattle.std.proofs.Common.{◌≡◌, ◌∙◌, subst, sym, ap}
-use Rattle.balise_rules.specs.Telegram.{Telegram}
+use Rattle.std.proofs.Common.{◌≡◌, ◌∙◌, sym, ap}
 use Rattle.balise_rules.specs.Packet.{Packet}
 use Rattle.balise_rules.specs.declared.tag.Tag.{Tag}
 use Rattle.balise_rules.proofs.Cases.{unsome}
-use Rattle.balise_telegram.specs.Shown.{IsShown}
 use Rattle.balise_telegram.proofs.Walking.{lent_at}
 use Rattle.balise_telegram.proofs.telegram.Telegram.lent_in.Goals as goal
 
 pub new-requires : goal.new-requires
 new-requires c =
-    let b = c.self.inside.packed in
+    let b = c.packed.result.now in
     let y = c.args.self.now in
-    let s : IsShown b y = subst (λ (z : Telegram). IsShown b z) c.self.view_is c.self.invariant.shown in
+    let s = c.packed.ensures in
     let t = lent_at b y c.args.place.index c.args.place.at c.args.version s c.requires.stands c.requires.place.1 c.requires.version in
     (t.0.1, t.1, t.3)
 
 pub returns : goal.returns
 returns c = λ x e.
-    let b = c.self.inside.packed in
+    let b = c.packed.result.now in
     let y = c.args.self.now in
-    let s : IsShown b y = subst (λ (z : Telegram). IsShown b z) c.self.view_is c.self.invariant.shown in
+    let s = c.packed.ensures in
     let t = lent_at b y c.args.place.index c.args.place.at c.args.version s c.requires.stands c.requires.place.1 c.requires.version in
     let same : t.0 ≡ x = unsome (sym t.2 ∙ e) in
     c.new.ensures t.0.1 t.1 t.3 ∙ ap (λ (q : Tag × Packet). q.1) same

@@ -7,12 +7,12 @@ use Rattle.balise_telegram.proofs.PackedFields.{packet_there}
 use Rattle.balise_telegram.proofs.FieldPlaces.{field_there}
 use Rattle.balise_telegram.proofs.FieldsSet.{field_set}
 use Rattle.balise_telegram.proofs.Seen.{is_again}
-use Rattle.balise_telegram.specs.Shown.{StandsFor, IsShown}
+use Rattle.balise_telegram.specs.Shown.{kept_of, packed_of, IsShown, Kept, StandsFor}
 use Rattle.balise_telegram.proofs.telegram.Telegram.put_field.Goals as goal
 
 pub put-requires-clause-within : goal.put-requires-clause-within
 put-requires-clause-within c =
-    let b = c.self.inside.packed in
+    let b = packed_of c.self.inside.contents in
     let y = c.args.self.now in
     let r : IsShown b y = subst (λ (x : Telegram). IsShown b x) c.self.view_is (c.self.invariant.shown) in
     let s = c.requires.stands in
@@ -22,20 +22,23 @@ put-requires-clause-within c =
 
 pub invariant_of-self : goal.invariant_of-self
 invariant_of-self c =
-    let b = c.self.inside.packed in
-    let k1 = c.self.inside.edited in
+    let b = packed_of c.self.inside.contents in
+    let k1 = kept_of c.self.inside.contents in
     let y = c.args.self.now in
-    let o : StandsFor b c.self.inside.edited y = subst (λ (x : Telegram). StandsFor b c.self.inside.edited x) c.self.view_is c.self.invariant in
+    let o : StandsFor b (kept_of c.self.inside.contents) y = subst (λ (x : Telegram). StandsFor b (kept_of c.self.inside.contents) x) c.self.view_is c.self.invariant in
     let s = c.requires.stands in
-    let new : c.put.new.self ≡ put_at c.args.at (bits (width_of c.args.var) c.args.value) b = c.put.ensures ∙ ap (λ (w : ℕ). put_at c.args.at (bits w c.args.value) b) c.width.ensures.width in
-    (is_again c.put.new.self k1 (with_field c.requires.stands.0 c.args.var s.1 c.args.value y) (subst (λ (l : List Bool). StandsFor l c.self.inside.edited (with_field c.requires.stands.0 c.args.var s.1 c.args.value y)) (sym new) (field_set b k1 y s.0 c.args.var s.1 c.args.value c.args.at o s.2 c.requires.free c.requires.fits))).0
+    let new : packed_of c.put.new.self ≡ put_at c.args.at (bits (width_of c.args.var) c.args.value) b = c.put.ensures.packed ∙ ap (λ (w : ℕ). put_at c.args.at (bits w c.args.value) b) c.width.ensures.width in
+    let z = with_field s.0 c.args.var s.1 c.args.value y in
+    let kept = subst (λ (l : Kept). StandsFor (put_at c.args.at (bits (width_of c.args.var) c.args.value) b) l z) (sym c.put.ensures.kept) (field_set b k1 y s.0 c.args.var s.1 c.args.value c.args.at o s.2 c.requires.free c.requires.fits) in
+    (is_again (packed_of c.put.new.self) (kept_of c.put.new.self) z (subst (λ (l : List Bool). StandsFor l (kept_of c.put.new.self) z) (sym new) kept)).0
 
 pub returns : goal.returns
 returns c = λ tag k e.
-    let b = c.self.inside.packed in
-    let k1 = c.self.inside.edited in
+    let b = packed_of c.self.inside.contents in
+    let k1 = kept_of c.self.inside.contents in
     let y = c.args.self.now in
-    let o : StandsFor b c.self.inside.edited y = subst (λ (x : Telegram). StandsFor b c.self.inside.edited x) c.self.view_is c.self.invariant in
-    let s = c.requires.stands in
-    let new : c.put.new.self ≡ put_at c.args.at (bits (width_of c.args.var) c.args.value) b = c.put.ensures ∙ ap (λ (w : ℕ). put_at c.args.at (bits w c.args.value) b) c.width.ensures.width in
-    (is_again c.put.new.self k1 (with_field tag c.args.var k c.args.value y) (subst (λ (l : List Bool). StandsFor l c.self.inside.edited (with_field tag c.args.var k c.args.value y)) (sym new) (field_set b k1 y tag c.args.var k c.args.value c.args.at o e c.requires.free c.requires.fits))).1
+    let o : StandsFor b (kept_of c.self.inside.contents) y = subst (λ (x : Telegram). StandsFor b (kept_of c.self.inside.contents) x) c.self.view_is c.self.invariant in
+    let new : packed_of c.put.new.self ≡ put_at c.args.at (bits (width_of c.args.var) c.args.value) b = c.put.ensures.packed ∙ ap (λ (w : ℕ). put_at c.args.at (bits w c.args.value) b) c.width.ensures.width in
+    let z = with_field tag c.args.var k c.args.value y in
+    let kept = subst (λ (l : Kept). StandsFor (put_at c.args.at (bits (width_of c.args.var) c.args.value) b) l z) (sym c.put.ensures.kept) (field_set b k1 y tag c.args.var k c.args.value c.args.at o e c.requires.free c.requires.fits) in
+    (is_again (packed_of c.put.new.self) (kept_of c.put.new.self) z (subst (λ (l : List Bool). StandsFor l (kept_of c.put.new.self) z) (sym new) kept)).1

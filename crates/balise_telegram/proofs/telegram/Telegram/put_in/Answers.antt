@@ -1,41 +1,36 @@
-use Rattle.std.proofs.Common.{◌≡◌, ◌≤◌, ◌+◌, Option, Some, IfSome, ap, sym, subst, arith}
+use Rattle.std.proofs.Common.{◌≡◌, ◌≤◌, ◌+◌, Option, Some, IfSome, ap, subst, arith}
 use Rattle.std.proofs.lemmas.Result.{on_ok_weaker, on_err_weaker}
-use Rattle.std.specs.Box.{with_value}
 use Rattle.std.specs.List.{insert}
 use Rattle.balise_rules.specs.Packet.{width}
 use Rattle.balise_rules.specs.Telegram.{Telegram, room}
 use Rattle.balise_rules.specs.Back.{with_packets}
-use Rattle.balise_telegram.specs.declared.telegram.edited.Edited.{Edited}
-use Rattle.balise_telegram.specs.Shown.{index_of, Kept, IsPlace, StandsFor, IsOver, IsShown, seen}
+use Rattle.balise_telegram.specs.Shown.{kept_of, packed_of, index_of, IsPlace, StandsFor, seen}
 use Rattle.balise_telegram.specs.declared.telegram.walking.Place.{Place}
 use Rattle.balise_telegram.proofs.Seen.{is_again}
 use Rattle.balise_telegram.proofs.Walking.{used_within}
-use Rattle.balise_telegram.proofs.InAndOut.{after, put_one, put_ok, put_wants, gap_of}
+use Rattle.balise_telegram.proofs.InAndOut.{after, put_one, put_ok, put_wants, gap_of, taken_out}
 use Rattle.balise_telegram.proofs.telegram.Telegram.put_in.Goals as goal
 use Rattle.balise_telegram.proofs.telegram.Telegram.put_in.Goals.{in-Ok-done+in-Heap-1, in-Ok-done+in-Inline-1, in-Err-done}
 
 pub overflow_sub-len : goal.overflow_sub-len
 overflow_sub-len c =
-    let b = c.self.inside.packed in
     let y = c.args.self.now in
-    let s : IsShown b y = subst (λ (z : Telegram). IsShown b z) c.self.view_is c.self.invariant.shown in
     let at : IsPlace y c.in-Some.place = subst (λ (p : Option Place). IfSome p (λ q. IsPlace y q)) c.in-Some.is c.requires.within in
-    omega (arith, c.len.ensures, c.end-used.ensures.at, used_within b y s)
+    omega (arith, c.len.ensures, c.end-used.ensures.at, used_within c.packed.result.now y c.packed.ensures)
 
 pub put_between-done-requires : goal.put_between-done-requires
 put_between-done-requires c =
-    let b = c.self.inside.packed in
+    let b = packed_of c.self.inside.contents in
     let y = c.args.self.now in
-    let o : StandsFor b c.self.inside.edited y = subst (λ (z : Telegram). StandsFor b c.self.inside.edited z) c.self.view_is c.self.invariant in
-    let kept : StandsFor b c.take-kept.result y = subst (λ (k : Kept). StandsFor b k y) (sym c.take-kept.ensures.value) o in
-    let over : IsOver c.deref_mut.result.now y = subst (λ (e : Edited). IsOver e y) (sym c.deref_mut.ensures.value) (c.in-Ok.ensures.ok y kept) in
+    let o : StandsFor b (kept_of c.self.inside.contents) y = subst (λ (z : Telegram). StandsFor b (kept_of c.self.inside.contents) z) c.self.view_is c.self.invariant in
+    let out = taken_out c.self.inside.contents c.in-Ok.edited.value c.deref_mut.result.now y o c.in-Ok.ensures.packed c.in-Ok.ensures.over c.deref_mut.ensures.value in
     let at : IsPlace y c.in-Some.place = subst (λ (p : Option Place). IfSome p (λ q. IsPlace y q)) c.in-Some.is c.requires.within in
     let fits : width c.args.packet ≤ room y = omega (arith, c.if-len-used.false, c.len.ensures, c.width.ensures, o.shown.ground, c.end-used.ensures.at) in
-    let g = gap_of b y c.in-Some.place.index c.in-Some.place.at (c.end-used.result.at + 8) (width c.args.packet) o.shown at.0 at.1 c.end-used.ensures.at fits in
-    (y, o.shown, over, g.0)
+    let g = gap_of c.deref_mut.result.now.packed y c.in-Some.place.index c.in-Some.place.at (c.end-used.result.at + 8) (width c.args.packet) out.0 at.0 at.1 c.end-used.ensures.at fits in
+    (y, out.0, out.1, g.0)
 
-stands : (c : goal.Joined-done) → StandsFor c.self.inside.packed c.self.inside.edited c.args.self.now
-stands c = subst (λ (z : Telegram). StandsFor c.self.inside.packed c.self.inside.edited z) c.self.view_is c.self.invariant
+stands : (c : goal.Joined-done) → StandsFor (packed_of c.self.inside.contents) (kept_of c.self.inside.contents) c.args.self.now
+stands c = subst (λ (z : Telegram). StandsFor (packed_of c.self.inside.contents) (kept_of c.self.inside.contents) z) c.self.view_is c.self.invariant
 
 fits : (c : goal.Joined-done) → width c.args.packet ≤ room c.args.self.now
 fits c = omega (arith, c.if-len-used.false, c.len.ensures, c.width.ensures, (stands c).shown.ground, c.end-used.ensures.at)
@@ -43,28 +38,27 @@ fits c = omega (arith, c.if-len-used.false, c.len.ensures, c.width.ensures, (sta
 abbrev wanted : goal.Joined-done → Telegram
 wanted c = after c.put_between-done.result (with_packets c.args.self.now (insert c.args.self.now.packets c.in-Some.place.index (c.args.tag, c.args.packet))) c.args.self.now
 
-held : (c : goal.Joined-done) → StandsFor c.put_between-done.new.bits (Some (with_value c.in-Ok.edited c.put_between-done.new.edited)) (wanted c)
+held : (c : goal.Joined-done) → StandsFor c.put_between-done.new.bits (Some c.put_between-done.new.edited) (wanted c)
 held c =
-    let b = c.self.inside.packed in
+    let b = packed_of c.self.inside.contents in
     let y = c.args.self.now in
     let o = stands c in
-    let kept : StandsFor b c.take-kept.result y = subst (λ (k : Kept). StandsFor b k y) (sym c.take-kept.ensures.value) o in
-    let over : IsOver c.deref_mut.result.now y = subst (λ (e : Edited). IsOver e y) (sym c.deref_mut.ensures.value) (c.in-Ok.ensures.ok y kept) in
+    let out = taken_out c.self.inside.contents c.in-Ok.edited.value c.deref_mut.result.now y o c.in-Ok.ensures.packed c.in-Ok.ensures.over c.deref_mut.ensures.value in
     let at : IsPlace y c.in-Some.place = subst (λ (p : Option Place). IfSome p (λ q. IsPlace y q)) c.in-Some.is c.requires.within in
-    let g = gap_of b y c.in-Some.place.index c.in-Some.place.at (c.end-used.result.at + 8) (width c.args.packet) o.shown at.0 at.1 c.end-used.ensures.at (fits c) in
-    put_one c.put_between-done.result b c.put_between-done.new.bits (Some (with_value c.in-Ok.edited c.put_between-done.new.edited)) y c.in-Some.place.index (c.args.tag, c.args.packet) o.shown c.requires.new c.requires.spelt g.1
-    (on_ok_weaker c.put_between-done.result (λ f. f y o.shown over g.0) c.put_between-done.ensures.shown)
-    (on_ok_weaker c.put_between-done.result (λ f. f y o.shown over g.0) c.put_between-done.ensures.over)
+    let g = gap_of c.deref_mut.result.now.packed y c.in-Some.place.index c.in-Some.place.at (c.end-used.result.at + 8) (width c.args.packet) out.0 at.0 at.1 c.end-used.ensures.at (fits c) in
+    put_one c.put_between-done.result c.deref_mut.result.now.packed c.put_between-done.new.bits (Some c.put_between-done.new.edited) y c.in-Some.place.index (c.args.tag, c.args.packet) out.0 c.requires.new c.requires.spelt g.1
+    (on_ok_weaker c.put_between-done.result (λ f. f y out.0 out.1 g.0) c.put_between-done.ensures.shown)
+    (on_ok_weaker c.put_between-done.result (λ f. f y out.0 out.1 g.0) c.put_between-done.ensures.over)
     c.put_between-done.ensures.bits
-    (on_err_weaker c.put_between-done.result (λ f. f y over) c.put_between-done.ensures.kept)
+    (on_err_weaker c.put_between-done.result (λ f. f y out.1) c.put_between-done.ensures.kept)
 
 pub invariant_of-self-2 : goal.invariant_of-self-2
-invariant_of-self-2 c = (is_again c.put_between-done.new.bits (Some (with_value c.in-Ok.edited c.put_between-done.new.edited)) (wanted c) (held c)).0
+invariant_of-self-2 c = (is_again c.put_between-done.new.bits (Some c.put_between-done.new.edited) (wanted c) (held c)).0
 
 pub returns : goal.returns
 returns c =
     let y = c.args.self.now in
-    let now : seen c.put_between-done.new.bits (Some (with_value c.in-Ok.edited c.put_between-done.new.edited)) ≡ wanted c = (is_again c.put_between-done.new.bits (Some (with_value c.in-Ok.edited c.put_between-done.new.edited)) (wanted c) (held c)).1 in
+    let now : seen c.put_between-done.new.bits (Some c.put_between-done.new.edited) ≡ wanted c = (is_again c.put_between-done.new.bits (Some c.put_between-done.new.edited) (wanted c) (held c)).1 in
     elim c.match-done.branch [
       | in-Ok-done+in-Heap-1 w ↦ put_ok (index_of c.args.place) c.in-Some.place.index c.args.tag c.args.packet y _ c.put_between-done.result c.match-done.result _ _ (ap index_of c.in-Some.is) (fits c) w.in-Ok-done.is w.result-is now
       | in-Ok-done+in-Inline-1 w ↦ put_ok (index_of c.args.place) c.in-Some.place.index c.args.tag c.args.packet y _ c.put_between-done.result c.match-done.result _ _ (ap index_of c.in-Some.is) (fits c) w.in-Ok-done.is w.result-is now

@@ -1,14 +1,12 @@
 -- The refusals in their order, and the value put where the occurrence stands.
-use Rattle.std.proofs.Common.{◌≡◌, ◌∙◌, ◌<◌, ◌≤◌, ◌^◌, ℕ, Some, false, refl, ap, sym, subst, arith}
+use Rattle.std.proofs.Common.{◌≡◌, ◌∙◌, ◌<◌, ◌≤◌, ◌^◌, ℕ, Some, false, refl, ap, sym, arith}
 use Rattle.balise_rules.specs.Bits.{num, part}
 use Rattle.balise_rules.specs.Variables.{width_of, steers}
-use Rattle.balise_rules.specs.Telegram.{Telegram}
 use Rattle.balise_layout.proofs.Values.{accepted, nothing_left, refused_missing, refused_steering, refused_wide, shifted_out}
 use Rattle.balise_telegram.proofs.PackedPlaces.{not_located}
 use Rattle.balise_telegram.proofs.PackedFields.{found_there, none_stands, value_there}
 use Rattle.balise_telegram.proofs.FieldPlaces.{field_there}
 use Rattle.balise_telegram.proofs.Settings.{no_packet, refused_as}
-use Rattle.balise_telegram.specs.Shown.{IsShown}
 use Rattle.balise_telegram.proofs.telegram.Telegram.set_field.Goals as goal
 
 pub returns-in_default : goal.returns-in_default
@@ -24,29 +22,29 @@ returns-in_default-place_in c =
 
 pub returns-then-steers : goal.returns-then-steers
 returns-then-steers c =
-    let b = c.self.inside.packed in
+    let b = c.packed-bits.result.now in
     let y = c.args.self.now in
     let e = sym c.in-Some.ensures.place in
-    let r : IsShown b y = subst (λ (x : Telegram). IsShown b x) c.self.view_is (c.self.invariant.shown) in
+    let r = c.packed-bits.ensures in
     let f = field_there b y c.args.tag c.args.var c.args.k c.in-Some.packet c.in-Some-place_in.at r e (sym (c.in-Some-place_in.ensures c.args.tag e)) in
     (refused_as c.args.tag c.args.var c.args.k c.args.value y f.packet f.is ∙ refused_steering c.args.var c.args.k c.args.value f.from f.packet f.stands (sym c.steers.ensures ∙ c.if-steers.true), refl)
 
 pub returns-then-value-width-ne0 : goal.returns-then-value-width-ne0
 returns-then-value-width-ne0 c =
-    let b = c.self.inside.packed in
+    let b = c.packed-bits.result.now in
     let y = c.args.self.now in
     let e = sym c.in-Some.ensures.place in
-    let r : IsShown b y = subst (λ (x : Telegram). IsShown b x) c.self.view_is (c.self.invariant.shown) in
+    let r = c.packed-bits.ensures in
     let f = field_there b y c.args.tag c.args.var c.args.k c.in-Some.packet c.in-Some-place_in.at r e (sym (c.in-Some-place_in.ensures c.args.tag e)) in
     let wide : 2 ^ width_of c.args.var ≤ c.args.value = omega (arith, shifted_out c.args.value c.width-width.result c.if-value-width-ne0.true, ap (λ (k : ℕ). 2 ^ k) c.width-width.ensures.width) in
     (refused_as c.args.tag c.args.var c.args.k c.args.value y f.packet f.is ∙ refused_wide c.args.var c.args.k c.args.value f.from f.packet f.stands (sym c.steers.ensures ∙ c.if-steers.false) wide, refl)
 
 pub number-old-requires-clause-within : goal.number-old-requires-clause-within
 number-old-requires-clause-within c =
-    let b = c.self.inside.packed in
+    let b = c.packed-bits.result.now in
     let y = c.args.self.now in
     let e = sym c.in-Some.ensures.place in
-    let r : IsShown b y = subst (λ (x : Telegram). IsShown b x) c.self.view_is (c.self.invariant.shown) in
+    let r = c.packed-bits.ensures in
     let f = field_there b y c.args.tag c.args.var c.args.k c.in-Some.packet c.in-Some-place_in.at r e (sym (c.in-Some-place_in.ensures c.args.tag e)) in
     omega (arith, f.within, c.width-width.ensures.width)
 
@@ -55,11 +53,11 @@ put_field-requires-clause-stands c = (c.args.tag, c.args.k, sym (c.in-Some-place
 
 pub returns : goal.returns
 returns c =
-    let b = c.self.inside.packed in
+    let b = c.packed-bits.result.now in
     let y = c.args.self.now in
     let e = sym c.in-Some.ensures.place in
     let place = sym (c.in-Some-place_in.ensures c.args.tag e) in
-    let r : IsShown b y = subst (λ (x : Telegram). IsShown b x) c.self.view_is (c.self.invariant.shown) in
+    let r = c.packed-bits.ensures in
     let f = field_there b y c.args.tag c.args.var c.args.k c.in-Some.packet c.in-Some-place_in.at r e place in
     let free : steers c.args.var ≡ false = sym c.steers.ensures ∙ c.if-steers.false in
     let fit : c.args.value < 2 ^ width_of c.args.var = omega (arith, nothing_left c.args.value c.width-width.result c.if-value-width-ne0.false, ap (λ (k : ℕ). 2 ^ k) c.width-width.ensures.width) in

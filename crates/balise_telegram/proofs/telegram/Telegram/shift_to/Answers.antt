@@ -1,18 +1,16 @@
 use Rattle.std.proofs.Common.{◌≡◌, ◌∙◌, ◌⊎◌, inl, inr, ℕ, suc, ◌+◌, ◌-◌, cond, ltb, Option, Some, Ok, IfSome, slice_get, option_map, refl, ap, sym, subst, add-one, arith}
 use Rattle.std.specs.List.{insert, remove}
-use Rattle.std.specs.Box.{with_value}
 use Rattle.balise_rules.specs.declared.tag.Tag.{Tag}
 use Rattle.balise_rules.specs.Packet.{Packet}
 use Rattle.balise_rules.specs.Telegram.{Telegram}
 use Rattle.balise_rules.specs.Back.{with_packets}
-use Rattle.balise_telegram.specs.declared.telegram.edited.Edited.{Edited}
 use Rattle.balise_telegram.specs.declared.telegram.walking.Place.{Place}
 use Rattle.balise_telegram.specs.Moving.{moved_to, Shifts, ShiftsBefore}
-use Rattle.balise_telegram.specs.Shown.{index_of, seen, Goes, Kept, IsPlace, StandsFor, IsOver, IsShown}
+use Rattle.balise_telegram.specs.Shown.{kept_of, packed_of, index_of, seen, Goes, IsPlace, StandsFor, IsOver, IsShown}
 use Rattle.balise_telegram.proofs.Shifting as behind
 use Rattle.balise_telegram.proofs.ShiftingBefore as before
 use Rattle.balise_telegram.proofs.Seen.{is_again}
-use Rattle.balise_telegram.proofs.InAndOut.{Standing}
+use Rattle.balise_telegram.proofs.InAndOut.{taken_out, Standing}
 use Rattle.balise_telegram.proofs.Walking.{few}
 use Rattle.balise_telegram.proofs.Moves.{goes_from, goes_item, once_at}
 use Rattle.balise_telegram.proofs.telegram.Telegram.shift_to.Goals as goal
@@ -32,7 +30,7 @@ returns-in_default-place-clause-before c = λ n e. inr (before.no_neighbour c.ar
 
 pub overflow_add-from : goal.overflow_add-from
 overflow_add-from c =
-    let b = c.self.inside.packed in
+    let b = packed_of c.self.inside.contents in
     let y = c.args.self.now in
     let s : IsShown b y = subst (λ (z : Telegram). IsShown b z) c.self.view_is c.self.invariant.shown in
     let most = few b y s in
@@ -53,13 +51,12 @@ returns-then-to-from-clause-before c =
     let same : (to ≡ from) ⊎ (to ≡ suc from) = elim c.then-to-from.branch [ then-to-from-via-then-to-from w ↦ inl w.if-to-from.true | then-to-from-via-else-to-from+then-to-from-2 w ↦ inr (w.if-to-from-2.true ∙ add-one from) ] in
     λ n e. inr (before.same_spots c.args.tag n c.args.self.now from to c.in-Some.ensures.place (ap index_of (sym c.in-Some-place.is) ∙ e) same, refl)
 
-over : (c : goal.Joined-packet-2) → IsOver c.deref_mut.result.now c.args.self.now
-over c =
-    let b = c.self.inside.packed in
+out : (c : goal.Joined-packet-2) → IsShown c.deref_mut.result.now.packed c.args.self.now × IsOver c.deref_mut.result.now.kept c.args.self.now
+out c =
+    let b = packed_of c.self.inside.contents in
     let y = c.args.self.now in
-    let o : StandsFor b c.self.inside.edited y = subst (λ (z : Telegram). StandsFor b c.self.inside.edited z) c.self.view_is c.self.invariant in
-    let kept : StandsFor b c.take-kept.result y = subst (λ (k : Kept). StandsFor b k y) (sym c.take-kept.ensures.value) o in
-    subst (λ (e : Edited). IsOver e y) (sym c.deref_mut.ensures.value) (c.in_ok-edited.ensures.ok y kept)
+    let o : StandsFor b (kept_of c.self.inside.contents) y = subst (λ (z : Telegram). StandsFor b (kept_of c.self.inside.contents) z) c.self.view_is c.self.invariant in
+    taken_out c.self.inside.contents c.in_ok-edited.edited.value c.deref_mut.result.now y o c.in_ok-edited.ensures.packed c.in_ok-edited.ensures.over c.deref_mut.ensures.value
 
 goes : (c : goal.Joined-packet-2) → Goes c.args.self.now c.args.tag c.in_ok-packet.packet c.in-Some.from c.after-after.result c.in-Some-place.to (c.end-used.result.at + 8)
 goes c = record {
@@ -72,28 +69,27 @@ goes c = record {
   all = c.end-used.ensures.at;
 }
 
-shown_of : (c : goal.Joined-packet-2) → IsShown c.self.inside.packed c.args.self.now
-shown_of c = subst (λ (z : Telegram). IsShown c.self.inside.packed z) c.self.view_is c.self.invariant.shown
+shown_of : (c : goal.Joined-packet-2) → IsShown (packed_of c.self.inside.contents) c.args.self.now
+shown_of c = subst (λ (z : Telegram). IsShown (packed_of c.self.inside.contents) z) c.self.view_is c.self.invariant.shown
 
 abbrev wanted : goal.Joined-packet-2 → Telegram
 wanted c = with_packets c.args.self.now (moved_to c.in-Some.from.index c.in-Some-place.to.index (c.args.tag, c.in_ok-packet.packet) c.args.self.now.packets)
 
-held : (c : goal.Joined-packet-2) → StandsFor c.move_between.new.bits (Some (with_value c.in_ok-edited.edited c.move_between.new.edited)) (wanted c)
+held : (c : goal.Joined-packet-2) → StandsFor c.move_between.new.bits (Some c.move_between.new.edited) (wanted c)
 held c = record {
-  shown = c.move_between.ensures.shown c.args.self.now (shown_of c) (over c) (goes c);
-  kept = c.move_between.ensures.over c.args.self.now (shown_of c) (over c) (goes c);
+  shown = c.move_between.ensures.shown c.args.self.now (out c).0 (out c).1 (goes c);
+  kept = c.move_between.ensures.over c.args.self.now (out c).0 (out c).1 (goes c);
 }
 
 pub move_between-requires : goal.move_between-requires
 move_between-requires c =
-    let b = c.self.inside.packed in
+    let b = packed_of c.self.inside.contents in
     let y = c.args.self.now in
-    let o : StandsFor b c.self.inside.edited y = subst (λ (z : Telegram). StandsFor b c.self.inside.edited z) c.self.view_is c.self.invariant in
-    let kept : StandsFor b c.take-kept.result y = subst (λ (k : Kept). StandsFor b k y) (sym c.take-kept.ensures.value) o in
-    let over : IsOver c.deref_mut.result.now y = subst (λ (e : Edited). IsOver e y) (sym c.deref_mut.ensures.value) (c.in_ok-edited.ensures.ok y kept) in (
+    let o : StandsFor b (kept_of c.self.inside.contents) y = subst (λ (z : Telegram). StandsFor b (kept_of c.self.inside.contents) z) c.self.view_is c.self.invariant in
+    let out = taken_out c.self.inside.contents c.in_ok-edited.edited.value c.deref_mut.result.now y o c.in_ok-edited.ensures.packed c.in_ok-edited.ensures.over c.deref_mut.ensures.value in (
       y,
-      o.shown,
-      over,
+      out.0,
+      out.1,
       record {
         found = c.in-Some.ensures.place;
         packet = λ z e. c.in_ok-packet.ensures.ok ∙ c.lent.ensures z e;
@@ -106,19 +102,19 @@ move_between-requires c =
     )
 
 pub invariant_of-self-2 : goal.invariant_of-self-2
-invariant_of-self-2 c = (is_again c.move_between.new.bits (Some (with_value c.in_ok-edited.edited c.move_between.new.edited)) (wanted c) (held c)).0
+invariant_of-self-2 c = (is_again c.move_between.new.bits (Some c.move_between.new.edited) (wanted c) (held c)).0
 
 was : (c : goal.Joined-packet-2) → c.tag_at-next.result ≡ option_map (λ (q : Tag × Packet). q.0) (slice_get c.args.self.now.packets (suc c.in-Some.from.index))
 was c = c.tag_at-next.ensures ∙ ap (λ (k : ℕ). option_map (λ (q : Tag × Packet). q.0) (slice_get c.args.self.now.packets k)) (c.after-after.ensures.index ∙ add-one c.in-Some.from.index)
 
-now_is : (c : goal.Joined-packet-2) → seen c.move_between.new.bits (Some (with_value c.in_ok-edited.edited c.move_between.new.edited)) ≡ wanted c
-now_is c = (is_again c.move_between.new.bits (Some (with_value c.in_ok-edited.edited c.move_between.new.edited)) (wanted c) (held c)).1
+now_is : (c : goal.Joined-packet-2) → seen c.move_between.new.bits (Some c.move_between.new.edited) ≡ wanted c
+now_is c = (is_again c.move_between.new.bits (Some c.move_between.new.edited) (wanted c) (held c)).1
 
 abbrev standing_of : (c : goal.Joined-packet-2) → Standing c.args.self.now c.args.tag c.in-Some.from c.after-after.result (c.end-used.result.at + 8)
-standing_of c = goes_from c.self.inside.packed c.args.self.now c.args.tag c.in_ok-packet.packet c.in-Some.from c.after-after.result c.in-Some-place.to (c.end-used.result.at + 8) (shown_of c) (goes c)
+standing_of c = goes_from (packed_of c.self.inside.contents) c.args.self.now c.args.tag c.in_ok-packet.packet c.in-Some.from c.after-after.result c.in-Some-place.to (c.end-used.result.at + 8) (shown_of c) (goes c)
 
 in_its_place : (c : goal.Joined-packet-2) → (wanted c).packets ≡ insert (remove c.args.self.now.packets c.in-Some.from.index) (cond (ltb c.in-Some.from.index c.in-Some-place.to.index) (c.in-Some-place.to.index - 1) c.in-Some-place.to.index) (standing_of c).item
-in_its_place c = ap (insert (remove c.args.self.now.packets c.in-Some.from.index) (cond (ltb c.in-Some.from.index c.in-Some-place.to.index) (c.in-Some-place.to.index - 1) c.in-Some-place.to.index)) (goes_item c.self.inside.packed c.args.self.now c.args.tag c.in_ok-packet.packet c.in-Some.from c.after-after.result c.in-Some-place.to (c.end-used.result.at + 8) (shown_of c) (goes c))
+in_its_place c = ap (insert (remove c.args.self.now.packets c.in-Some.from.index) (cond (ltb c.in-Some.from.index c.in-Some-place.to.index) (c.in-Some-place.to.index - 1) c.in-Some-place.to.index)) (goes_item (packed_of c.self.inside.contents) c.args.self.now c.args.tag c.in_ok-packet.packet c.in-Some.from c.after-after.result c.in-Some-place.to (c.end-used.result.at + 8) (shown_of c) (goes c))
 
 pub returns-clause-after : goal.returns-clause-after
 returns-clause-after c =

@@ -1,0 +1,64 @@
+use Rattle.std.proofs.Common.{◌≡◌, ◌≤◌, ◌+◌, ◌-◌, ◌∙◌, ℕ, zero, suc, List, [], ◌∷◌, Some, Ok, length, map, take, drop, slice_get, sym, ap, arith, add-one}
+use Rattle.std.proofs.lemmas.Result.{IfOk-weaker}
+use Rattle.balise_rules.specs.Paths.{Entry}
+use Rattle.balise_rules.proofs.Cases.{unsome}
+use Rattle.balise_edits.specs.Homes.{number_at}
+use Rattle.balise_history.specs.Dependents.{dependents, dependents_of}
+use Rattle.balise_history.specs.Lists.{place_of}
+use Rattle.balise_history.proofs.Cuts.{got, all-behind}
+use Rattle.balise_history.proofs.DependentsTo.{asked, none-asked}
+use Rattle.balise_history.proofs.Entries.{none-there}
+use Rattle.balise_history.proofs.HomesKept.{numbers-drop}
+use Rattle.balise_history.proofs.dependents.dependents_of.Goals as goal
+use Rattle.balise_history.proofs.dependents.dependents_of.Goals.{After-serial, Else-serial}
+
+-- nothing stands after the last place
+past : (es : List Entry) (n : ℕ) (e : Entry) → length es ≤ n → slice_get es n ≡ Some e → ⊥
+past [] n e l g = cc
+past (x ∷ xs) zero e l g = omega arith
+past (x ∷ xs) (suc n) e l g = past xs n e (omega arith) g
+
+stands_there : (c : After-serial) → slice_get c.args.standing.now c.place_of-place.result ≡ Some c.index-standing-place.result
+stands_there c = got c.args.standing.now c.place_of-place.result c.index-standing-place.result c.if-place-standing.false ∙ ap Some (sym c.index-standing-place.is)
+
+pub returns-then-place-standing-clause-fault : goal.returns-then-place-standing-clause-fault
+returns-then-place-standing-clause-fault c = λ other.
+    let s = c.args.serial in
+    let es : List Entry = c.args.standing.now in
+    let p = c.place_of-place.ensures.place in
+    let l : length es ≤ place_of s es = omega (arith, p) in
+    none-asked s es (none-there s es c.requires.rising (λ e g q. past es (place_of s es) e l g))
+
+pub returns-then-serial-clause-fault : goal.returns-then-serial-clause-fault
+returns-then-serial-clause-fault c = λ other.
+    let at = goal.at.returns-then-serial-clause-fault c in
+    let s = c.args.serial in
+    let es : List Entry = c.args.standing.now in
+    let g : slice_get es (place_of s es) ≡ Some c.index-standing-place.result = ap (slice_get es) (sym c.place_of-place.ensures.place) ∙ stands_there at.After-serial in
+    none-asked s es (none-there s es c.requires.rising (λ e k q. c.if-serial.true (c.serial.ensures ∙ ap (λ (x : Entry). x.0.0) (unsome (sym g ∙ k)) ∙ q)))
+
+pub dependents_among-requires : goal.dependents_among-requires
+dependents_among-requires c =
+    let xs : List Entry = c.args.standing.now in
+    let hs : List ℕ = c.args.homes.now in
+    let n : ℕ = c.place_of-place.result + 1 in
+    record {
+      homes = all-behind hs n ∙ ap (drop n) c.requires.homes ∙ sym (numbers-drop n xs) ∙ ap (map number_at) (sym (all-behind xs n));
+    }
+
+-- the entries after the one that is asked for
+later_are : (c : Else-serial) → take (length c.args.standing.now - (c.place_of-place.result + 1)) (drop (c.place_of-place.result + 1) c.args.standing.now) ≡ drop (suc c.place_of-place.result) c.args.standing.now
+later_are c =
+    let es : List Entry = c.args.standing.now in
+    let n : ℕ = c.place_of-place.result in
+    all-behind es (n + 1) ∙ ap (λ (m : ℕ). drop m es) (add-one n)
+
+pub returns-clause-ok : goal.returns-clause-ok
+returns-clause-ok c =
+    let at = goal.at.returns-clause-ok c in
+    let es : List Entry = c.args.standing.now in
+    let e : Entry = c.index-standing-place.result in
+    let n : ℕ = c.place_of-place.result in
+    let is = asked c.args.serial n es e c.requires.rising (stands_there at.After-serial) (sym c.serial.ensures ∙ c.if-serial.false) in
+    IfOk-weaker c.dependents_among.result (λ v. v.items ≡ dependents e (take (length es - (n + 1)) (drop (n + 1) es))) (λ v. dependents_of c.args.serial es ≡ Ok v.items)
+    (λ v h. is ∙ ap Ok (ap (dependents e) (sym (later_are at.Else-serial)) ∙ sym h)) c.dependents_among.ensures.ok

@@ -1,0 +1,4 @@
+pub mod FoundLines
+pub mod Gathering
+pub mod Linked
+pub mod TurnedLines

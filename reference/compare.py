@@ -23,13 +23,17 @@ from collections.abc import Iterable, Iterator
 from dataclasses import dataclass
 from io import BytesIO
 from pathlib import Path
+from typing import TypeVar
 
-from baliseplan import BAD_ARGUMENTS, answer
+from baliseplan import answer
+from filters import BAD_ARGUMENTS
 from random_inputs import Input, make_input
 from random_plans import SIZES
 
 SECONDS = float(os.environ.get("CHECK_SECONDS", "120"))
 NO_STATUS = -1
+
+Result = TypeVar("Result")
 
 
 @dataclass(frozen=True)
@@ -152,7 +156,7 @@ def keep(folder: Path, name: str, words: list[str], given: Input) -> Path:
     return path
 
 
-def counted(results: Iterable[Compared], total: int) -> Iterator[Compared]:
+def counted(results: Iterable[Result], total: int) -> Iterator[Result]:
     """The results, with a bar or a count on standard error."""
     try:
         bar = importlib.import_module("tqdm").tqdm

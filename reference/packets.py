@@ -135,12 +135,19 @@ def length_at(bits: str, place: int) -> int:
     raise Refused(Refusal.PacketCut)
 
 
+def body_of(number: int, version: int) -> str | None:
+    """The layout of a packet after the fields that open it, or none where it isn't known."""
+    if number in ONLY_IN_VERSION_2 and version >> 4 != 2:
+        return None
+    return PACKETS.get(number)
+
+
 def read_packet(bits: str, version: int, tag: str) -> Packet:
     """A packet from its bits (7.4.2), or 8 where its fields don't end with them."""
-    number = int(bits[:8], 2)
-    if number not in PACKETS or (number in ONLY_IN_VERSION_2 and version >> 4 != 2):
+    body = body_of(int(bits[:8], 2), version)
+    if body is None:
         return Packet(tag, *read_fields(OPENING, bits), known=False)
-    fields, rest = read_fields(f"{OPENING} {PACKETS[number]}", bits)
+    fields, rest = read_fields(f"{OPENING} {body}", bits)
     if rest:
         raise Refused(Refusal.LayoutMismatch)
     return Packet(tag, fields, rest, known=True)

@@ -14,7 +14,8 @@ from pathlib import Path
 
 import compare
 import pairs
-from baliseplan import Answer, answer
+from baliseplan import answer
+from filters import Answer
 from packets import FOLLOWS, OPENING, PACKETS, PARTS, WIDTHS, walk
 from random_inputs import Input, make_input
 from refusals import Fault

@@ -188,6 +188,15 @@ def test_a_module_that_was_copied_finds_its_library(tmp_path: Path) -> None:
     assert ran(code, tmp_path, {}) == due
 
 
+def test_a_module_in_an_unpacked_archive_finds_its_library(tmp_path: Path) -> None:
+    module = Path(shutil.copytree(Path(baliseplan.__file__).parent, tmp_path / "examples" / "python" / "baliseplan"))
+    for name in ("include/baliseplan.h", "lib/libbaliseplan.so.1"):
+        (tmp_path / name).parent.mkdir()
+        (tmp_path / name).touch()
+    code = "from baliseplan._library import library_path; print(library_path())"
+    assert ran(code, module.parent, {}) == f"{tmp_path / 'lib' / 'libbaliseplan.so.1'}\n"
+
+
 def test_a_module_near_the_root_finds_its_library(monkeypatch: pytest.MonkeyPatch) -> None:
     monkeypatch.setattr(_library, "__file__", "/baliseplan/_library.py")
     monkeypatch.setenv("BALISEPLAN_LIBRARY", "/named.so")

@@ -1,5 +1,5 @@
 //! Links libbaliseplan.a from the first of these places that has it: the folder that BALISEPLAN_LIB names, out/ of the
-//! repository that this crate stands in, and where `pkg-config` finds it installed.
+//! repository or lib/ of the archive that this crate stands in, and where `pkg-config` finds it installed.
 //!
 //! A crate that depends on this one gets the folder as DEP_BALISEPLAN_LIB.
 
@@ -22,12 +22,15 @@ fn main() {
     for name in ["BALISEPLAN_LIB", "PKG_CONFIG", "PKG_CONFIG_PATH"] {
         println!("cargo:rerun-if-env-changed={name}");
     }
-    let built =
-        PathBuf::from(env::var_os("CARGO_MANIFEST_DIR").expect("cargo sets it")).join("../../out");
+    let here = PathBuf::from(env::var_os("CARGO_MANIFEST_DIR").expect("cargo sets it"));
+    let mut built = ["../../out", "../../lib"]
+        .map(|folder| here.join(folder))
+        .into_iter();
     let folder = match env::var_os("BALISEPLAN_LIB").map(PathBuf::from) {
         Some(named) => Some(named),
-        None if built.join(ARCHIVE).exists() => Some(built),
-        None => installed(),
+        None => built
+            .find(|folder| folder.join(ARCHIVE).exists())
+            .or_else(installed),
     };
     let folder = folder.filter(|folder| folder.join(ARCHIVE).exists()).unwrap_or_else(|| {
         panic!("there is no {ARCHIVE}: set BALISEPLAN_LIB to its folder, or install it with baliseplan.pc")

@@ -7,7 +7,7 @@ ghost use Rattle.balise_rules.specs.Telegram.{is_balise, read_header, read_teleg
 ghost use Rattle.balise_rules.specs.declared.variable.Var.TheVariants.{MVersion};
 ghost use Rattle.balise_telegram.specs.Faults.{refusal_of};
 ghost use Rattle.balise_codec.specs.Places.{placed, ArePlaced, Explains, IsPlaced};
-ghost use Rattle.balise_codec.specs.Stops.{IsStop};
+ghost use Rattle.balise_codec.specs.Stops.{IsLongest, IsStop};
 
 use crate::header::{header_fields, is_balise};
 use crate::placed::{Placed, place_all};
@@ -99,6 +99,7 @@ pub fn explain_packets(
 ) -> Result<(Vec<PacketFields>, Stop), LayoutFault>
     requires { 50 ≤ length bits.now }
     ensures ok { IfOk result (λ r. (read : List (Tag × Packet)) × IsStop version bits.now r.1 read × ArePlaced 50 read r.0.items) }
+    ensures longest { IfOk result (λ r. IsLongest version bits.now r.1.count) }
     ensures fault { IsOkUnless result LayoutFault.OutOfMemory }
 {
     let stop = packets_end(bits, version);

@@ -26,7 +26,7 @@ pub use fault::SpellFault;
 pub use given::spell_given;
 pub use head::packet_fault;
 pub use misfit::{Misfit, find_misfit};
-pub use placed::Placed;
+pub use placed::{Placed, place_all};
 pub use reach::{Reach, fields_to_fault};
 pub use spell::spell_packet;
 pub use stop::{Stop, packets_end};

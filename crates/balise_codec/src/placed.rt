@@ -32,8 +32,8 @@ impl Placed {
     }
 }
 
-// The fields, one after another from the place on, and the place after them.
-pub(crate) fn place_all(
+/// The fields, one after another from the place on, and the place after them.
+pub fn place_all(
     alloc: Global,
     at: usize,
     fields: &[(Var, u32, u32)],

@@ -67,10 +67,11 @@ def declare(loaded: ctypes.CDLL) -> None:
 
 
 def library_path() -> str:
-    """The first of: what BALISEPLAN_LIBRARY names, the one in this folder, the repository's, the system's."""
+    """The first of: what BALISEPLAN_LIBRARY names, the one in this folder, the repository's or archive's, the system's."""
     named = os.environ.get("BALISEPLAN_LIBRARY")
     if named:
         return named
     here = Path(__file__).resolve().parent
-    built = [top / "out" / NAME for top in list(here.parents)[2:3] if (top / "include" / "baliseplan.h").exists()]
+    tops = [top for top in list(here.parents)[2:3] if (top / "include" / "baliseplan.h").exists()]
+    built = [top / folder / NAME for top in tops for folder in ("out", "lib")]
     return next((str(place) for place in (here / NAME, *built) if place.exists()), NAME)

@@ -1,0 +1,7 @@
+pub mod DigitFours
+pub mod FoursRead
+pub mod Splitting
+pub mod PacketDigits
+pub mod Sequences
+pub mod ZerosAndDigits
+pub mod FieldsFound

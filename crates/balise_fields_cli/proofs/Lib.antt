@@ -1,0 +1,3 @@
+pub mod Words
+pub mod Flushed
+pub mod Reported

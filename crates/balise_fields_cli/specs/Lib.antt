@@ -1,0 +1,5 @@
+pub mod Ways
+pub mod Arguments
+pub mod Exits
+pub mod Program
+pub mod CommandLine

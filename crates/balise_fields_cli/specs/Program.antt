@@ -1,0 +1,73 @@
+-- What the program does with its words and its three streams.
+use Rattle.std.specs.Prelude.{◌≡◌, ◌⊎◌, ℕ, Bool, true, false, List, [], Option, Some, None, Result, Ok, Err}
+use Rattle.std.specs.Io.Buffered.{writer_buffer, writer_contents}
+use Rattle.std.specs.declared.io.buffered.BufWriter.{BufWriter}
+use Rattle.balise_rules.specs.declared.refusal.Refusal.{Refusal}
+use Rattle.balise_lines.specs.Counts.{one_more}
+use Rattle.balise_lines.specs.Writing.{LastFailed, WritesAll, WritesSome}
+use Rattle.balise_lines.specs.declared.counted.Counted.{Counted}
+use Rattle.balise_arguments.specs.declared.fault.ArgsFault.{ArgsFault}
+use Rattle.balise_arguments.specs.declared.fault.ArgsFault.TheVariants.{Help, Memory, Other}
+use Rattle.balise_text.specs.Replies.{fault_line}
+use Rattle.balise_text.specs.Texts.{Text}
+use Rattle.balise_fields_run.specs.Explained.{Ran}
+use Rattle.balise_fields_run.specs.Spelt.{Spelled}
+use Rattle.balise_fields_run.specs.declared.fault.RunFault.{RunFault}
+use Rattle.balise_fields_run.specs.declared.status.Status.{Status}
+use Rattle.balise_fields_cli.specs.Arguments.{Asks}
+use Rattle.balise_fields_cli.specs.Exits.{exit_after_arguments, exit_of}
+use Rattle.balise_fields_cli.specs.declared.exit.Exit.{Exit}
+use Rattle.balise_fields_cli.specs.declared.way.Way.{Way}
+use Rattle.balise_fields_cli.specs.declared.way.Way.TheVariants.{Explain, Spell}
+
+-- the count after a flush
+abbrev pub count_after : Bool → ℕ → ℕ
+count_after true n = n
+count_after false n = one_more n
+
+-- how a run of this way ended
+abbrev pub RanBy : Way → (had has old new : Option Text) → (read reads written writes : ℕ) → Result Status RunFault → Type 0
+RanBy Explain had has old new read reads written writes result = Ran had has old new read reads written writes result
+RanBy Spell had has old new read reads written writes result = Spelled had has old new read reads written writes result
+
+-- There was a run of this way and then a flush, and the exit is the one for both. Where the flush failed the count rose, and where it succeeded nothing is left in the buffer.
+pub record Works {R W A : Type 0} (way : Way) (remaining : R → Option Text) (contents : W → Option Text) (reader reader' : Counted R) (writer writer' : Counted (BufWriter W A)) (exit : Exit) : Type 0 where
+  pub ended : Result Status RunFault
+  pub flushed : Bool
+  pub exits : exit ≡ exit_of ended flushed
+  pub count : ℕ
+  pub ran : RanBy way (remaining reader.inner) (remaining reader'.inner) (writer_contents contents writer.inner) (writer_contents contents writer'.inner) reader.failed reader'.failed writer.failed count ended
+  pub flush_counts : writer'.failed ≡ count_after flushed count
+  pub empty : flushed ≡ true → writer_buffer writer'.inner ≡ []
+
+-- the line for the fault that the program ends with, or nothing
+abbrev pub reported : Option Refusal → Text
+reported (Some r) = fault_line r
+reported None = []
+
+-- that line was written, or a beginning of it up to a failed call
+abbrev pub Reports : {E : Type 0} → (E → Option Text) → Counted E → Counted E → Exit → Type 0
+Reports contents old new exit = WritesAll contents old new (reported exit.fault) ⊎ WritesSome LastFailed contents old new (reported exit.fault)
+
+-- help is printed on the one stream alone, and what is wrong with the words on the other
+abbrev pub Shows : {W E : Type 0} → ArgsFault → W → W → E → E → Type 0
+Shows (Help e) writer writer' errors errors' = errors' ≡ errors
+Shows Memory writer writer' errors errors' = (writer' ≡ writer) × (errors' ≡ errors)
+Shows (Other e) writer writer' errors errors' = writer' ≡ writer
+
+-- What the words ask for was done: a run; or help was printed, or what is wrong with the words, each on its own stream and nothing on the other, and no input was read.
+abbrev pub Does : {R W A E : Type 0} → (R → Option Text) → (W → Option Text) → Result Way ArgsFault → Counted R → Counted R → Counted (BufWriter W A) → Counted (BufWriter W A) → Counted E → Counted E → Exit → Type 0
+Does remaining contents (Ok way) reader reader' writer writer' errors errors' exit = Works way remaining contents reader reader' writer writer' exit × (errors' ≡ errors)
+Does remaining contents (Err e) reader reader' writer writer' errors errors' exit = (exit ≡ exit_after_arguments e) × (reader' ≡ reader) × Shows e writer writer' errors errors'
+
+-- What these words ask for was done.
+pub record DoesWords {R W A E : Type 0} (remaining : R → Option Text) (contents : W → Option Text) (words : List Text) (reader reader' : Counted R) (writer writer' : Counted (BufWriter W A)) (errors errors' : Counted E) (exit : Exit) : Type 0 where
+  pub asked : Result Way ArgsFault
+  pub asks : Asks words asked
+  pub does : Does remaining contents asked reader reader' writer writer' errors errors' exit
+
+-- That was done, and then the fault that the program ends with was reported.
+pub record Starts {R W A E : Type 0} (remaining : R → Option Text) (contents : W → Option Text) (errors_hold : E → Option Text) (words : List Text) (reader reader' : Counted R) (writer writer' : Counted (BufWriter W A)) (errors errors' : Counted E) (exit : Exit) : Type 0 where
+  pub between : Counted E
+  pub does : DoesWords remaining contents words reader reader' writer writer' errors between exit
+  pub reports : Reports errors_hold between errors' exit

@@ -1,0 +1,91 @@
+//! Reads the arguments.
+
+ghost use Rattle.std.specs.Prelude.{◌≡◌, ◌↔◌, IfOk, IsTrue, Some, codes, false, map};
+ghost use Rattle.clap.specs.Words.{app_of, first_value, found_of, new_app, rule_of};
+ghost use Rattle.balise_arguments.specs.Arguments.{flag_rule};
+ghost use Rattle.balise_arguments.specs.Faults.{IsFor};
+ghost use Rattle.balise_fields_cli.specs.Arguments.{program, Asks};
+
+use crate::way::Way;
+use balise_arguments::ArgsFault;
+use clap::error::ErrorKind;
+use clap::{Arg, ArgAction, ArgMatches, Command, Error};
+use std::alloc::{AllocError, Global};
+
+const ABOUT: &str =
+    "balisefields 0.1.0: fields of ETCS balise telegrams and packets. Reads digits, a telegram or a packet a line, from standard input, and prints their fields; or the other way.";
+
+// Else clap prints the name of the file that was run.
+const USAGE: &str = "balisefields [OPTIONS]";
+
+// What help says of the argument.
+const SPELL: &str = "Read fields, and print the digits of each telegram and packet";
+
+// The exit statuses, and where all formats are described.
+const AFTER_OPTIONS: &str =
+    "Status:{n}  0   nothing refused{n}  1   some item refused{n}  3   a line too long, too little memory, or a read or write that failed{n}  64  an unknown argument{n}{n}The formats: man balisefields, or docs/FIELDS.md";
+
+/// What the words ask for. The first is the program's name; `--spell` may be given once.
+///
+/// The fault is `Help` where clap is asked for it first, `Other` where a word isn't the program's, and `Memory` at any
+/// time.
+pub(crate) fn check_words<'a>(alloc: Global, words: &'a [&'a str]) -> Result<Way, ArgsFault>
+    ensures { Asks (map (λ w. w.now) words.now) result }
+{
+    let Ok(command) = command(alloc) else {
+        return Err(ArgsFault::Memory);
+    };
+    match command.try_get_matches_from(words) {
+        Ok(matches) => Ok(Way::of_flag(is_used(&matches, "spell"))),
+        Err(error) => Err(fault_of(error)),
+    }
+}
+
+// The fault that an error of clap is.
+fn fault_of(error: Error) -> ArgsFault
+    ensures { IsFor error result }
+{
+    match error.kind() {
+        ErrorKind::OutOfMemory => ArgsFault::Memory,
+        ErrorKind::DisplayHelp => ArgsFault::Help(error),
+        _ => ArgsFault::Other(error),
+    }
+}
+
+// The command line, for clap.
+#[tactic(auto, unfolding(crate::specs::Arguments::program))]
+fn command<'a>(alloc: Global) -> Result<Command<'a>, AllocError>
+    ensures { IfOk result (λ c. app_of c ≡ program) }
+{
+    let command = described(alloc);
+    let spell = flag(alloc, "spell", SPELL);
+    command.arg(spell)
+}
+
+// An argument `--NAME` that takes no value.
+fn flag<'a>(alloc: Global, name: &'a str, help: &'a str) -> Arg<'a>
+    ensures rule { rule_of result ≡ flag_rule name.entry.now }
+    ensures local { result.global ≡ false }
+{
+    Arg::new(alloc, name)
+        .long(name)
+        .action(ArgAction::SetTrue)
+        .help(help)
+}
+
+// Whether clap found the argument among the words.
+fn is_used(matches: &ArgMatches<'_>, name: &str) -> bool
+    ensures { IsTrue result ↔ (first_value (found_of matches.now) name.now ≡ Some (codes "true")) }
+{
+    matches.get_str(name) == Some("true")
+}
+
+// The command line without its argument.
+fn described<'a>(alloc: Global) -> Command<'a>
+    ensures { app_of result ≡ new_app (codes "balisefields") }
+{
+    Command::new(alloc, "balisefields")
+        .about(ABOUT)
+        .override_usage(USAGE)
+        .after_help(AFTER_OPTIONS)
+}

@@ -1,0 +1,14 @@
+//! The program `balisefields` over its words and its three streams: digits are explained as fields, and fields are spelt as digits.
+#![tactic(auto)]
+
+mod arguments;
+mod command_line;
+mod exit;
+mod on_system;
+mod program;
+mod way;
+
+pub use balise_lines::Counted;
+pub use balise_rules::Refusal;
+pub use command_line::{launch, stop_without_memory};
+pub use exit::Exit;

@@ -1,0 +1,9 @@
+pub mod RunSteps
+pub mod LinesTaken
+pub mod RunEnds
+pub mod ItemsPushed
+pub mod ItemRuns
+pub mod ItemEnds
+pub mod TextParts
+pub mod SpelledBack
+pub mod ExplainedBack

@@ -1,0 +1,8 @@
+pub mod Faults
+pub mod Statuses
+pub mod Explained
+pub mod Steps
+pub mod ItemLines
+pub mod Spelt
+pub mod ItemSteps
+pub mod SpelledBack

@@ -1,0 +1,6 @@
+//! The tests, by topic.
+
+mod devices;
+mod programs;
+mod runs;
+mod spellings;

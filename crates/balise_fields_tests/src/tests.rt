@@ -1,0 +1,5 @@
+//! The tests, by topic.
+
+mod explained;
+mod lines;
+mod rows;

@@ -1,0 +1,12 @@
+pub mod LineParts
+pub mod HeaderValues
+pub mod PacketEnds
+pub mod PacketBits
+pub mod PartsJoined
+pub mod HeaderFields
+pub mod SpeltRead
+pub mod ItemsMade
+pub mod ExplainedSpelt
+pub mod DigitsBack
+pub mod PrintedLines
+pub mod ExplainedPrinted

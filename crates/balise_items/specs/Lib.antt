@@ -1,0 +1,9 @@
+pub mod Places
+pub mod Sections
+pub mod Items
+pub mod Begins
+pub mod Reasons
+pub mod Packets
+pub mod Telegrams
+pub mod Spellings
+pub mod Laws

@@ -1,0 +1,21 @@
+//! The laws of both ways. Each function does nothing: its contract is the law.
+
+ghost use Rattle.balise_items.specs.Laws.{PacketIsPrinted, PacketIsSpelt, SpeltIsPacket, SpeltIsTelegram, TelegramIsPrinted, TelegramIsSpelt};
+
+/// What is explained of a telegram or a packet is spelt as the same bits, padding included.
+pub fn explained_is_spelt()
+    ensures telegram { TelegramIsSpelt }
+    ensures packet { PacketIsSpelt }
+{}
+
+/// What is printed for a telegram or a packet says what its lines do.
+pub fn printed_is_read()
+    ensures telegram { TelegramIsPrinted }
+    ensures packet { PacketIsPrinted }
+{}
+
+/// What is spelt is read as a telegram or a packet with the same fields.
+pub fn spelt_is_explained()
+    ensures telegram { SpeltIsTelegram }
+    ensures packet { SpeltIsPacket }
+{}

@@ -1,0 +1,6 @@
+//! The tests, by topic.
+
+mod begins;
+mod items;
+mod largest;
+mod rows;

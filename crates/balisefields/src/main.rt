@@ -1,0 +1,9 @@
+//! Reads digits from standard input and writes their fields.
+#![tactic(auto)]
+
+use balise_fields_cli::launch_on_system;
+use std::process::ExitCode;
+
+fn main(rt: HostRuntime) -> ExitCode {
+    launch_on_system!(rt)
+}

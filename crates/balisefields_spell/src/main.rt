@@ -1,0 +1,9 @@
+//! The program with `--spell`: fields from standard input are spelt as digits.
+#![tactic(auto)]
+
+use balise_fields_cli::launch_on_system;
+use std::process::ExitCode;
+
+fn main(rt: HostRuntime) -> ExitCode {
+    launch_on_system!(rt)
+}

@@ -1,10 +1,14 @@
 # make            proves and builds the program                 crates/baliseplan/out/baliseplan
+# make fields     the program that explains digits as fields    crates/balisefields/out/balisefields
 # make library    proves and builds the library                 out/libbaliseplan.a
 # make shared     the same as a shared object                   out/libbaliseplan.so
 # make wheel      the module for Python, with the library in it out/wheel/
 # make page       the page of the proved engine                 page/baliseplan.html (it is in the repository)
+# make dist       all of these for those without a kit          out/dist/: an archive and a Debian package (docs/INSTALL.md)
+# make check-dist what a user of these meets, in a bare Debian
+# make dist-twice whether two clones give the same bytes
 # make check      everything that has to hold before a change goes in: the gate, and all other tests (scripts/check/README.md)
-# make install    puts what was built below PREFIX (and DESTDIR, where it is given): program, manual, pages, header,
+# make install    puts what was built below PREFIX (and DESTDIR, where it is given): programs, manual, pages, header,
 #                 libraries, pkg-config file and completions
 # make uninstall  removes these
 #
@@ -38,12 +42,17 @@ shared_object := out/libbaliseplan.so.$(abi)
 sources := library/run_alloc.c library/texts.c
 pages := $(wildcard docs/*.md docs/*.svg) CHANGELOG.md
 
-.PHONY: all program library shared page wheel packed packed-shared check install uninstall clean
+.PHONY: all program fields library shared page wheel packed packed-shared dist packed-dist check-dist dist-twice check \
+    install uninstall clean
 all: program
 
 # rt itself finds out what has to be done again, so these run each time.
 program:
 	cd crates/baliseplan && rt run < ../../examples/temporary_speed.plan > /dev/null
+
+# The run of its example ends with the status that is stored with that.
+fields:
+	cd crates/balisefields && { cat stdin 2> /dev/null | rt run > /dev/null; [ "$$?" = "$$(cat status 2> /dev/null || echo 0)" ]; }
 
 library:
 	cd crates/balise_c && rt lib
@@ -87,6 +96,20 @@ packed-wheel:
 	cp $(shared_object) out/package/baliseplan/
 	$(PYTHON) -m pip wheel --quiet --no-deps --no-build-isolation --no-index -w out/wheel out/package
 
+# What is packed was built here just before, and BUILD names the kit. `make packed-dist` packs what is there.
+dist: program shared $(patsubst crates/balise%,%,$(wildcard crates/balisefields))
+	$(MAKE) --no-print-directory packed-dist KIT="$$(rt version | tr '\n' ' ')"
+
+packed-dist:
+	$(PYTHON) scripts/dist/dist.py --kit '$(KIT)'
+
+# CACHE is a folder for the bare Debian, so that several clones have one.
+check-dist:
+	scripts/check/dist.sh $(if $(CACHE),--cache '$(CACHE)')
+
+dist-twice:
+	scripts/dist/twice.sh
+
 # ALL_OF_IT=yes: what can't be run counts as failed. WITHOUT=gate: leaves out the parts whose names match, and says so.
 check:
 	@WITHOUT='$(WITHOUT)' scripts/check/everything.sh $(if $(ALL_OF_IT),--all-of-it)
@@ -99,6 +122,9 @@ install:
 	    "$(DESTDIR)$(DATADIR)/bash-completion/completions" "$(DESTDIR)$(DATADIR)/zsh/site-functions" \
 	    "$(DESTDIR)$(DATADIR)/fish/vendor_completions.d"
 	$(INSTALL) -m 755 $(program) "$(DESTDIR)$(BINDIR)/baliseplan"
+	if [ -f crates/balisefields/out/balisefields ]; then \
+	    $(INSTALL) -m 755 crates/balisefields/out/balisefields "$(DESTDIR)$(BINDIR)/balisefields" && \
+	    $(INSTALL) -m 644 man/balisefields.1 "$(DESTDIR)$(MANDIR)/man1/balisefields.1"; fi
 	$(INSTALL) -m 644 man/baliseplan.1 "$(DESTDIR)$(MANDIR)/man1/baliseplan.1"
 	$(INSTALL) -m 644 man/baliseplan.3 "$(DESTDIR)$(MANDIR)/man3/baliseplan.3"
 	$(INSTALL) -m 644 $(pages) "$(DESTDIR)$(DOCDIR)"
@@ -115,7 +141,8 @@ install:
 	$(INSTALL) -m 644 completions/baliseplan.fish "$(DESTDIR)$(DATADIR)/fish/vendor_completions.d/baliseplan.fish"
 
 uninstall:
-	rm -f "$(DESTDIR)$(BINDIR)/baliseplan" "$(DESTDIR)$(INCLUDEDIR)/baliseplan.h" \
+	rm -f "$(DESTDIR)$(BINDIR)/balisefields" "$(DESTDIR)$(MANDIR)/man1/balisefields.1" \
+	    "$(DESTDIR)$(BINDIR)/baliseplan" "$(DESTDIR)$(INCLUDEDIR)/baliseplan.h" \
 	    "$(DESTDIR)$(MANDIR)/man1/baliseplan.1" "$(DESTDIR)$(MANDIR)/man3/baliseplan.3" \
 	    "$(DESTDIR)$(LIBDIR)/libbaliseplan.a" "$(DESTDIR)$(LIBDIR)/libbaliseplan.so" \
 	    "$(DESTDIR)$(LIBDIR)/libbaliseplan.so.$(abi)" "$(DESTDIR)$(LIBDIR)/pkgconfig/baliseplan.pc" \

@@ -74,7 +74,8 @@ const char *baliseplan_strerror(int32_t answer);
  * and the number of these bytes to *written; the bytes after them stay as they are.
  * Returns a status, a fault or BALISEPLAN_USAGE.
  *
- * It allocates output_len + 1 bytes beside what the plan and its edits take, and frees them. It needs 16 KiB of stack. */
+ * It allocates output_len + 1 bytes beside what the plan and its edits take, and frees them. It takes nearly 16 KiB of
+ * stack: a thread that calls it needs 32. */
 int32_t baliseplan_run(const uint8_t *input, size_t input_len, uint32_t flags, uint8_t *output, size_t output_len,
                        size_t *written);
 

@@ -6,10 +6,12 @@
 set -u
 packages=(
     # the checks of the program and of the library
-    bats binutils diffutils g++ gcc graphviz jq libc6-dev make mandoc pkgconf python3 shellcheck strace valgrind
+    bats binutils diffutils g++ gcc graphviz jq libc6-dev make mandoc pkgconf python3 shellcheck strace time valgrind
     mypy python3-cffi python3-hypothesis python3-pip python3-pytest python3-setuptools python3-wheel
     # page/ and desk/
     binaryen chromium chromium-driver firefox-esr node-typescript nodejs python3-click python3-jinja2 python3-rich python3-selenium
+    # make dist and make check-dist
+    debootstrap git
 )
 command -v cargo > /dev/null || packages+=(cargo)
 

@@ -81,6 +81,18 @@ class State:
     def names(self) -> Names:
         return Names(lambda: self.base_groups, self.groups, self.journal, self.tags)
 
+    @cached_property
+    def turns_without_review(self) -> list[int]:
+        """Turns of several balises that stand, and of which no review is kept: they left none, or came with a journal."""
+        noted = {item.serial for item in self.reviews.items}
+        turns = [entry for entry in self.journal.standing if entry.kind == "turn" and entry.serial not in noted]
+        return [entry.serial for entry in turns if self._balises(entry.group) > 1]
+
+    def _balises(self, tag: str) -> int:
+        """How many balises a group has, by its tag. No edit changes that."""
+        number = int(tag[1:])
+        return len(self.base_groups[number].sizes) if tag[0] == "b" else len(self.journal.by_serial[number].digits)
+
     def names_of(self, identities: set[str]) -> Names:
         """The same for edits of some groups alone, which is quicker on a long line."""
         places = [self.groups.places[each] for each in identities if each in self.groups.places]

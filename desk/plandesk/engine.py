@@ -9,6 +9,7 @@ import subprocess
 from collections.abc import Iterable, Sequence
 from dataclasses import dataclass, field
 from functools import cached_property
+from hashlib import sha256
 from pathlib import Path
 
 from plandesk.damage import damage_of
@@ -74,6 +75,15 @@ class Engine:
     @property
     def name(self) -> str:
         return " ".join(self.words)
+
+    @property
+    def checksum(self) -> str:
+        """The SHA-256 of the program. Empty where it can't be read, or has words of its own."""
+        found = shutil.which(self.words[0]) if len(self.words) == 1 else None
+        try:
+            return sha256(Path(found).read_bytes()).hexdigest() if found else ""
+        except OSError:
+            return ""
 
     def run(
         self,

@@ -8,7 +8,7 @@ from collections.abc import Callable
 from plandesk.command_lines import FORMS
 from plandesk.engine import Reply
 from plandesk.refusals import text_of
-from plandesk.view import Group, Groups, links_of
+from plandesk.view import Group, Groups, Packet, links_of
 from plandesk.vocabulary import HEADER_SET, is_steering, packet_name, variable, variables
 
 
@@ -18,12 +18,12 @@ def explain(command: str, reply: Reply, groups: Groups) -> str:
         return f"edit {reply.depends} depends on it; `plandesk strike` lists all that do"
     words = command.split(" ")
     if reply.number == 1:
-        return _form(words)
+        return _form(words, groups)
     special = SPECIAL.get(reply.number)
     return special(words, groups) if special else text_of(reply.number)
 
 
-def _form(words: list[str]) -> str:
+def _form(words: list[str], groups: Groups) -> str:
     kind = words[0]
     if kind not in FORMS:
         near = difflib.get_close_matches(kind, list(FORMS), 1, 0.5)
@@ -32,8 +32,11 @@ def _form(words: list[str]) -> str:
         return "there are two blanks in a row, or one at the end"
     place = {"set": 4, "seth": 3}.get(kind)
     if place is not None and len(words) > place and not variable(words[place]):
+        packet = _addressed(words, groups) if kind == "set" else None
+        if packet is not None and not packet.known:
+            return _kept(words, packet)
         near = difflib.get_close_matches(words[place], variables(), 2, 0.5)
-        return f"there is no variable {words[place]}{_or(near)}"
+        return f"the engine knows no variable {words[place]}{_or(near)}"
     if kind == "set" and len(words) == 6:
         return f"K is missing: `{' '.join([*words[:5], '0', words[5]])}` sets the first {words[4]}"
     return f"the form is `{FORMS[kind]}`"
@@ -41,6 +44,20 @@ def _form(words: list[str]) -> str:
 
 def _or(near: list[str]) -> str:
     return f"; did you mean {' or '.join(near)}?" if near else ""
+
+
+def _addressed(words: list[str], groups: Groups) -> Packet | None:
+    """The packet that a set names, if it is there."""
+    try:
+        return _group(words, groups).telegrams[int(words[2])].packets[int(words[3])]
+    except (KeyError, IndexError, ValueError):
+        return None
+
+
+def _kept(words: list[str], packet: Packet) -> str:
+    """Why a field of a packet that the engine doesn't know isn't set."""
+    which = f"{' '.join(words[1:4])} is packet {packet.number} ({packet_name(packet.number)})"
+    return f"{which}, which the engine keeps bit for bit: only its Q_DIR can be set. Delete it, and insert other digits"
 
 
 def near_groups(name: str, groups: Groups) -> str:
@@ -73,6 +90,8 @@ def _no_variable(words: list[str], groups: Groups) -> str:
         return f"of a header {', '.join(HEADER_SET)} can be set, and {words[3]} can't"
     pig, pkt, name, k = int(words[2]), int(words[3]), words[4], int(words[5])
     packet = group.telegrams[pig].packets[pkt]
+    if not packet.known:
+        return _kept(words, packet)
     count = sum(field.name == name for field in packet.fields)
     if count:
         return f"the packet has {name} {count} times: K is from 0 to {count - 1}, and not {k}"

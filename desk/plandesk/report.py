@@ -55,12 +55,14 @@ def facts_of(state: State, diffs: Sequence[GroupDiff], request: Request | None =
     """What the page shows, but for the verdict."""
     facts = {
         "engine": state.engine.name,
+        "engine_sum": state.engine.checksum,
         "groups": len(state.groups),
         "undone": state.journal.undone[::-1],
         "missing": [link for link in links_of(state.groups) if link.missing],
         "unknown": list(unknown_packets(state)),
         "checksums": state.checksums,
         "reviews": list(reviews(state)),
+        "turns_without_review": state.turns_without_review,
     }
     return facts | of_edits(state) | of_groups(state, diffs, request) | pictures(state, diffs)
 

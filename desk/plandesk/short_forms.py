@@ -13,11 +13,11 @@ from collections.abc import Sequence
 from dataclasses import dataclass
 
 from plandesk.amounts import NoAmount, has_unit, raw_value
-from plandesk.engine import Engine
+from plandesk.engine import Engine, Reply
 from plandesk.errors import Refusal
 from plandesk.explain import explain
 from plandesk.view import Groups, bits_of, digits_of, telegrams_of
-from plandesk.vocabulary import is_distance, packet_name
+from plandesk.vocabulary import is_distance, is_steering, packet_name, variable
 
 EMPTY = {
     5: "05408a000000000000",
@@ -68,7 +68,7 @@ class Writer:
             if place is None:
                 raise Refusal(f"`{line[:60]} ..`: the plan has no group {words[2]} then")
             return " ".join(["add", str(place + 1), *words[3:]])
-        if words[0] == "set" and len(words) == 7 and has_unit(words[6]):
+        if words[0] == "set" and len(words) == 7 and variable(words[4]) and has_unit(words[6]):
             scale = _scale(self.met, words) if is_distance(words[4]) else None
             return " ".join([*words[:6], str(_raw(words[4], words[6], scale, line))])
         return line
@@ -88,12 +88,13 @@ def _keeps_places(command: str) -> bool:
 
 
 def _scale(groups: Groups, words: list[str]) -> int | None:
-    """Q_SCALE of the packet that a set addresses. 1 where it isn't there: the engine will refuse the command."""
+    """Q_SCALE of the packet that a set addresses. 1 where the engine will refuse the command: no such packet is known."""
     group = groups.named(words[1])
     try:
-        return group.telegrams[int(words[2])].packets[int(words[3])].scale if group else 1
+        packet = group.telegrams[int(words[2])].packets[int(words[3])] if group else None
     except (ValueError, IndexError):
         return 1
+    return packet.scale if packet is not None and packet.known else 1
 
 
 def _raw(name: str, value: str, scale: int | None, line: str) -> int:
@@ -117,10 +118,18 @@ def _put(engine: Engine, words: list[str]) -> str:
     run = engine.run(SPARE_PLAN, "", commands)
     for command, reply in zip(commands, run.replies, strict=True):
         if reply.refused:
-            raise Refusal(f"`{line}`: {explain(command, reply, run.groups)}")
+            raise Refusal(f"`{line}`: {_why(number, command, reply, run.groups)}")
     length = run.groups[0].telegrams[0].packets[0].bits
     bits = bits_of(telegrams_of(run.plan)[0][0], 830)[50 : 50 + length]
     return f"insert {' '.join(words[2:5])} {digits_of(bits)}"
+
+
+def _why(number: int, command: str, reply: Reply, groups: Groups) -> str:
+    """Why a value of a `put` was refused."""
+    name = command.split(" ")[4:5]
+    if name and is_steering(name[0]):
+        return f"{name[0]} says what follows it, and `put` writes the shortest packet {number}: insert the digits of another"
+    return explain(command, reply, groups)
 
 
 def _values(words: Sequence[str], line: str) -> dict[str, str]:

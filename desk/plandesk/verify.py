@@ -62,6 +62,11 @@ class Verdict:
         return self.result == SAME
 
     @property
+    def by_both(self) -> bool:
+        """Whether both programs make the plan."""
+        return self.good and self.reference == "yes"
+
+    @property
     def title(self) -> str:
         return TITLES[self.result]
 
@@ -70,7 +75,7 @@ class Verdict:
         """Who makes the plan."""
         if not self.good:
             return ""
-        return "Both programs make it." if self.reference == "yes" else f"The engine makes it. {self.reference}".strip()
+        return "Both programs make it." if self.by_both else f"The engine makes it. {self.reference}".strip()
 
     @property
     def sentence(self) -> str:

@@ -16,6 +16,7 @@ NO_GROUP = 16383
 HEADER = ("M_VERSION", "M_DUP", "M_MCOUNT", "Q_LINK")
 IDENTITY = re.compile(r'\{"country":(\d+),"number":(\d+),')
 NAMES_A_GROUP = '["NID_BG",'
+KEPT = '"known":false'
 
 
 class Field(NamedTuple):
@@ -194,6 +195,17 @@ def packet_links(group: Group, pig: int, pkt: int, here: Container[str]) -> Iter
             nominal = None if orientation is None else orientation == 1
             missing = target not in here
             yield Link(group.name, pig, pkt, field.k, target, infill, nominal, packet.direction, metres, missing)
+
+
+def kept_packets(groups: Groups) -> Iterator[tuple[str, Packet]]:
+    """The packets that the engine doesn't know, with their places in the words of a command."""
+    for at, line in enumerate(groups.lines):
+        if KEPT not in line:
+            continue
+        for pig, telegram in enumerate(groups[at].telegrams):
+            for pkt, packet in enumerate(telegram.packets):
+                if not packet.known:
+                    yield f"{groups[at].name} {pig} {pkt}", packet
 
 
 def telegrams_of(plan: str) -> tuple[tuple[str, ...], ...]:

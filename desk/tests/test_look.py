@@ -46,6 +46,18 @@ def test_show_and_links(week: Desk, line: Path) -> None:
     assert "6.20  500 m  nominal  for trains nominal  not in this plan" in week("links", "--dangling").output
     assert len(week("links", "--to", "5.300").output.splitlines()) == 3
     assert json.loads(week("links", "--unknown", "--json").output)[0]["place"] == "5.300 0 0"
+    assert "has numbers of groups" not in week("links", "--unknown").output
+
+
+def test_packets_that_a_renumbering_does_not_follow(desk: Desk) -> None:
+    assert "doesn't follow" not in desk("do", "renumber 5.200 250").output
+    assert desk("do", "insert 5.100 0 1 5a804c03e8").exit_code == 0
+    shown = desk("links", "--unknown").output
+    assert "5.100 0 1  90  track ahead free up to level 2/3 transition  has numbers of groups" in shown
+    assert [each["names_groups"] for each in json.loads(desk("links", "--unknown", "--json").output)] == [True, False]
+    words = "1 packet has numbers of groups that a renumbering doesn't follow, so look at each: 5.100 0 1 (packet 90)"
+    assert words in desk("do", "renumber 5.250 260").output
+    assert words not in desk("do", "turn 5.260").output
 
 
 def test_diff(week: Desk, line: Path) -> None:

@@ -14,6 +14,11 @@ from conftest import TOP, Desk, call, files
         ("sett 5.200 1 0 V_TSR 0 6", "did you mean set?"),
         ("set 5.200 1 0 V_TSR 6", "K is missing: `set 5.200 1 0 V_TSR 0 6`"),
         ("set 5.200 1 0 V_TRS 0 6", "did you mean V_TSR"),
+        ("set 5.200 1 0 V_TRS 0 30km/h", "the engine knows no variable V_TRS; did you mean V_TSR"),
+        ("set 5.300 1 0 D_TRACKCOND 0 300m", "5.300 1 0 is packet 44 (data of applications outside ETCS), which the engine keeps"),
+        ("set 5.300 1 0 Q_SCALE 0 1", "only its Q_DIR can be set. Delete it, and insert other digits"),
+        ("set 5.300 1 0 D_TSR 0 300m", "only its Q_DIR can be set"),
+        ("put 41 5.200 1 0 M_LEVELTR=2", "M_LEVELTR says what follows it, and `put` writes the shortest packet 41"),
         ("set 5.201 1 0 V_TSR 0 6", "did you mean 5.200"),
         ("set 5.200 2 0 V_TSR 0 6", "has no telegram 2: 0 to 1"),
         ("set 5.200 1 4 V_TSR 0 6", "0 is packet 65"),
@@ -120,8 +125,15 @@ def test_init_takes_over_a_folder_that_was_kept_by_hand(week: Desk, line: Path, 
     hand.mkdir()
     for name in ("base.plan", "journal", "line.plan"):
         (hand / name).write_bytes((line / name).read_bytes())
-    assert call("-C", hand, "init", hand / "base.plan", "--journal", hand / "journal").exit_code == 0
+    result = call("-C", hand, "init", hand / "base.plan", "--journal", hand / "journal")
+    assert (result.exit_code, "The journal has a turn, edit 5. What that left" in result.output) == (0, True)
     assert call("-C", hand, "verify", "--engine-only").exit_code == 0
+    assert "No review is open\nTurns without a review: 5. They left none" in call("-C", hand, "reviews").output
+    assert call("-C", hand, "report", "--engine-only", "-o", tmp_path / "report.html").exit_code == 0
+    assert "Turns without a review: 5." in (tmp_path / "report.html").read_text()
+    (hand / "reviews").write_bytes((line / "reviews").read_bytes())
+    assert call("-C", hand, "reviews").output == week("reviews").output != ""
+    assert "Turns without" not in week("reviews").output
     (hand / "line.plan").write_text("mine")
     assert call("-C", hand, "init", hand / "base.plan", "--journal", hand / "journal").exit_code == 64
     assert (hand / "line.plan").read_text() == "mine"

@@ -13,6 +13,7 @@ from typing import Any
 
 import pytest
 from conftest import Desk
+from plandesk.engine import Engine, find_engine
 
 PARTS = ["insert 5.200 1 1 41408e000000000000", "set 5.200 1 1 Q_SCALE 0 1", "set 5.200 1 1 V_TSR 0 60km/h"]
 
@@ -56,6 +57,8 @@ def test_it_has_the_facts(page: Path, line: Path) -> None:
     text = page.read_text()
     for name in ("base.plan", "journal", "line.plan"):
         assert hashlib.sha256((line / name).read_bytes()).hexdigest() in text
+    program = find_engine()
+    assert program.checksum == "" or f"<td>engine</td><td><code>{program.checksum}</code>" in text
     assert "They belong together." in text and "Both programs make it." in text
     assert "line.plan is base.plan with the 6 edits that stand in journal" in text
     found = json.loads(re.search(r'id="dependents">(.*?)</script>', text)[1])  # type: ignore[index]
@@ -63,6 +66,15 @@ def test_it_has_the_facts(page: Path, line: Path) -> None:
     assert "V_TSR 8 → 6 (40 km/h → 30 km/h)" in text
     assert "not in the request" in text
     assert len(text) < 100_000
+
+
+def test_the_checksum_is_that_of_the_program(tmp_path: Path) -> None:
+    program = tmp_path / "program"
+    program.write_bytes(b"#!/bin/sh\n")
+    assert Engine((str(program),)).checksum == ""
+    program.chmod(0o755)
+    assert Engine((str(program),)).checksum == hashlib.sha256(b"#!/bin/sh\n").hexdigest()
+    assert Engine((str(program), "-B")).checksum == Engine((str(tmp_path / "none"),)).checksum == ""
 
 
 def test_it_says_what_is_wrong(desk: Desk, line: Path) -> None:

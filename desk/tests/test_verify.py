@@ -80,10 +80,13 @@ def test_many(week: Desk, line: Path) -> None:
     assert call("verify", every / "line0", every / "line1").exit_code == 0
 
 
-def test_the_reference_may_take_too_long(week: Desk) -> None:
+def test_the_reference_may_take_too_long(week: Desk, tmp_path: Path) -> None:
     result = week("verify", "--limit", "0.001")
-    assert result.exit_code == 0
+    assert result.exit_code == 2
+    assert result.output.startswith("half")
     assert "The reference program gave no answer" in result.output
+    assert week("verify", "--limit", "0.001", "--engine-only").exit_code == 0
+    assert week("report", "--limit", "0.001", "-o", tmp_path / "report.html").exit_code == 2
 
 
 @pytest.mark.parametrize("program", ["/nowhere/baliseplan", "/bin/false", "/bin/echo", "/bin/cat"])
@@ -97,4 +100,5 @@ def test_no_engine(week: Desk, monkeypatch: pytest.MonkeyPatch, program: str) ->
 def test_the_reference_is_missing(week: Desk, monkeypatch: pytest.MonkeyPatch) -> None:
     monkeypatch.setenv("BALISEPLAN_REFERENCE", "/nowhere/baliseplan.py")
     result = week("verify")
-    assert (result.exit_code, "isn't there" in result.output) == (0, True)
+    assert (result.exit_code, "isn't there" in result.output) == (2, True)
+    assert week("verify", "--engine-only").exit_code == 0

@@ -77,6 +77,8 @@ def compare(page: Page, open_again: Callable[[], None]) -> None:
     assert plan_now(page) == EXPECTED
     assert page.call("return baliseplan.app.edits") == edits
     assert page.call("return baliseplan.app.journal").encode() == files["journal"]
+    page.css("#tab-reviews").click()
+    page.wait(lambda: "A turn came with the journal: of 5.300, edit" in page.text(".reviews-pane"))
 
 
 def by_mouse(page: Page) -> None:

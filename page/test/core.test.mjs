@@ -9,7 +9,7 @@ import { clean, damageOf } from '../src/core/damage.mjs';
 import { DATA } from '../src/core/data.mjs';
 import { kindOf, partsOf, placeOfLine } from '../src/core/files.mjs';
 import { LAYOUTS, blankPacket } from '../src/core/layouts.mjs';
-import { explain } from '../src/core/refusals.mjs';
+import { explain, unknownVariable } from '../src/core/refusals.mjs';
 import { bytesOf, textOf } from '../src/core/texts.mjs';
 import { HEADER, VARIABLES, grouped, meaning, metresText, rawValue } from '../src/core/variables.mjs';
 import { TOP } from './setup.mjs';
@@ -131,4 +131,8 @@ test('each refusal has words', () => {
   for (let number = 1; number <= 32; number += 1) assert.ok(explain(number).what.length > 5
     && /^[A-Z]\w+$/.test(explain(number).name));
   assert.match(explain(99).what, /99/);
+  assert.match(unknownVariable('set 5.200 0 2 D_TRACKCOND 0 300'), /knows no variable D_TRACKCOND\. It is misspelt/);
+  assert.match(unknownVariable('seth 5.200 0 M_DOUBLE 1'), /M_DOUBLE/);
+  for (const command of ['set 5.200 0 2 V_TSR 0', 'seth 5.200 0 M_DUP 9 9', 'set 5.200', 'sett 5.200 0 0 V_TRS 0 1', ''])
+    assert.equal(unknownVariable(command), '');
 });

@@ -1,6 +1,7 @@
 #!/usr/bin/env bash
 # Times the program on one load after another: scripts/bench/loads.sh [OTHER]. Another program that reads the same text
-# may be named: it is timed in turn, and the outputs are compared. Processor time, the least of eight runs, and memory.
+# may be named: it is timed in turn, and the outputs are compared. Processor time, the least of eight runs, and memory,
+# of one run more. Debian's package time measures that: a run that Python starts counts at least what Python holds.
 set -eu
 other=${1:+$(realpath "$1")}
 cd "$(dirname "$0")/../.."
@@ -23,19 +24,24 @@ folder, program, other, title, *flags = sys.argv[1:]
 runs = {"program": program}
 if other:
     runs["other"] = other
-times, most = {name: [] for name in runs}, dict.fromkeys(runs, 0)
+times, most = {name: [] for name in runs}, {}
 for _ in range(8):
     for name, path in runs.items():
         with open(f"{folder}/input", "rb") as text, open(f"{folder}/{name}", "wb") as out:
             run = subprocess.Popen([path, *flags], stdin=text, stdout=out)
             _, _, usage = os.wait4(run.pid, 0)
         times[name].append(usage.ru_utime + usage.ru_stime)
-        most[name] = max(most[name], usage.ru_maxrss)
-line = f"{title}: {min(times['program']):.3f} s, {most['program'] / 1000:.0f} MB"
+for name, path in runs.items():
+    measure = ["/usr/bin/time", "-q", "-f", "%M", "-o", f"{folder}/memory", path, *flags]
+    with open(f"{folder}/input", "rb") as text, open(f"{folder}/{name}", "wb") as out:
+        subprocess.run(measure, stdin=text, stdout=out)
+    with open(f"{folder}/memory") as memory:
+        most[name] = int(memory.read()) * 1024
+line = f"{title}: {min(times['program']):.3f} s, {most['program'] / 1000000:.1f} MB"
 if other:
     ratio = min(times["program"]) / min(times["other"]), most["program"] / most["other"]
     same = "the same output" if filecmp.cmp(f"{folder}/program", f"{folder}/other", shallow=False) else "ANOTHER OUTPUT"
-    line += f"; beside the other {ratio[0]:.1f} and {ratio[1]:.1f}, {same}"
+    line += f"; beside the other {ratio[0]:.2f} and {ratio[1]:.2f}, {same}"
 print(line, flush=True)
 MEASURE
 }

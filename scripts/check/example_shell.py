@@ -2,6 +2,8 @@
 
 import os
 import shlex
+import shutil
+import sys
 from pathlib import Path
 
 from example_pages import Shell
@@ -20,13 +22,25 @@ def as_program(words: list[str], folder: Path) -> Path:
     return program
 
 
+def with_fields(folder: Path) -> None:
+    """A program `balisefields` there: the one in the checkout or on the path, else the reference for it."""
+    built = TOP / "crates" / "balisefields" / "out" / "balisefields"
+    found = str(built) if built.exists() else shutil.which("balisefields")
+    words = [found] if found else [sys.executable, "-B", str(TOP / "reference" / "balisefields.py")]
+    program = folder / "balisefields"
+    program.write_text(f'#!/bin/sh\nexec {shlex.join(words)} "$@"\n')
+    program.chmod(0o755)
+
+
 def ran_in_shell(words: list[str], shell: Shell, folder: Path) -> list[str]:
     """What each block prints, both streams together, with the program as `baliseplan` and in an empty folder."""
     run_in = folder / "run"
     run_in.mkdir()
     for name, text in shell.files:
         (run_in / name).write_text(text)
-    path = os.pathsep.join([str(as_program(words, folder).parent), str(TOP / "desk" / "bin"), os.environ["PATH"]])
+    programs = as_program(words, folder).parent
+    with_fields(programs)
+    path = os.pathsep.join([str(programs), str(TOP / "desk" / "bin"), os.environ["PATH"]])
     # What Python compiles goes to the folder, so that it isn't compiled by each block, and the checkout stays clean.
     more = {"PATH": path, "LC_ALL": "C", "PYTHONPYCACHEPREFIX": str(folder / "cache"), "examples": str(TOP / "examples")}
     without = ("BALISEPLAN", "PYTHONDONTWRITEBYTECODE")

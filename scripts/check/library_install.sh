@@ -77,6 +77,10 @@ share/fish/vendor_completions.d/baliseplan.fish
 share/man/man1/baliseplan.1
 share/man/man3/baliseplan.3
 share/zsh/site-functions/_baliseplan'
+# balisefields is installed where it was built.
+if [ -f crates/balisefields/out/balisefields ]; then
+    files=$(printf '%s\n' "$files" bin/balisefields share/man/man1/balisefields.1 | sort)
+fi
 
 # Places with spaces, a folder of its own for libraries, and what is left after an uninstall.
 odd=(make program="$program" DESTDIR="$folder/a package" PREFIX="/opt/plans and balises")

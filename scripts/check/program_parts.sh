@@ -40,12 +40,16 @@ random() {
 # What needs no program: the pages, the reference, and the checks themselves.
 parts_of_repository() {
     part "links and words of the pages" python3 pages.py
+    part "traces from rules to calls and tests" python3 traces.py
+    part "tests of the traces" with_modules "pytest" PYTHON -m pytest -q -p no:cacheprovider test_traces.py
     part "layout of the manual" bash manual.sh
     part "table of the variables" python3 ../tables/variables.py --check
     part "tests of the reference" env -C "$reference" python3 -m unittest -q test_reference
     part "laws of the reference" with_modules "pytest hypothesis" PYTHON -m pytest -q -p no:cacheprovider "$reference/test_laws.py"
+    part "tests of the reference for fields" env -C "$reference" python3 -m unittest -q test_fields test_spelling
     part "worked rows by the reference" python3 examples.py "python3 $reference/baliseplan.py" rows
     part "faults planted in the reference" python3 planted.py
+    part "faults planted in the reference for fields" python3 planted_fields.py
     part "types of the scripts" bash types.sh
     part "growths of memory in tests" python3 test_growths.py
 }
@@ -61,6 +65,17 @@ parts_of_program() {
     of_program "library and its callers" bash library.sh "$program"
 }
 
+# parts_of_fields TO: compares the program for fields, where it was built, on random items of the seeds from 1.
+parts_of_fields() {
+    local fields=../../crates/balisefields/out/balisefields kind
+    [ -x "$fields" ] || return 0
+    for kind in sound damaged; do
+        local words=(python3 "$reference/compare_fields.py" "$fields" 1 "$1" -j "$(nproc)")
+        [ "$kind" = sound ] || words+=(--damaged)
+        part "random telegrams and packets explained and spelled, $kind" "${words[@]}"
+    done
+}
+
 quick_parts() {
     parts_of_repository
     parts_of_program
@@ -72,6 +87,7 @@ quick_parts() {
         groups-of-eight telegrams-without-end lines-of-telegrams nothing-to-undo drops-of-the-first
     random small 20000
     random medium 400
+    parts_of_fields 20000
 }
 
 all_parts() {
@@ -84,4 +100,5 @@ all_parts() {
     of_program "sizes" python3 ../bench/hostile_loads.py "$program"
     random small 100000
     random medium 5000
+    parts_of_fields 100000
 }

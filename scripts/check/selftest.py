@@ -8,6 +8,7 @@ Ends with 0; with 1 if a check didn't find a wrong program; with 2 if a check co
 """
 
 import os
+import shlex
 import shutil
 import subprocess
 import sys
@@ -17,8 +18,10 @@ from concurrent.futures import ThreadPoolExecutor
 from dataclasses import dataclass
 from pathlib import Path
 
+import planted_fields
 from planted import FAULTS
 from runs import NOT_RUN, RIGHT, WRONG, Missing, ended, need
+from wrong_dists import WRONG_DISTS
 
 HERE = Path(__file__).resolve().parent
 TOP = HERE.parents[1]
@@ -119,12 +122,89 @@ def of_tests(folder: Path) -> Iterator[Task]:
     page.parent.mkdir()
     page.write_text("[a page](docs/NOT_THERE.md)\n")
     yield "pages.py", "has a link that leads nowhere", [PYTHON, "pages.py", str(page.parent)], WRONG, "30"
+    yield from of_traces(folder)
+    yield "dist_files.py", "is right", [PYTHON, "wrong_dists.py", "right"], RIGHT, "30"
+    for kind, (what, *_) in WRONG_DISTS.items():
+        yield "dist_files.py", what, [PYTHON, "wrong_dists.py", kind], WRONG, "30"
     yield "variables.py", "has two variables exchanged", variables(folder / "table"), WRONG, "30"
     unittest = ("-m", "unittest", "-q", "test_reference.WorkedExamples")
     yield "test_reference.py", "pads with ones", reference(folder / "1", PYTHON, "the padding is ones", *unittest), WRONG, "120"
     laws = ("-m", "pytest", "-q", "-p", "no:cacheprovider", "test_laws.py")
     strike = "a strike leaves later edits on the anchor that is gone"
+    yield from of_fields(folder)
     yield "test_laws.py", "strikes wrongly", reference(folder / "2", debian_python(), strike, *laws), WRONG, "120"
+
+
+TRACES = (
+    ("has lost a row of its page", "docs/TRACES.md", "| `Session::undo` |", None, ""),
+    ("has a definition renamed", "crates/balise_rules/specs/Plan.antt", "reserved", "withheld", ""),
+    ("has a call without its contract", "crates/balise_plan/src/plan.rt", "        ensures { result ≡ self.now.changes }\n", "", "--write"),
+    ("has lost the only mutation of a call", "crates/balise_plan/must-fail/count_is_half.edit", None, None, "--write"),
+)
+"""Damaged repositories: what is wrong, a file, and the text in it that is replaced; None takes out the line or the file.
+Where the page is written anew, it is what the sources say, and something has no row."""
+
+
+def of_traces(folder: Path) -> Iterator[Task]:
+    """traces.py over copies of the repository."""
+    right = traced(folder / "traces", "")
+    yield "traces.py", "is right", [PYTHON, "traces.py", str(right)], RIGHT, "30"
+    for number, (kind, name, old, new, option) in enumerate(TRACES):
+        top = traced(folder / f"traces_{number}", name)
+        damaged = top / name
+        if old is None:
+            damaged.unlink()
+        else:
+            text = damaged.read_text()
+            lines = text.splitlines(keepends=True)
+            taken = "".join(line for line in lines if not line.startswith(old))
+            damaged.write_text(taken if new is None else text.replace(old, new))
+        yield "traces.py", kind, [PYTHON, "traces.py", *option.split(), str(top)], WRONG, "30"
+
+
+def traced(top: Path, changed: str) -> Path:
+    """A copy of the repository as traces.py reads it. The crate of the file that is to be changed is one of its own."""
+    (top / "crates").mkdir(parents=True)
+    (top / "data").symlink_to(TOP / "data")
+    (top / "crates.txt").symlink_to(TOP / "crates.txt")
+    shutil.copytree(TOP / "docs", top / "docs")
+    for crate in (TOP / "crates").iterdir():
+        to = top / "crates" / crate.name
+        if f"crates/{crate.name}/" in changed:
+            shutil.copytree(crate, to, ignore=shutil.ignore_patterns("out", "proofs"))
+        else:
+            to.symlink_to(crate)
+    return top
+
+
+def of_fields(folder: Path) -> Iterator[Task]:
+    """The checks of fields, which run the reference: with copies that are wrong, and with other programs."""
+    late = "a fault stands one bit too late"
+    yield "test_fields.py", late, reference(folder / "3", PYTHON, late, "-m", "unittest", "-q", "test_fields.Faults"), WRONG, "120"
+    missing = "Missing has the line of the last field"
+    tests = ("-m", "unittest", "-q", "test_spelling.FieldsToDigits")
+    yield "test_spelling.py", missing, reference(folder / "4", PYTHON, missing, *tests), WRONG, "120"
+    right = shlex.join([PYTHON, str(TOP / "reference" / "balisefields.py")])
+    for program, does, due, seconds in (
+        (right, "is right", RIGHT, "30"),
+        ("true", "prints nothing", WRONG, "30"),
+        ("cat", "prints what it reads", WRONG, "30"),
+        (script(f'{right} "$@" | sed 2d'), "drops a line", WRONG, "30"),
+        (script(f'{right} "$@"; exit 77'), "always ends with 77", WRONG, "30"),
+        (script(f'{right} "$@"; status=$?; echo >&2; exit $status'), "prints to standard error", WRONG, "30"),
+        (script("exec sleep 100"), "hangs", WRONG, "1"),
+    ):
+        words = [PYTHON, "../../reference/compare_fields.py", program, "1", "40", "--show", "1", "-j", "1"]
+        yield "compare_fields.py", does, words, due, seconds
+    # The script hands no argument on, so it has no way back.
+    for end, does, due in (("", "has no way back", RIGHT), (" | sed 2d", "explains, and drops a line", WRONG)):
+        words = [PYTHON, "../../reference/compare_fields.py", script(right + end), "1", "40", "--explain-only", "-j", "1"]
+        yield "compare_fields.py", does, words, due, "30"
+
+
+def script(text: str) -> str:
+    """A script of the shell as a program."""
+    return shlex.join(["sh", "-c", text, "sh"])
 
 
 def growths(folder: Path, with_memory: int, without: int, test: str = "test") -> list[str]:
@@ -164,7 +244,8 @@ def reference(top: Path, python: str, planted: str, *tests: str) -> list[str]:
     for name in ("checks", "docs", "examples", "scripts", "man"):
         (top / name).symlink_to(TOP / name)
     shutil.copytree(TOP / "reference", top / "reference", ignore=shutil.ignore_patterns("__pycache__", ".*"))
-    fault = next(fault for fault in FAULTS if fault.name == planted)
+    faults = (*FAULTS, *planted_fields.SOUND, *planted_fields.DAMAGED)
+    fault = next(fault for fault in faults if fault.name == planted)
     module = top / "reference" / fault.module
     module.write_text(module.read_text().replace(fault.old, fault.new))
     return ["env", "-C", str(top / "reference"), python, *tests]

@@ -13,6 +13,7 @@ from plandesk.cli.outcome import warn_missing
 from plandesk.engine import Engine, Run, find_engine
 from plandesk.errors import BadInput, Fault, Usage
 from plandesk.folder import Folder
+from plandesk.journal import read_journal
 from plandesk.view import links_of
 
 
@@ -69,8 +70,10 @@ def refuse_to_replace(path: Path, texts: dict[str, str]) -> None:
 
 def tell_begun(path: Path, run: Run, letters: bool, as_json: bool) -> None:
     missing = [link for link in links_of(run.groups) if link.missing]
+    turns = [entry.serial for entry in read_journal(run.journal).entries if entry.kind == "turn"]
     if as_json:
-        out.dump({"folder": str(path.absolute()), "groups": len(run.groups), "missing_links": len(missing)})
+        data = {"folder": str(path.absolute()), "groups": len(run.groups), "missing_links": len(missing), "turns": turns}
+        out.dump(data)
         return
     note = f" {', '.join(files.FILES)}"
     place = "here" if path == Path() else str(path)
@@ -78,6 +81,10 @@ def tell_begun(path: Path, run: Run, letters: bool, as_json: bool) -> None:
     if letters:
         out.line(Text("The plan has capital letters among its digits; base.plan has small ones.", "yellow"))
     warn_missing(missing, "")
+    if turns:
+        which = f"a turn, edit {turns[0]}" if len(turns) == 1 else f"turns, edits {out.listed(turns)}"
+        said = f"The journal has {which}. What that left to look at isn't in a journal: copy the file {files.REVIEWS} too."
+        out.line(Text(said, "yellow"))
 
 
 @main.command()

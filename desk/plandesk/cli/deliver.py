@@ -37,7 +37,7 @@ def verify(
     A delivery is right if its journal makes the delivered plan of the base plan, byte for byte.
 
     Without arguments it checks this folder. A FOLDER without base.plan is searched for those that have one.
-    The status is 0 only if every delivery is right.
+    The status is 0 only if every delivery is right by both programs, or with --engine-only by the engine.
     """
     deliveries = find_deliveries(where, paths)
     reference = None if engine_only else find_reference()
@@ -45,12 +45,22 @@ def verify(
     if as_json:
         out.dump([verdict.data() for verdict in verdicts])
     else:
-        tell(verdicts, verbose)
+        tell(verdicts, verbose, engine_only)
     if reference is None and not engine_only:
         out.errors.print(Text("The reference program isn't there: set BALISEPLAN_REFERENCE to it.", "yellow"))
-    if all(verdict.good for verdict in verdicts):
+    return status_of(verdicts, engine_only)
+
+
+def status_of(verdicts: Sequence[Verdict], engine_only: bool) -> int:
+    """2 where something couldn't be checked: a file, or the reference's answer, if it was asked for."""
+    if all(is_right(verdict, engine_only) for verdict in verdicts):
         return OK
-    return BAD_INPUT if any(verdict.result in (UNKNOWN, NOT_READ) for verdict in verdicts) else REFUSED
+    unknown = any(verdict.good or verdict.result in (UNKNOWN, NOT_READ) for verdict in verdicts if not is_right(verdict, engine_only))
+    return BAD_INPUT if unknown else REFUSED
+
+
+def is_right(verdict: Verdict, engine_only: bool) -> bool:
+    return verdict.good if engine_only else verdict.by_both
 
 
 def checked(
@@ -73,23 +83,24 @@ def checked(
     return sorted(verdicts, key=lambda verdict: order[verdict.name])
 
 
-def tell(verdicts: Sequence[Verdict], verbose: bool) -> None:
+def tell(verdicts: Sequence[Verdict], verbose: bool, engine_only: bool) -> None:
     for verdict in verdicts:
-        if verbose or len(verdicts) <= MOST_SHOWN or not verdict.good:
-            tell_verdict(verdict, len(verdicts) > 1)
+        if verbose or len(verdicts) <= MOST_SHOWN or not is_right(verdict, engine_only):
+            tell_verdict(verdict, len(verdicts) > 1, engine_only)
     if len(verdicts) > 1:
-        good = sum(verdict.good for verdict in verdicts)
-        alone = sum(verdict.good and verdict.reference != "yes" for verdict in verdicts)
-        style = "bold green" if good == len(verdicts) else "bold red"
-        note = f", {alone} of them by the engine alone" if alone else ""
-        out.line(Text(f"{good} of {len(verdicts)} are right", style), Text(note, "yellow"))
+        right = sum(is_right(verdict, engine_only) for verdict in verdicts)
+        alone = sum(verdict.good and not verdict.by_both for verdict in verdicts)
+        style = "bold green" if right == len(verdicts) else "bold red"
+        note = f", {alone} by the engine alone" if alone else ""
+        out.line(Text(f"{right} of {len(verdicts)} are right", style), Text(note, "yellow"))
 
 
-def tell_verdict(verdict: Verdict, many: bool) -> None:
-    word = "right  " if verdict.good else "unknown" if verdict.result == UNKNOWN else "wrong  "
+def tell_verdict(verdict: Verdict, many: bool, engine_only: bool) -> None:
+    right = is_right(verdict, engine_only)
+    word = "right  " if right else "half   " if verdict.good else "unknown" if verdict.result == UNKNOWN else "wrong  "
     count = f"{verdict.standing} of {out.count(verdict.edits, 'edit')} stand, {out.count(verdict.groups, 'group')}"
     note = f"  {count}" if verdict.good else ""
-    style = "bold green" if verdict.good else "bold red"
+    style = "bold green" if right else "bold yellow" if verdict.good else "bold red"
     out.line(Text(word, style), f" {verdict.name}: {verdict.sentence}", Text(note, "dim"))
     for finding in verdict.findings:
         out.line("        ", finding)
@@ -151,4 +162,4 @@ def report(
         out.dump({"report": str(output), "verdict": verdict.data()})
     else:
         out.line(f"{output}: {verdict.sentence}")
-    return OK if verdict.good else REFUSED
+    return status_of([verdict], engine_only)

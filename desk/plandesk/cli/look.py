@@ -18,8 +18,8 @@ from plandesk.explain import near_groups
 from plandesk.folder import Folder
 from plandesk.journal import Entry
 from plandesk.sentences import sentence
-from plandesk.view import Group, Groups, Packet, links_of
-from plandesk.vocabulary import meaning, packet_name
+from plandesk.view import Group, Groups, Packet, kept_packets, links_of
+from plandesk.vocabulary import meaning, names_groups, packet_name
 
 
 @main.command()
@@ -222,17 +222,13 @@ def links(
 
 def tell_unknown(groups: Groups, as_json: bool) -> int:
     """A renumbering doesn't follow numbers of groups in these packets."""
-    found = [
-        {"place": f"{group.name} {pig} {pkt}", "number": packet.number, "name": packet_name(packet.number)}
-        for group in groups
-        for pig, telegram in enumerate(group.telegrams)
-        for pkt, packet in enumerate(telegram.packets)
-        if not packet.known
-    ]
+    found = [(place, packet.number, packet_name(packet.number)) for place, packet in kept_packets(groups)]
     if as_json:
-        out.dump(found)
+        keys = ("place", "number", "name", "names_groups")
+        out.dump([dict(zip(keys, (*each, names_groups(each[1])), strict=True)) for each in found])
     elif found:
-        out.table([[Text(str(each["place"]), "cyan"), str(each["number"]), str(each["name"])] for each in found])
+        marks = [Text("has numbers of groups" if names_groups(number) else "", "yellow") for _, number, _ in found]
+        out.table([[Text(place, "cyan"), str(number), name, mark] for (place, number, name), mark in zip(found, marks, strict=True)])
     else:
         out.line("The engine knows all packets.")
     return OK

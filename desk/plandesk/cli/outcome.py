@@ -13,7 +13,8 @@ from plandesk.explain import explain
 from plandesk.naming import Names
 from plandesk.sentences import Sentence, sentence
 from plandesk.show import review_table
-from plandesk.view import Link, links_of
+from plandesk.view import Link, kept_packets, links_of
+from plandesk.vocabulary import names_groups
 
 MOST_EXPLAINED = 8
 MOST_SHOWN = 60
@@ -51,6 +52,7 @@ def tell(state: State, after: State, outcome: Outcome, where: Sequence[str], dry
         tell_discarded(state, after, dry_run)
         tell_doubtful(outcome)
         warn_new_missing(state, after, outcome)
+        warn_not_followed(after, outcome)
 
 
 def tell_replies(after: State, outcome: Outcome, why: dict[int, str], where: Sequence[str]) -> None:
@@ -162,6 +164,17 @@ def warn_missing(missing: Sequence[Link], now: str) -> None:
         count = f"{out.count(len(missing), 'link')} {'names' if len(missing) == 1 else 'name'}"
         more = " .." if len(missing) > 6 else ""
         out.line(Text(f"{count} a group that isn't in the plan{now}: {which}{more}", "yellow"))
+
+
+def warn_not_followed(after: State, outcome: Outcome) -> None:
+    """Packets with numbers of groups in which the engine follows no renumbering."""
+    if not any(command.startswith("renumber ") and not reply.refused for command, reply in outcome.pairs):
+        return
+    found = [f"{place} (packet {packet.number})" for place, packet in kept_packets(after.groups) if names_groups(packet.number)]
+    if found:
+        which = ", ".join(found[:6]) + (" .." if len(found) > 6 else "")
+        count = f"{out.count(len(found), 'packet')} {'has' if len(found) == 1 else 'have'} numbers of groups"
+        out.line(Text(f"{count} that a renumbering doesn't follow, so look at each: {which}", "yellow"))
 
 
 def outcome_data(state: State, after: State, outcome: Outcome) -> dict[str, Any]:

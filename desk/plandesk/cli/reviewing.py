@@ -75,6 +75,9 @@ def tell_reviews(state: State, shown: Sequence[Review], count: int) -> None:
     ticks = sum(item.done for item in state.reviews.items)
     words = f"{out.count(count, 'review')} open" if count else "No review is open"
     out.line(words, Text(f", {ticks} ticked off" if ticks else "", "dim"))
+    if state.turns_without_review:
+        which = out.listed(state.turns_without_review)
+        out.line(Text(f"Turns without a review: {which}. They left none, or the journal was taken over without it.", "yellow"))
 
 
 def review_data(item: Review, state: State) -> dict[str, Any]:

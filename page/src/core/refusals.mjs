@@ -1,6 +1,8 @@
 // @ts-check
 /** The refusals of docs/FORMATS.md, in words for a person. The engine decides; this only explains. */
 
+import { VARIABLES } from './variables.mjs';
+
 /** @type {Record<number, [name: string, what: string, usually: string]>} */
 const REFUSALS = {
   1: ['BadLine', 'the line has no form that is allowed there',
@@ -48,4 +50,15 @@ const REFUSALS = {
 export function explain(number) {
   const [name, what, usually] = REFUSALS[number] ?? ['Unknown', 'the engine answered ' + number, ''];
   return { name, what, usually };
+}
+
+/**
+ * What is wrong with a command that has no allowed form, where its variable says that; else nothing.
+ * @param {string} command
+ */
+export function unknownVariable(command) {
+  const [kind, , , ...words] = command.split(' ');
+  const name = kind === 'set' ? words[1] : kind === 'seth' ? words[0] : undefined;
+  return !name || name in VARIABLES ? ''
+    : `the engine knows no variable ${name}. It is misspelt, or of a packet that is kept bit for bit`;
 }

@@ -1,7 +1,7 @@
 // @ts-check
 /** The state of the page and what can be done with it. Views listen to its events and call its actions. */
 import { pendingSummaries } from '../core/links.mjs';
-import { explain } from '../core/refusals.mjs';
+import { explain, unknownVariable } from '../core/refusals.mjs';
 import { saveText } from './disk.mjs';
 import { Keeper } from './keeper.mjs';
 import { plural } from './dom.mjs';
@@ -56,6 +56,7 @@ export class App {
     /** whether a download was the last way of saving: nothing tells the page how it ended */ this.downloaded = false;
     /** what was typed and not run */ this.draft = '';
     /** @type {Review[]} */ this.reviews = [];
+    /** the serial from which edits were made here, and not by who gave the journal */ this.madeFrom = 1;
     /** @type {LogLine[]} */ this.log = [];
     this.selected = -1;
     /** @type {Spot | null} */ this.spot = null;
@@ -67,9 +68,9 @@ export class App {
   }
 
   #state() {
-    const { base, journalFile, journal, savedJournal, reviews, draft, downloaded } = this;
+    const { base, journalFile, journal, savedJournal, reviews, madeFrom, draft, downloaded } = this;
     return {
-      baseName: base.name, journalName: journalFile.name, journal, savedJournal, reviews, draft, downloaded,
+      baseName: base.name, journalName: journalFile.name, journal, savedJournal, reviews, madeFrom, draft, downloaded,
       edits: this.standing,
     };
   }
@@ -123,7 +124,7 @@ export class App {
     this.journalFile = { name: journal?.name ?? 'journal', handle: journal?.handle ?? null };
     this.planFile = { name: base.name === 'line.plan' ? 'line.new.plan' : 'line.plan', handle: null };
     Object.assign(this,
-      { groups: [], reviews: kept?.reviews ?? [], log: [], selected: -1, spot: null, loaded: true, read: 0, draft: kept?.draft ?? '', downloaded: kept?.downloaded ?? false });
+      { groups: [], reviews: kept?.reviews ?? [], madeFrom: kept ? kept.madeFrom ?? 1 : update.next, log: [], selected: -1, spot: null, loaded: true, read: 0, draft: kept?.draft ?? '', downloaded: kept?.downloaded ?? false });
     this.#take(update);
     this.savedJournal = kept?.savedJournal ?? this.journal;
     this.emit('opened');
@@ -223,7 +224,7 @@ export class App {
    */
   async do(command, quiet = false) {
     const { replies: [reply] } = await this.run([command]);
-    if (reply?.kind === 'refused' && !quiet) this.tell(`${command} was refused: ${this.reason(reply)}`, 'bad');
+    if (reply?.kind === 'refused' && !quiet) this.tell(`${command} was refused: ${this.reason(reply, command)}`, 'bad');
     return reply;
   }
 
@@ -243,12 +244,14 @@ export class App {
    * @param {string[]} commands @param {Reply[]} replies
    */
   refusals(commands, replies) {
-    const lines = replies.flatMap((reply, i) => (reply.kind === 'refused' ? [`${commands[i]}: ${this.reason(reply)}`] : []));
+    const lines = replies.flatMap((reply, i) => (reply.kind === 'refused' ? [`${commands[i]}: ${this.reason(reply, commands[i])}`] : []));
     return [`Nothing was done: ${plural(lines.length, 'command')} of ${commands.length} would be refused.`, ...lines];
   }
 
-  /** @param {Reply} reply */
-  reason(reply) {
+  /** @param {Reply} reply @param {string} [command] that was refused */
+  reason(reply, command = '') {
+    const unknown = reply.number === 1 && unknownVariable(command);
+    if (unknown) return unknown + '.';
     if (reply.number !== 26) return explain(reply.number).what + '.';
     const edit = this.edits.find(({ s }) => s === reply.first);
     return `edit ${reply.first} depends on it${edit ? ` (${edit.where}: ${edit.what})` : ''}.`;
@@ -317,6 +320,12 @@ export class App {
   get openReviews() {
     const standing = new Set(this.edits.filter((edit) => edit.stands).map((edit) => edit.s));
     return this.reviews.filter((review) => standing.has(review.turn));
+  }
+
+  /** Turns that stand and came with the journal: what they left to look at isn't known here. */
+  get turnsGiven() {
+    return this.edits.filter(({ kind, s, stands }) =>
+      kind === 'turn' && stands && s < this.madeFrom && !this.reviews.some(({ turn }) => turn === s));
   }
 
   /** Reviews that a person has still to work through. */

@@ -77,15 +77,15 @@ function refusedDialog(app, commands, replies, kept) {
     h('p', null, words,
       kept ? 'The others were done.' : 'All are one step, so none was done. Correct them in the box and run them again.'),
     h('ul.plain.refused-list', null,
-      commands.flatMap((command, i) => (replies[i].kind === 'refused' ? [replyLine(app, `${i + 1}: ${command}`, replies[i])] : []))),
+      commands.flatMap((command, i) => (replies[i].kind === 'refused' ? [replyLine(app, command, replies[i], `${i + 1}: `)] : []))),
     h('div.buttons', null, button({ text: 'Close', class: 'primary', onclick: () => element.close() })));
 }
 
 /** @param {import('./app.mjs').App} app @param {import('./app.mjs').LogLine} line */
-function answer(app, { reply, note, groups, kept }) {
+function answer(app, { command, reply, note, groups, kept }) {
   if (!reply) return h('span.bad', null, note ?? '');
   if (reply.kind === 'refused') return [h('span.bad.mono', null, reply.text),
-    h('span.muted', null, ' ', app.reason(reply))];
+    h('span.muted', null, ' ', app.reason(reply, command))];
   if (!kept) return h('span.muted', null, 'not done, since another one was refused');
   return [
     h('span.good.mono', null, reply.text), groups !== undefined && h('span.muted', null,

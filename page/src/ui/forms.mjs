@@ -1,9 +1,10 @@
 // @ts-check
 /** Dialogs that make commands: a packet, a group, another number. Each shows its commands as they are made. */
 import { LAYOUTS, formOf, groupDigits } from '../core/layouts.mjs';
-import { VARIABLES, packetName } from '../core/variables.mjs';
+import { unknownPackets } from '../core/links.mjs';
+import { VARIABLES, namesGroups, packetName } from '../core/variables.mjs';
 import { dialog } from './dialogs.mjs';
-import { button, h, put } from './dom.mjs';
+import { button, h, plural, put } from './dom.mjs';
 import { PacketForm } from './packet_form.mjs';
 import { trialView } from './trial_view.mjs';
 
@@ -141,7 +142,11 @@ export function renumberDialog(app, id) {
   const number = numberInput(Number(id.split('.')[1]), 16382);
   const note = h('p', null,
     'Writes the new NID_BG into the headers of the group, and into every link and infill reference of the plan that names it. Links in other plans, and numbers inside packets that the engine doesn’t know, stay.');
-  commandForm(app, `Renumber ${id}`, [note, row('New number', number)],
+  const naming = app.groups.filter((group) => unknownPackets(group).some(namesGroups)).map((group) => group.id);
+  const list = `${naming.slice(0, 8).join(', ')}${naming.length > 8 ? ' ..' : ''}`;
+  const byHand = naming.length > 0 && h('p.amber', null,
+    `${plural(naming.length, 'group')} of this plan ${naming.length === 1 ? 'has' : 'have'} packets that name groups and aren’t followed: ${list}. Look at these by hand.`);
+  commandForm(app, `Renumber ${id}`, [note, byHand, row('New number', number)],
     { make: () => [`renumber ${id} ${number.value}`], verb: 'Renumber' });
 }
 

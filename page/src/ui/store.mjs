@@ -12,6 +12,7 @@ const BASES = 'bases';
  * @typedef {object} Kept
  * @property {string} id @property {string} baseName @property {string} journalName @property {number} when
  * @property {string} journal @property {string} savedJournal @property {any[]} reviews @property {number} edits
+ * @property {number} [madeFrom] the serial from which edits were made here
  * @property {string} draft commands that were typed and not run
  * @property {boolean} downloaded whether the journal was last saved by a download
  */

@@ -4,13 +4,16 @@ import { dialog } from './dialogs.mjs';
 import { groupDiff } from './diff_view.mjs';
 import { button, h, plural } from './dom.mjs';
 
-/** @param {import('./app.mjs').App} app @param {string} command @param {import('./app.mjs').Reply} reply */
-export function replyLine(app, command, reply) {
+/**
+ * @param {import('./app.mjs').App} app @param {string} command @param {import('./app.mjs').Reply} reply
+ * @param {string} [before] what stands before the command
+ */
+export function replyLine(app, command, reply, before = '') {
   const answer = reply.kind === 'refused'
-    ? [h('span.bad.mono', null, reply.text), h('span.muted', null, ' ', app.reason(reply))]
+    ? [h('span.bad.mono', null, reply.text), h('span.muted', null, ' ', app.reason(reply, command))]
     : [h('span.good.mono', null, reply.text),
       reply.reviews.length > 0 && h('span.amber', null, ` · ${reply.reviews.length} to review`)];
-  return h('li', null, h('code', null, command), ' ', answer);
+  return h('li', null, h('code', null, before + command), ' ', answer);
 }
 
 /** @param {import('./app.mjs').App} app @param {string[]} commands */

@@ -17,13 +17,15 @@ export function worklistPane(app) {
 
   async function show() {
     const reviews = app.openReviews;
-    if (reviews.length === 0) return put(element,
+    const given = givenWords(app.turnsGiven);
+    const note = given ? h('p.amber', null, given) : null;
+    if (reviews.length === 0) return put(element, note ??
       h('p.empty.muted', null, 'Nothing to work through. A turn of a group of several balises lists here the distances and unknown packets that a person has to check.'));
     const places = await app.worker.call('find', { paths: reviews.map(({ path }) => path) });
     /** @type {Item[]} */
     const items = reviews.map((review, i) => ({ review, place: places[i] }));
     const turns = [...new Set(reviews.map(({ turn }) => turn))].reverse();
-    put(element,
+    put(element, note,
       turns.map((turn) => turnSection(app, turn, items.filter(({ review }) => review.turn === turn), (id) => { next = id; })));
     const input = /** @type {HTMLInputElement | null} */ (element.querySelector(`[data-review="${next}"]`));
     input?.focus();
@@ -31,6 +33,17 @@ export function worklistPane(app) {
     next = -1;
   }
   return { element, show };
+}
+
+/**
+ * What is said of turns that came with the journal.
+ * @param {import('../core/words.mjs').Edit[]} turns
+ */
+function givenWords(turns) {
+  if (turns.length === 0) return '';
+  const which = turns.length === 1 ? `A turn came with the journal: of ${turns[0].where}, edit ${turns[0].s}.`
+    : `Turns came with the journal: edits ${turns.slice(0, 12).map(({ s }) => s).join(', ')}${turns.length > 12 ? ' and more' : ''}.`;
+  return `${which} A journal doesn’t have what a turn leaves to look at: distances and unknown packets. See where it was done whether that was worked through.`;
 }
 
 /** @param {App} app @param {number} turn @param {Item[]} items @param {(id: number) => void} focusNext */

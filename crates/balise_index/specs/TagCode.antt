@@ -1,4 +1,4 @@
--- Tags as codes: one for each serial that an edit may have, one for each number below 293,999,999, and for any other tag one
+-- Tags as codes: one for each serial that an edit may have, one for each number below 292,999,999, and for any other tag one
 -- that says where it stands in a list.
 use Rattle.std.specs.Prelude.{◌≡◌, ◌<◌, ◌+◌, ◌-◌, ℕ, false, List, map, length, Option, Some, None, if◌then◌else◌, nat_lt, slice_get}
 use Rattle.std.specs.List.{AllByRecursion}
@@ -8,7 +8,7 @@ use Rattle.balise_rules.specs.Tags.{same_tag}
 
 -- the tag of a code that needs no list
 abbrev pub own_tag : ℕ → Tag
-own_tag code = if nat_lt code 4000000001 then Fresh code else Base (code - 4000000001)
+own_tag code = if nat_lt code 4001000001 then Fresh code else Base (code - 4001000001)
 
 -- the same of any code: one that needs a list stands for none
 abbrev pub tag_of_own : ℕ → Option Tag

@@ -77,7 +77,7 @@ impl NameIndex {
     }
 
     /// Notes the tag of the group that has an identity. Leaves all as before if an allocation fails, for a tag that no plan
-    /// has (`Base` from 293,999,999 on, or `Fresh` above 4,000,000,000), and where `IdentityMap::insert` does.
+    /// has (`Base` from 292,999,999 on, or `Fresh` above 4,001,000,000), and where `IdentityMap::insert` does.
     pub fn set_tag(&mut self, id: Id, tag: Tag) -> Result<(), AllocError>
         ensures set { OnOk result (Updates (tags_of self.old) (tags_of self.new) id (Some tag)) }
         ensures names { names_of self.new ≡ names_of self.old }

@@ -7,7 +7,7 @@ ghost use Rattle.balise_index.specs.TagCode.{own_tag, tag_of, tag_of_own, HasNoO
 use balise_rules::Tag;
 
 /// The first code of a tag `Base`. Those before it are the serials that an edit may have.
-const FIRST_BASE: u32 = 4000000001;
+const FIRST_BASE: u32 = 4001000001;
 
 /// The first code of a tag that has none of its own: no plan has so many groups, and no edit so high a serial. It says where
 /// the tag stands in a list of such tags.

@@ -187,12 +187,12 @@ fn one_is_put_among_many_and_many_are_taken_out(rt: HostRuntime) {
 fn edges() -> [Tag; 8] {
     [
         Tag::Base(0),
-        Tag::Base(293999998),
-        Tag::Base(293999999),
+        Tag::Base(292999998),
+        Tag::Base(292999999),
         Tag::Base(4294967295),
         Tag::Fresh(0),
-        Tag::Fresh(4000000000),
-        Tag::Fresh(4000000001),
+        Tag::Fresh(4001000000),
+        Tag::Fresh(4001000001),
         Tag::Fresh(4294967295),
     ]
 }

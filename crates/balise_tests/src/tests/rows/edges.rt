@@ -33,6 +33,13 @@ pub(crate) const ROWS: &[Row] = &[
         output: "ok 4000000000\nplan 1\ngroup\na1000380a0327fffffffffffffffffffffffffffffffffffffffc0\njournal 2 4000000001\n4000000000 seth b0/0 M_MCOUNT 7 0\n",
         status: Status::Accepted,
     },
+    // Groups with serials above it.
+    Row {
+        flags: JOURNAL,
+        input: "plan 1\ngroup\na1000000a0327fffffffffffffffffffffffffffffffffffffffc0\njournal 2 4000000000\nedits\ninsert 5.100 0 0 42403e0a\nadd 1 a1000000a032ffffffffffffffffffffffffffffffffffffffffc0\nadd 1 a1000000a0337fffffffffffffffffffffffffffffffffffffffc0\nrenumber 5.102 103\n",
+        output: "ok 4000000000\nok 4000000001\nok 4000000002\nok 4000000003\nplan 1\ngroup\na1000000a03250900f82ffffffffffffffffffffffffffffffffc0\ngroup\na1000000a033ffffffffffffffffffffffffffffffffffffffffc0\ngroup\na1000000a032ffffffffffffffffffffffffffffffffffffffffc0\njournal 2 4000000004\n4000000000 insert b0/0 ^ 42403e0a\n4000000001 add b0 a1000000a032ffffffffffffffffffffffffffffffffffffffffc0\n4000000002 add b0 a1000000a0337fffffffffffffffffffffffffffffffffffffffc0\n4000000003 renumber n4000000002 103 102\n",
+        status: Status::Accepted,
+    },
     // The journal after it isn't read.
     Row {
         flags: PLAIN,

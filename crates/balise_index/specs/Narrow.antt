@@ -1,12 +1,12 @@
--- Identities in four bytes, each beside its value.
-use Rattle.std.specs.Prelude.{ℕ, Bool, false, cond, List, [], ◌∷◌, Option, None, Some, slice_get}
+-- Identities in three bytes, each beside its value.
+use Rattle.std.specs.Prelude.{ℕ, ◌+◌, ◌*◌, ◌/◌, ◌%◌, Bool, false, cond, List, [], ◌∷◌, Option, None, Some, slice_get}
 use Rattle.balise_rules.specs.declared.identity.Id.{Id}
 use Rattle.balise_rules.specs.Tags.{same_id}
 use Rattle.balise_index.specs.declared.identity_map.narrow.Narrow.{Narrow}
 
 -- the identity that a narrow one stands for
 abbrev pub wide : Narrow → Id
-wide n = record { country = n.country; number = n.number }
+wide n = record { country = n.high * 4 + n.middle / 64; number = n.middle % 64 * 256 + n.low }
 
 -- values in their slots: the identities and the values are two lists of one length
 abbrev pub slots_of : {V : Type 0} → List Narrow → List V → List (Id × V)

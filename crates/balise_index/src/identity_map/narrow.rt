@@ -1,31 +1,34 @@
-//! An identity in four bytes.
+//! An identity in three bytes.
 
 ghost use Rattle.std.specs.Prelude.{◌≡◌, ◌≤◌, ◌^◌, ◌⊎◌, IfNone, IfSome};
 ghost use Rattle.balise_index.specs.Narrow.{right_cell, wide};
 
 use balise_rules::Id;
 
-/// An identity whose country and number fit 16 bits each. The standard has 10 and 14 bits for them, so each identity of a
-/// telegram does.
+/// An identity whose country fits 10 bits and whose number fits 14, as in the standard (SUBSET-026, 7.5.1). So
+/// each identity of a telegram does.
 #[derive(Clone, Copy, Debug, PartialEq, Eq)]
 pub(super) struct Narrow {
-    country: u16,
-    number: u16,
+    // From the highest bit: the country, and the number.
+    high: u8,
+    middle: u8,
+    low: u8,
 }
 
 impl Narrow {
-    /// The narrow form of an identity; `None` where its country or its number is above 65,535.
+    /// The narrow form of an identity; `None` where its country is above 1,023 or its number above 16,383.
     pub(super) fn of(id: Id) -> Option<Narrow>
         ensures some { IfSome result (λ n. wide n ≡ id) }
-        ensures none { IfNone result ((2 ^ 16 ≤ id.country) ⊎ (2 ^ 16 ≤ id.number)) }
+        ensures none { IfNone result ((2 ^ 10 ≤ id.country) ⊎ (2 ^ 14 ≤ id.number)) }
     {
-        let Ok(country) = u16::try_from(id.country) else {
+        if id.country >= 1024 || id.number >= 16384 {
             return None;
-        };
-        let Ok(number) = u16::try_from(id.number) else {
-            return None;
-        };
-        Some(Narrow { country, number })
+        }
+        Some(Narrow {
+            high: (id.country / 4) as u8,
+            middle: (id.country % 4 * 64 + id.number / 256) as u8,
+            low: (id.number % 256) as u8,
+        })
     }
 
     /// The identity.
@@ -33,8 +36,8 @@ impl Narrow {
         ensures { result ≡ wide self }
     {
         Id {
-            country: self.country as u32,
-            number: self.number as u32,
+            country: self.high as u32 * 4 + self.middle as u32 / 64,
+            number: self.middle as u32 % 64 * 256 + self.low as u32,
         }
     }
 }

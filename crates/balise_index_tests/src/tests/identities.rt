@@ -59,12 +59,12 @@ fn the_first_and_the_last_identity(rt: HostRuntime) {
     check_ends(&rt, rt.alloc());
 }
 
-/// The largest identity of a telegram and the largest that is held. Above that each is refused, and all stays.
+/// The largest identities of a telegram are held. Above them each is refused, and all stays.
 fn check_largest(rt: &impl Abort, alloc: Global) {
-    let (last, held) = (id(1023, 16383), id(65535, 65535));
+    let (last, held) = (id(1023, 16383), id(1023, 255));
     let too_large = [
-        id(65536, 0),
-        id(0, 65536),
+        id(1024, 0),
+        id(0, 16384),
         id(66559, 81919),
         id(131071, 65535),
     ];

@@ -14,18 +14,14 @@ use Rattle.balise_edits.specs.Homes.{Lying, OfTelegram, OfGroup, lying, home_lyi
 use Rattle.balise_edits.proofs.Passing.{passing}
 use Rattle.balise_edits.proofs.Elsewhere.{apart_elsewhere}
 
--- a home's numbers fit
-record Fits (h : Home) : Type 0 where
-  group : h.group < 65536
-  telegram : h.telegram < 256
-
-low-fits : (g : Tag) → low g < 65536
+low-fits : (g : Tag) → low g < 16384
 low-fits (Base n) = omega arith
 low-fits (Fresh n) = omega arith
 
-fits : (l : Lying) → Fits (home_lying l)
-fits (OfTelegram g t m) = record { group = low-fits g; telegram = omega arith }
-fits (OfGroup g) = record { group = low-fits g; telegram = omega arith }
+-- the last bits of a home's group
+group-fits : (l : Lying) → (home_lying l).group < 16384
+group-fits (OfTelegram g t m) = low-fits g
+group-fits (OfGroup g) = low-fits g
 
 not-and : (b c : Bool) → b ≡ false → not (b && c) ≡ true
 not-and b c e = ap (λ x. not (x && c)) e
@@ -34,7 +30,7 @@ not-not : (b : Bool) → b ≡ false → not b ≡ true
 not-not b e = ap not e
 
 -- two extents and two telegrams, where the groups differ and the second home is below the limit of the first
-by-extents : (x y : Extent) (g t : Bool) (r : ℕ) → g ≡ false → r < 16777216 → code y * 16777216 + r < limit x → apart_by x y g t ≡ true
+by-extents : (x y : Extent) (g t : Bool) (r : ℕ) → g ≡ false → r < 16384 → code y * 16384 + r < limit x → apart_by x y g t ≡ true
 by-extents Group Group g t r d s m = absurd (omega (arith, m))
 by-extents Group Unnamed g t r d s m = not-not g d
 by-extents Unnamed Group g t r d s m = not-not g d
@@ -50,17 +46,17 @@ both-parts : (a b : Bool) → (not a && b) ≡ true → (a ≡ false) × (b ≡ 
 both-parts true b h = absurd cc
 both-parts false b h = (refl, h)
 
-far-elsewhere : (h k : Home) → Fits k → is_far h.group (limit h.extent) (home_number k) ≡ true → elsewhere h k ≡ true
+far-elsewhere : (h k : Home) → k.group < 16384 → is_far h.group (limit h.extent) (home_number k) ≡ true → elsewhere h k ≡ true
 far-elsewhere h k f e =
-    let b = both-parts (eqb (home_number k % 65536) h.group) (nat_lt (home_number k) (limit h.extent)) e in
-    let same : home_number k % 65536 ≡ k.group = omega (arith, f.group) in
+    let b = both-parts (eqb (home_number k % 16384) h.group) (nat_lt (home_number k) (limit h.extent)) e in
+    let same : home_number k % 16384 ≡ k.group = omega (arith, f) in
     let other : eqb h.group k.group ≡ false = test-sym nat_test h.group k.group ∙ sym (ap (λ (n : ℕ). eqb n h.group) same) ∙ b.0 in
-    let below : code k.extent * 16777216 + (k.telegram * 65536 + k.group) < limit h.extent = omega (arith, ltb-true (home_number k) (limit h.extent) b.1) in
-    by-extents h.extent k.extent (eqb h.group k.group) (eqb h.telegram k.telegram) (k.telegram * 65536 + k.group) other (omega (arith, f.group, f.telegram)) below
+    let below : code k.extent * 16384 + k.group < limit h.extent = ltb-true (home_number k) (limit h.extent) b.1 in
+    by-extents h.extent k.extent (eqb h.group k.group) (eqb h.telegram k.telegram) k.group other f below
 
 -- an entry whose number is far is apart
 far-apart : (e f : Entry) → is_far (home_at e).group (limit (home_at e).extent) (number_at f) ≡ true → apart e f ≡ true
-far-apart e f d = apart_elsewhere e f (far-elsewhere (home_at e) (home_at f) (fits (lying f.0.0 f.0.1 f.1.names)) d)
+far-apart e f d = apart_elsewhere e f (far-elsewhere (home_at e) (home_at f) (group-fits (lying f.0.0 f.0.1 f.1.names)) d)
 
 all-apart : (e : Entry) (n : ℕ) (fs : List Entry) → All (λ n. is_far (home_at e).group (limit (home_at e).extent) n ≡ true) (take n (map number_at fs)) → AllApart e (take n fs)
 all-apart e zero fs all = All-nil (λ f. apart e f ≡ true)

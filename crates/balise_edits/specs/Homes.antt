@@ -15,10 +15,10 @@ use Rattle.balise_edits.specs.declared.home.Extent.TheVariants.{Unnamed, Named, 
 abbrev pub are_named : List Id → Bool
 are_named is = not (eqb (length is) 0)
 
--- the last 16 bits of the number in a tag
+-- the last 14 bits of the number in a tag
 abbrev pub low : Tag → ℕ
-low (Base n) = n % 65536
-low (Fresh n) = n % 65536
+low (Base n) = n % 16384
+low (Fresh n) = n % 16384
 
 -- in a telegram, with identities or without
 abbrev pub in_telegram : Tag → ℕ → Bool → Home
@@ -53,14 +53,14 @@ home_lying (OfGroup g) = at_group g
 abbrev pub home_of : ℕ → Edit → List Id → Home
 home_of s e is = home_lying (lying s e is)
 
--- a home as one number, so that many can be looked at together
+-- a home but for its telegram as one number, so that many can be looked at together
 abbrev pub code : Extent → ℕ
 code Unnamed = 0
 code Named = 1
 code Group = 2
 
 abbrev pub home_number : Home → ℕ
-home_number h = code h.extent * 16777216 + h.telegram * 65536 + h.group
+home_number h = code h.extent * 16384 + h.group
 
 -- the same of an entry
 abbrev pub home_at : Entry → Home
@@ -71,13 +71,13 @@ number_at e = home_number (home_at e)
 
 -- homes of these numbers and above may meet one of this extent in any group
 abbrev pub limit : Extent → ℕ
-limit Unnamed = 50331648
-limit Named = 33554432
-limit Group = 16777216
+limit Unnamed = 49152
+limit Named = 32768
+limit Group = 16384
 
 -- whether a number is that of a home of another group, and below the limit
 abbrev pub is_far : ℕ → ℕ → ℕ → Bool
-is_far group most n = not (eqb (n % 65536) group) && nat_lt n most
+is_far group most n = not (eqb (n % 16384) group) && nat_lt n most
 
 -- how many numbers from the first on are far from the home of an entry
 abbrev pub count_far : Entry → List ℕ → ℕ

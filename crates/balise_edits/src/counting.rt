@@ -13,19 +13,19 @@ const BLOCK: usize = 64;
 
 // Whether a number is that of a home of another group, and below a limit.
 #[inline(always)]
-fn is_far(number: u32, group: u32, limit: u32) -> bool
+fn is_far(number: u16, group: u16, limit: u16) -> bool
     ensures { result ≡ is_far group limit number }
 {
-    number % 65536 != group && number < limit
+    number % 16384 != group && number < limit
 }
 
 // Whether all numbers of a block are: those that aren't are counted, since a loop without branches becomes vector code.
 #[inline(always)]
-fn is_far_block(numbers: &[u32], group: u32, limit: u32) -> bool
+fn is_far_block(numbers: &[u16], group: u16, limit: u16) -> bool
     requires { length numbers.now ≡ 64 }
     ensures { result ≡ list_all (is_far group limit) numbers.now }
 {
-    let mut near: u32 = 0;
+    let mut near: u16 = 0;
     for i in 0..BLOCK {
         if !is_far(numbers[i], group, limit) {
             near += 1;
@@ -36,7 +36,7 @@ fn is_far_block(numbers: &[u32], group: u32, limit: u32) -> bool
 
 /// How many entries from the first on are apart from this one, as their home numbers tell, up to the first of which
 /// they don't. Takes no memory.
-pub fn count_apart(entry: &Entry, numbers: &[u32]) -> usize
+pub fn count_apart(entry: &Entry, numbers: &[u16]) -> usize
     ensures count { result ≡ count_far entry.now numbers.now }
     ensures within { result ≤ length numbers.now }
     ensures apart { (fs : List rules.Entry) → numbers.now ≡ map number_at fs → AllApart entry.now (take result fs) }

@@ -100,7 +100,7 @@ impl Entry {
     }
 
     /// Where its edit lies, as a number for `count_apart`.
-    pub fn home_number(&self) -> u32
+    pub fn home_number(&self) -> u16
         ensures { result ≡ number_at self.now }
     {
         self.home.number()

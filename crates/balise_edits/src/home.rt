@@ -17,7 +17,7 @@ pub(crate) enum Extent {
     Group,
 }
 
-/// Where an edit lies: its group by the last 16 bits of the number in its tag, and its telegram by the last 8 bits of
+/// Where an edit lies: its group by the last 14 bits of the number in its tag, and its telegram by the last 8 bits of
 /// its own. It takes four bytes; two groups may share one.
 #[derive(Clone, Copy)]
 pub(crate) struct Home {
@@ -71,33 +71,33 @@ impl Home {
         }
     }
 
-    /// The same as one number, so that many can be looked at together.
-    pub(crate) fn number(&self) -> u32
+    /// The same but for the telegram as one number, so that many can be looked at together.
+    pub(crate) fn number(&self) -> u16
         ensures { result ≡ home_number self.now }
     {
-        let extent = match self.extent {
+        let extent: u16 = match self.extent {
             Extent::Unnamed => 0,
             Extent::Named => 1,
             Extent::Group => 2,
         };
-        extent * 16777216 + u32::from(self.telegram) * 65536 + u32::from(self.group)
+        extent * 16384 + self.group
     }
 
-    /// Its group, by the last 16 bits.
-    pub(crate) fn group(&self) -> u32
+    /// Its group, by the last 14 bits.
+    pub(crate) fn group(&self) -> u16
         ensures { result ≡ self.now.group }
     {
-        u32::from(self.group)
+        self.group
     }
 
     /// The least number of a home that may meet it in any group.
-    pub(crate) fn limit(&self) -> u32
+    pub(crate) fn limit(&self) -> u16
         ensures { result ≡ limit self.now.extent }
     {
         match self.extent {
-            Extent::Unnamed => 50331648,
-            Extent::Named => 33554432,
-            Extent::Group => 16777216,
+            Extent::Unnamed => 49152,
+            Extent::Named => 32768,
+            Extent::Group => 16384,
         }
     }
 
@@ -119,12 +119,12 @@ impl Home {
     }
 }
 
-// The last 16 bits of the number in a tag.
+// The last 14 bits of the number in a tag.
 fn low(g: Tag) -> u16
     ensures { result ≡ low g }
 {
     match g {
-        Tag::Base(n) => (n % 65536) as u16,
-        Tag::Fresh(n) => (n % 65536) as u16,
+        Tag::Base(n) => (n % 16384) as u16,
+        Tag::Fresh(n) => (n % 16384) as u16,
     }
 }

@@ -22,7 +22,7 @@ pub(crate) fn serials_behind(
     alloc: Global,
     entry: &Entry,
     later: &[Entry],
-    homes: &[u32],
+    homes: &[u16],
 ) -> Result<Vec<u32>, Refusal>
     requires homes { homes.now ≡ map number_at later.now }
     ensures independent { IfOk result (λ v. first_dependent entry.now later.now ≡ None) }
@@ -54,7 +54,7 @@ pub(crate) fn serials_behind(
 pub(crate) fn dependents_of(
     alloc: Global,
     standing: &[Entry],
-    homes: &[u32],
+    homes: &[u16],
     serial: u32,
 ) -> Result<Vec<u32>, Refusal>
     requires homes { homes.now ≡ map number_at standing.now }
@@ -79,7 +79,7 @@ fn dependents_among(
     alloc: Global,
     entry: &Entry,
     later: &[Entry],
-    homes: &[u32],
+    homes: &[u16],
 ) -> Result<Vec<u32>, Refusal>
     requires homes { homes.now ≡ map number_at later.now }
     ensures ok { IfOk result (λ v. v.items ≡ dependents entry.now later.now) }

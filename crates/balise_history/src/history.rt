@@ -26,11 +26,11 @@ pub(crate) struct Undone {
 }
 
 /// The entries that stand and those that were undone or struck, with room for all of them in either list. Beside those
-/// that stand are the numbers of their homes, so that a strike goes over four bytes for each.
+/// that stand are the numbers of their homes, so that a strike goes over two bytes for each.
 #[derive(Drop)]
 pub(crate) struct History {
     standing: Vec<Entry>,
-    homes: Vec<u32>,
+    homes: Vec<u16>,
     stack: Vec<Undone>,
 }
 
@@ -123,7 +123,7 @@ impl History {
     }
 
     /// The numbers of the homes of those that stand.
-    pub(crate) fn homes(&self) -> &[u32]
+    pub(crate) fn homes(&self) -> &[u16]
         ensures { result.now ≡ map number_at self.now.standing }
     {
         &self.homes

@@ -17,7 +17,7 @@ fn entry_of(rt: &impl Abort, alloc: Global, step: Step) -> Entry {
 }
 
 // That many of one number are counted, up to one of another.
-fn check_counts(rt: &impl Abort, entry: &Entry, far: u32, near: u32) {
+fn check_counts(rt: &impl Abort, entry: &Entry, far: u16, near: u16) {
     let mut numbers = [far; 150];
     assert!(rt; count_apart(entry, &numbers) == MANY);
     for i in 0..MANY {

@@ -18,7 +18,7 @@ mod trace;
 pub use balise_bits::Bits;
 pub use balise_layout::{LayoutFault, Packet};
 pub use balise_rules::Var;
-pub use balise_telegram::{Header, TelegramFault};
+pub use balise_telegram::{Header, TelegramFault, packet_in};
 pub use explain::{
     PacketFields, TelegramFields, explain_header, explain_packets, explain_telegram,
 };

@@ -21,7 +21,7 @@ pub use applying::{again, apply, take_back};
 pub use balise_commands::{Command, Line, LineEdit, Noted};
 pub use balise_plan::{
     Address, Bits, Group, GroupReader, GroupTag, Id, LinkPlace, Links, Packet, PacketTag, Place,
-    Plan, Refusal, Refusal as EditFault, Spot, Tag, Telegram, Var,
+    Plan, Refusal, Refusal as EditFault, Spot, Tag, Telegram, Var, packet_in,
 };
 pub use balise_review::{ReviewLine, Reviewed, review};
 pub use counting::count_apart;

@@ -15,7 +15,6 @@ mod explained;
 mod explained_text;
 mod fault;
 mod packet;
-mod packet_digits;
 mod telegram;
 
 pub use balise_bits::Bits;

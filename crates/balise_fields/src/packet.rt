@@ -8,9 +8,8 @@ ghost use Rattle.balise_fields.specs.Explaining.{due_of, spare_fault, IsAlone, I
 use crate::digit_faults::{bad_length, spare_bit};
 use crate::explained::{DigitFault, Explained, FaultDue};
 use crate::fault::FieldsFault;
-use crate::packet_digits::packet_in;
 use balise_bits::Bits;
-use balise_codec::{Due, Packet, PacketFields, packet_fault, place_all};
+use balise_codec::{Due, Packet, PacketFields, packet_fault, packet_in, place_all};
 use balise_rules::Refusal;
 use std::alloc::Global;
 

@@ -2,7 +2,6 @@
 #![tactic(auto)]
 
 mod dependents;
-mod digits;
 mod edited;
 mod history;
 mod journal_fault;

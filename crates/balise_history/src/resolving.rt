@@ -11,8 +11,7 @@ ghost use Rattle.balise_rules.specs.Tagged.{Distinct};
 ghost use Rattle.balise_rules.specs.Tags.{same_tag};
 ghost use Rattle.balise_rules.specs.Telegram.{Telegram};
 
-use crate::digits::packet_in;
-use balise_edits::{Bits, Command, Edit, Plan, Telegram};
+use balise_edits::{Bits, Command, Edit, Plan, Telegram, packet_in};
 use balise_rules::{Address, Id, Place, Refusal, Tag};
 
 // What stands directly before the place that a packet shall have: none before the first.

@@ -26,3 +26,4 @@ pub mod FieldPlaces
 pub mod FieldsSet
 pub mod Moves
 pub mod Left
+pub mod PacketDigits

@@ -15,6 +15,7 @@ pub use Rattle.balise_rules.specs.Forms
 pub use Rattle.balise_rules.specs.Packets
 pub use Rattle.balise_rules.specs.Packet
 pub use Rattle.balise_rules.specs.Names
+pub use Rattle.balise_rules.specs.Addresses
 pub use Rattle.balise_rules.specs.Telegram
 pub use Rattle.balise_rules.specs.Doing
 pub use Rattle.balise_rules.specs.Back

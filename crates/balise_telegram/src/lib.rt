@@ -3,6 +3,7 @@
 
 mod fault;
 mod header;
+mod packet_digits;
 mod telegram;
 
 pub use balise_layout::{
@@ -11,4 +12,5 @@ pub use balise_layout::{
 pub use balise_rules::{Id, Refusal, Tag as PacketTag, Var};
 pub use fault::TelegramFault;
 pub use header::Header;
+pub use packet_digits::packet_in;
 pub use telegram::{Packets, Telegram};

@@ -10,10 +10,9 @@ ghost use Rattle.balise_rules.specs.Journal.{same_noted};
 ghost use Rattle.balise_rules.specs.Plan.{telegram_at};
 ghost use Rattle.balise_rules.specs.Opening.{edit_in, last_serial, packet_for};
 
-use crate::digits::packet_in;
 use crate::edited::EditedPlan;
 use crate::history::History;
-use balise_edits::{Bits, Edit, Entry, Line, LineEdit, Noted, Packet, Plan, apply};
+use balise_edits::{Bits, Edit, Entry, Line, LineEdit, Noted, Packet, Plan, apply, packet_in};
 use balise_rules::{Refusal, Tag};
 
 // Whether two lines say the same of the plan before their edits.

@@ -1,4 +1,4 @@
--- The packet in a word of digits, test by test.
+-- A packet by itself, in the bits of digits: the tests one after another.
 use Rattle.std.proofs.Common.{◌≡◌, ◌≢◌, ◌≤◌, ◌<◌, ◌+◌, ◌∙◌, ℕ, Bool, true, false, eqb, nat_lt, List, [], length, take, drop, Option, Some, None, Result, Ok, Err, sym, ap, arith}
 use Rattle.std.proofs.lemmas.Bool.Decides.{nat_tests}
 use Rattle.balise_rules.specs.declared.refusal.Refusal.{Refusal}

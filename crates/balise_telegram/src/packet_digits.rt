@@ -1,17 +1,17 @@
-//! A packet in a word of digits.
+//! A packet by itself, in the bits of digits.
 
 ghost use Rattle.std.specs.Prelude.{◌≡◌, ◌≢◌, IfErr, IfOk, Ok, Err};
 ghost use Rattle.balise_rules.specs.Addresses.{packet_in};
 
-use balise_edits::{Bits, Packet};
+use balise_layout::{Bits, Packet};
 use balise_rules::Refusal;
 
-/// The packet in the bits of a word of digits, for a telegram of this M_VERSION: as many bytes as its L_PACKET needs,
-/// and zeros after it.
+/// The packet in the bits of digits by themselves, for a telegram of this M_VERSION: as many bytes as its L_PACKET needs,
+/// and zeros after it (SUBSET-026, 7.4.2 and 7.5.1).
 ///
 /// Refused in this order: `PacketCut` where fewer than 8 bits are there, `PacketZero`, `LayoutMismatch` for packet 255,
 /// `PacketCut`, `BadLength`, `SpareBits`, `LayoutMismatch`. `OutOfMemory` may stand in place of any answer.
-pub(crate) fn packet_in(digits: &Bits, version: u32) -> Result<Packet, Refusal>
+pub fn packet_in(digits: &Bits, version: u32) -> Result<Packet, Refusal>
     ensures ok { IfOk result (λ x. packet_in version digits.now ≡ Ok x) }
     ensures fault { IfErr result (λ r. r ≢ Refusal.OutOfMemory → packet_in version digits.now ≡ Err r) }
 {

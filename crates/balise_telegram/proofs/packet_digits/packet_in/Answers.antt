@@ -5,9 +5,9 @@ use Rattle.balise_layout.specs.Faults.{refusal_of}
 use Rattle.balise_rules.specs.Bits.{num, part}
 use Rattle.balise_rules.specs.Digits.{all_zero, fill}
 use Rattle.balise_rules.specs.Packet.{is_cut, length_said}
-use Rattle.balise_fields.proofs.PacketDigits.{word_short, word_zero, word_end, word_cut, word_long, word_spare, word_read, word_fault, Begins, IsWhole, whole}
-use Rattle.balise_fields.proofs.packet_digits.packet_in.Goals as goal
-use Rattle.balise_fields.proofs.packet_digits.packet_in.Goals.{then-said-lt23-via-then-said-lt23, then-said-lt23-via-else-said-lt23+then-len-said, After-number, Else-len-said, Else-len-said-2, Else-number-eq0, Else-number-eq255, Else-number-ne0}
+use Rattle.balise_telegram.proofs.PacketDigits.{word_short, word_zero, word_end, word_cut, word_long, word_spare, word_read, word_fault, Begins, IsWhole, whole}
+use Rattle.balise_telegram.proofs.packet_digits.packet_in.Goals as goal
+use Rattle.balise_telegram.proofs.packet_digits.packet_in.Goals.{then-said-lt23-via-then-said-lt23, then-said-lt23-via-else-said-lt23+then-len-said, After-number, Else-len-said, Else-len-said-2, Else-number-eq0, Else-number-eq255, Else-number-ne0}
 
 pub returns-then-len-lt8-clause-fault : goal.returns-then-len-lt8-clause-fault
 returns-then-len-lt8-clause-fault c = λ _. word_short c.args.version c.args.digits.now (omega arith)

@@ -5,8 +5,8 @@ use Rattle.balise_lines.specs.Writing.{LastFailed, NoneFailed, WritesAll, Writes
 use Rattle.balise_cli.proofs.Stopped.{nothing_yet}
 use Rattle.balise_cli.proofs.TextsBehind.{some_behind}
 use Rattle.balise_cli.specs.Faults.{reason_of}
-use Rattle.balise_cli.specs.declared.fault.RunFault.{RunFault}
-use Rattle.balise_cli.specs.declared.fault.RunFault.TheVariants.{OutOfMemory, WriteFault}
+use Rattle.balise_text.specs.declared.run_fault.RunFault.{RunFault}
+use Rattle.balise_text.specs.declared.run_fault.RunFault.TheVariants.{OutOfMemory, WriteFault}
 
 -- a call failed
 pub call_failed : {W : Type 0} (contents : W → Option (List ℕ)) (old new : Counted W) (text : List ℕ) (fault : RunFault) → fault ≡ WriteFault → WritesSome LastFailed contents old new text → WritesSome (reason_of fault) contents old new text

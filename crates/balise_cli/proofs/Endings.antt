@@ -18,14 +18,15 @@ use Rattle.balise_arguments.specs.declared.options.Flags.{Flags}
 use Rattle.balise_text.specs.Replies.{bad_line}
 use Rattle.balise_text.specs.Texts.{Text}
 use Rattle.balise_cli.specs.Ends.{ComesToEnd, DidLines, FailsToWrite, NoneComplete, RunsOutOfMemory, WritesBeginning, WritesOutput, WritesSome}
-use Rattle.balise_cli.specs.Faults.{IsCause, IsFault, Prints, reason_of}
+use Rattle.balise_cli.specs.Faults.{IsCause, Prints, reason_of}
+use Rattle.balise_text.specs.RunFaults.{IsFault}
 use Rattle.balise_cli.specs.Output.{Bad, Commands, Ended, Good, Header, IsStep, Over, Phase, Read, TooLong, after_read, at_end, read_line}
 use Rattle.balise_cli.specs.PlanTexts.{end_text}
 use Rattle.balise_cli.specs.Phases.{DidPart, DidSome, DidStep, WrittenOfEnd, WrittenOfLine, WroteSuch, last_text}
 use Rattle.balise_cli.specs.Progress.{HasCome, IsReadAs, IsRefused, Ran, RanToEnd, RanToFault}
 use Rattle.balise_cli.specs.Statuses.{status_of}
-use Rattle.balise_cli.specs.declared.fault.RunFault.{RunFault}
-use Rattle.balise_cli.specs.declared.fault.RunFault.TheVariants.{InputTooLong, OutOfMemory, ReadFault, WriteFault}
+use Rattle.balise_text.specs.declared.run_fault.RunFault.{RunFault}
+use Rattle.balise_text.specs.declared.run_fault.RunFault.TheVariants.{InputTooLong, OutOfMemory, ReadFault, WriteFault}
 use Rattle.balise_cli.specs.declared.status.Status.{Status}
 use Rattle.balise_cli.specs.declared.status.Status.TheVariants.{BadInput}
 use Rattle.balise_cli.proofs.LineByLine.{TookIt, begins, begun_before, begun_ending, begun_in, ended, fault_before, fault_ending, fault_in, over_at, stepped, too_long}

@@ -9,7 +9,7 @@ use Rattle.balise_text.specs.Texts.{Text}
 use Rattle.balise_cli.specs.Ends.{DidLines, WritesBeginning, WritesOutput, WritesSome, WritesStanding}
 use Rattle.balise_cli.specs.Output.{Ending, Phase}
 use Rattle.balise_cli.specs.Program.{Runs, count_after}
-use Rattle.balise_cli.specs.declared.fault.RunFault.{RunFault}
+use Rattle.balise_text.specs.declared.run_fault.RunFault.{RunFault}
 use Rattle.balise_cli.specs.declared.status.Status.{Status}
 
 standing_kept : (flags : Flags) (had old mid new : Option Text) (status : Status) → Keeps mid new → WritesStanding flags had old mid status → WritesStanding flags had old new status

@@ -34,7 +34,7 @@ use Rattle.balise_cli.specs.Output.{Phase, Header, Between, InGroup, InJournal, 
 use Rattle.balise_cli.specs.PlanRead.{WasRead, with_line}
 use Rattle.balise_cli.specs.PlanTexts.{end_text}
 use Rattle.balise_cli.specs.Statuses.{status_of}
-use Rattle.balise_cli.specs.declared.fault.RunFault.{RunFault}
+use Rattle.balise_text.specs.declared.run_fault.RunFault.{RunFault}
 use Rattle.balise_cli.specs.declared.status.Status.{Status}
 use Rattle.balise_cli.specs.declared.status.Status.TheVariants.{SomeRefused}
 use Rattle.balise_cli.proofs.BasePlans.{added_read, read_last}

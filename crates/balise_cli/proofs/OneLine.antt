@@ -20,8 +20,8 @@ use Rattle.balise_cli.specs.Phases.{DidPart, DidSome, DidStep, EndMayRunOut, Lin
 use Rattle.balise_cli.specs.declared.answers.Answer.{Answer}
 use Rattle.balise_cli.specs.declared.plan_reader.PlanStage.{PlanStage}
 use Rattle.balise_cli.specs.declared.plan_reader.PlanStage.TheVariants.{Between, First, InGroup}
-use Rattle.balise_cli.specs.declared.fault.RunFault.{RunFault}
-use Rattle.balise_cli.specs.declared.fault.RunFault.TheVariants.{InputTooLong, OutOfMemory, ReadFault, WriteFault}
+use Rattle.balise_text.specs.declared.run_fault.RunFault.{RunFault}
+use Rattle.balise_text.specs.declared.run_fault.RunFault.TheVariants.{InputTooLong, OutOfMemory, ReadFault, WriteFault}
 use Rattle.balise_cli.specs.declared.status.Status.TheVariants.{SomeRefused}
 
 -- A command.

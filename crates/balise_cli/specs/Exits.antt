@@ -3,10 +3,10 @@ use Rattle.std.specs.Prelude.{Bool, true, false, Some, None, Result, Ok, Err}
 use Rattle.balise_rules.specs.declared.refusal.Refusal.TheVariants as refusal
 use Rattle.balise_arguments.specs.declared.fault.ArgsFault.{ArgsFault}
 use Rattle.balise_arguments.specs.declared.fault.ArgsFault.TheVariants.{Help, Memory, Other}
-use Rattle.balise_cli.specs.Faults.{refusal_of}
+use Rattle.balise_text.specs.RunFaults.{refusal_of}
 use Rattle.balise_cli.specs.Statuses.{code_of}
 use Rattle.balise_cli.specs.declared.exit.Exit.{Exit}
-use Rattle.balise_cli.specs.declared.fault.RunFault.{RunFault}
+use Rattle.balise_text.specs.declared.run_fault.RunFault.{RunFault}
 use Rattle.balise_cli.specs.declared.status.Status.{Status}
 
 -- after a run, by whether the output was flushed

@@ -1,18 +1,9 @@
--- The faults of a run: the refusals that are printed for them, and what each says of the writer.
-use Rattle.std.specs.Prelude.{◌≡◌, ℕ, List, Option, Result, MatchResult}
-use Rattle.balise_rules.specs.declared.refusal.Refusal.{Refusal}
-use Rattle.balise_rules.specs.declared.refusal.Refusal.TheVariants as refusal
-use Rattle.balise_lines.specs.Counts.{one_more}
+-- What each fault of a run says of the writer.
+use Rattle.std.specs.Prelude.{ℕ, List, Option, Result, MatchResult}
 use Rattle.balise_lines.specs.Writing.{CountsFor, LastFailed, Never, NoneFailed, Reason, WritesAll, WritesSome}
 use Rattle.balise_lines.specs.declared.counted.Counted.{Counted}
-use Rattle.balise_cli.specs.declared.fault.RunFault.{RunFault}
-use Rattle.balise_cli.specs.declared.fault.RunFault.TheVariants.{InputTooLong, OutOfMemory, ReadFault, WriteFault}
-
-abbrev pub refusal_of : RunFault → Refusal
-refusal_of InputTooLong = refusal.InputTooLong
-refusal_of OutOfMemory = refusal.OutOfMemory
-refusal_of ReadFault = refusal.ReadFault
-refusal_of WriteFault = refusal.WriteFault
+use Rattle.balise_text.specs.declared.run_fault.RunFault.{RunFault}
+use Rattle.balise_text.specs.declared.run_fault.RunFault.TheVariants.{OutOfMemory, WriteFault}
 
 -- why a text wasn't written to its end, where the run ends with this fault
 abbrev pub reason_of : RunFault → Reason
@@ -27,10 +18,3 @@ IsCause old new e = CountsFor (reason_of e) old new
 -- all of the text was written and no call failed, or a beginning of it and then this fault; where the writer failed, not all of it
 abbrev pub Prints : {W A : Type 0} → (W → Option (List ℕ)) → Counted W → Counted W → Result A RunFault → List ℕ → Type 0
 Prints contents old new r text = MatchResult r (λ _. WritesAll contents old new text) (λ fault. WritesSome (reason_of fault) contents old new text)
-
--- the fault of a run, by the counts of the reader and of the writer before and after it
-abbrev pub IsFault : ℕ → ℕ → ℕ → ℕ → RunFault → Type 0
-IsFault read reads written writes InputTooLong = (reads ≡ read) × (writes ≡ written)
-IsFault read reads written writes OutOfMemory = (reads ≡ read) × (writes ≡ written)
-IsFault read reads written writes ReadFault = (reads ≡ one_more read) × (writes ≡ written)
-IsFault read reads written writes WriteFault = (reads ≡ read) × (writes ≡ one_more written)

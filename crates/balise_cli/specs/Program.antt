@@ -15,11 +15,11 @@ use Rattle.balise_text.specs.Replies.{fault_line}
 use Rattle.balise_text.specs.Texts.{Text}
 use Rattle.balise_cli.specs.Ends as ends
 use Rattle.balise_cli.specs.Exits.{exit_after_arguments, exit_of}
-use Rattle.balise_cli.specs.Faults.{IsFault}
+use Rattle.balise_text.specs.RunFaults.{IsFault}
 use Rattle.balise_cli.specs.Output.{Ended, TooLong}
 use Rattle.balise_cli.specs.declared.exit.Exit.{Exit}
-use Rattle.balise_cli.specs.declared.fault.RunFault.{RunFault}
-use Rattle.balise_cli.specs.declared.fault.RunFault.TheVariants as fault
+use Rattle.balise_text.specs.declared.run_fault.RunFault.{RunFault}
+use Rattle.balise_text.specs.declared.run_fault.RunFault.TheVariants as fault
 use Rattle.balise_cli.specs.declared.status.Status.{Status}
 
 -- how a run ended, by what the reader had and has and what the writer held and holds: each clause of `run` on them

@@ -12,10 +12,10 @@ use Rattle.balise_arguments.specs.declared.options.Flags.{Flags}
 use Rattle.balise_text.specs.Replies.{bad_line}
 use Rattle.balise_text.specs.Texts.{Text}
 use Rattle.balise_cli.specs.Ends.{ComesToEnd, DidLines, FailsToWrite, NoneComplete, Steps, RunsOutOfMemory, WritesBeginning, WritesOutput, WritesSome}
-use Rattle.balise_cli.specs.Faults.{IsFault}
+use Rattle.balise_text.specs.RunFaults.{IsFault}
 use Rattle.balise_cli.specs.Output.{Ended, Header, Phase, Read, Good, Bad, TooLong}
-use Rattle.balise_cli.specs.declared.fault.RunFault.{RunFault}
-use Rattle.balise_cli.specs.declared.fault.RunFault.TheVariants as fault
+use Rattle.balise_text.specs.declared.run_fault.RunFault.{RunFault}
+use Rattle.balise_text.specs.declared.run_fault.RunFault.TheVariants as fault
 use Rattle.balise_cli.specs.declared.status.Status.{Status}
 use Rattle.balise_cli.specs.declared.status.Status.TheVariants.{BadInput}
 

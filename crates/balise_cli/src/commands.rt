@@ -8,12 +8,12 @@ ghost use Rattle.balise_cli.specs.Phases.{DidPart, DidStep, WrittenOfLine, Wrote
 ghost use Rattle.balise_cli.specs.Statuses.{status_of};
 
 use crate::answers::{answer_line, put_answer};
-use crate::fault::RunFault;
 use crate::printing::put_end;
 use crate::status::Status;
 use balise_arguments::Flags;
 use balise_history::Session;
 use balise_lines::Counted;
+use balise_text::RunFault;
 use std::alloc::Global;
 use std::io::Write;
 

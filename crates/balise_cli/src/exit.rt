@@ -3,10 +3,10 @@
 ghost use Rattle.std.specs.Prelude.{◌≡◌, None, Some};
 ghost use Rattle.balise_cli.specs.Exits.{exit_after_arguments, exit_of};
 
-use crate::fault::RunFault;
 use crate::status::Status;
 use balise_arguments::ArgsFault;
 use balise_history::Refusal;
+use balise_text::RunFault;
 
 /// How the program ends: its exit status, and the fault, 29 to 32, that is reported on standard error.
 #[derive(Clone, Copy, Debug, PartialEq, Eq)]

@@ -5,9 +5,8 @@ ghost use Rattle.balise_cli.specs.Output.{InJournal, read_line};
 ghost use Rattle.balise_cli.specs.Phases.{MayRunOutAt, journal_phase, journal_step};
 ghost use Rattle.balise_text.specs.declared.section.Section.TheVariants.{Entries};
 
-use crate::fault::RunFault;
 use balise_history::{Opening, Refusal, Session};
-use balise_text::{JournalLine, Section, Version, read_journal_line};
+use balise_text::{JournalLine, RunFault, Section, Version, read_journal_line};
 use std::alloc::Global;
 
 /// How the journal ends: it is refused, and this line is named; or the commands begin, over this session.

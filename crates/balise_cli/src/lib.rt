@@ -14,7 +14,6 @@ mod printing;
 
 // The run over all of it.
 mod exit;
-mod fault;
 pub mod laws;
 mod phases;
 mod running;
@@ -28,9 +27,9 @@ mod program;
 pub use balise_arguments::{ArgsFault, Flags, flags};
 pub use balise_history::Refusal;
 pub use balise_lines::Counted;
+pub use balise_text::RunFault;
 pub use command_line::{launch, stop_without_memory};
 pub use exit::{Exit, exit_after_arguments, exit_of};
-pub use fault::RunFault;
 pub use program::{report, start, work};
 pub use running::run;
 pub use status::Status;

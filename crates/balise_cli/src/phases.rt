@@ -6,13 +6,13 @@ ghost use Rattle.balise_cli.specs.Progress.{FailsAhead, ReadsAs, RunsOn};
 ghost use Rattle.balise_lines.specs.Reading.{OverAtEnd, Took};
 
 use crate::commands::Commands;
-use crate::fault::RunFault;
 use crate::journal_reader::{JournalEnd, JournalReader, JournalStep};
 use crate::plan_reader::{PlanEnd, PlanReader};
 use crate::status::Status;
 use balise_arguments::Flags;
 use balise_history::Refusal;
 use balise_lines::{Counted, LineFault, Lines, Next};
+use balise_text::RunFault;
 use std::alloc::Global;
 use std::io::{Read, Write};
 

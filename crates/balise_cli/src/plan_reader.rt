@@ -11,10 +11,9 @@ ghost use Rattle.balise_rules.specs.Session.{opened};
 ghost use Rattle.balise_text.specs.PlanLines.{plan_line_of};
 
 use crate::base_plan::BasePlan;
-use crate::fault::RunFault;
 use crate::journal_reader::JournalReader;
 use balise_history::{Bits, GroupReader, Refusal, Session};
-use balise_text::{Head, PlanLine, read_head, read_plan_line};
+use balise_text::{Head, PlanLine, RunFault, read_head, read_plan_line};
 use std::alloc::Global;
 use std::mem;
 

@@ -7,10 +7,10 @@ mod view;
 ghost use Rattle.balise_cli.specs.Faults.{Prints};
 ghost use Rattle.balise_cli.specs.PlanTexts.{end_text, if_asked, journal_text, view_text};
 
-use crate::fault::RunFault;
 use balise_arguments::Flags;
 use balise_history::{Plan, Session};
 use balise_lines::Counted;
+use balise_text::RunFault;
 use journal::put_journal;
 use plan::put_plan;
 use std::alloc::Global;

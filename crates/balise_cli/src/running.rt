@@ -2,7 +2,8 @@
 
 ghost use Rattle.std.specs.Prelude.{◌≡◌, IfErr, IfOk, IsErrOf, OnErr, OnOk, false};
 ghost use Rattle.balise_cli.specs.Ends.{ComesToEnd, DidLines, FailsToWrite, NoneComplete, RunsOutOfMemory, WritesBeginning, WritesOutput, WritesSome, WritesStanding};
-ghost use Rattle.balise_cli.specs.Faults.{IsFault, Prints};
+ghost use Rattle.balise_cli.specs.Faults.{Prints};
+ghost use Rattle.balise_text.specs.RunFaults.{IsFault};
 ghost use Rattle.balise_cli.specs.Output.{Commands as AtCommands, Ended, Phase, TooLong};
 ghost use Rattle.balise_cli.specs.Phases.{journal_phase, plan_phase};
 ghost use Rattle.balise_cli.specs.Progress.{Ran, RunsOn};
@@ -11,7 +12,6 @@ ghost use Rattle.balise_rules.specs.Session.{State};
 ghost use Rattle.balise_text.specs.Replies.{bad_line};
 
 use crate::commands::Commands;
-use crate::fault::RunFault;
 use crate::journal_reader::{JournalEnd, JournalReader};
 use crate::phases::{answer_commands, read_journal, read_plan};
 use crate::plan_reader::{PlanEnd, PlanReader};
@@ -19,7 +19,7 @@ use crate::status::Status;
 use balise_arguments::Flags;
 use balise_history::{Refusal, Session};
 use balise_lines::{Counted, Lines};
-use balise_text::put_bad;
+use balise_text::{RunFault, put_bad};
 use std::alloc::Global;
 use std::io::{Read, Write};
 use std::mem;

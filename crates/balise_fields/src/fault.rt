@@ -2,6 +2,7 @@
 
 use balise_bits::BitsFault;
 use balise_codec::LayoutFault;
+use balise_text::RunFault;
 use std::alloc::{AllocError, AllocFailed};
 use thiserror::Error;
 
@@ -35,5 +36,16 @@ impl From<BitsFault> for FieldsFault {
 impl From<LayoutFault> for FieldsFault {
     fn from(_e: LayoutFault) -> FieldsFault {
         FieldsFault::OutOfMemory
+    }
+}
+
+impl From<FieldsFault> for RunFault {
+    ghost use Rattle.std.specs.Prelude.{◌≡◌};
+    ghost use Rattle.balise_text.specs.declared.run_fault.RunFault.TheVariants.{OutOfMemory};
+
+    ghost from_gives = { λ _ e. e ≡ OutOfMemory };
+
+    fn from(_e: FieldsFault) -> RunFault {
+        RunFault::OutOfMemory
     }
 }

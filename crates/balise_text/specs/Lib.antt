@@ -16,5 +16,6 @@ pub mod Answers
 pub mod Reviews
 pub mod Laws
 pub mod Left
+pub mod RunFaults
 pub mod LineEnds
 pub mod Printing

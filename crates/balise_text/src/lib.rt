@@ -29,6 +29,7 @@ mod refused;
 mod replies;
 mod reply;
 mod reviews;
+mod run_fault;
 
 pub use balise_commands::{Bits, Command, Id, Line, LineEdit, Noted, Tag, Var};
 pub use balise_lines::{Counted, WriteFault};
@@ -44,4 +45,5 @@ pub use replies::{put_bad, put_fault, put_reply};
 pub use reply::Reply;
 pub use request::{Request, read_request};
 pub use reviews::put_review;
+pub use run_fault::RunFault;
 pub use section::Section;

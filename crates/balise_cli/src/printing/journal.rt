@@ -7,10 +7,9 @@ ghost use Rattle.balise_cli.specs.Private.{told};
 ghost use Rattle.balise_lines.specs.Writing.{Writes};
 ghost use Rattle.balise_text.specs.Texts.{text_of};
 
-use crate::fault::RunFault;
 use balise_history::{Entry, Session};
 use balise_lines::{Counted, WriteFault};
-use balise_text::{put_entry, put_head, put_undone};
+use balise_text::{RunFault, put_entry, put_head, put_undone};
 use std::io::Write;
 
 // Writes the lines of entries, one after another.

@@ -3,9 +3,9 @@
 ghost use Rattle.balise_cli.specs.Faults.{Prints};
 ghost use Rattle.balise_cli.specs.PlanTexts.{group_lines, plan_text, telegram_line};
 
-use crate::fault::RunFault;
 use balise_history::{Group, Plan, Tag, Telegram};
 use balise_lines::{Counted, put};
+use balise_text::RunFault;
 use std::alloc::Global;
 use std::io::Write;
 

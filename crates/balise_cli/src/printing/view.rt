@@ -4,9 +4,9 @@ ghost use Rattle.balise_cli.specs.Faults.{Prints};
 ghost use Rattle.balise_cli.specs.PlanTexts.{view_text, with_end};
 ghost use Rattle.balise_view.specs.View.{group_text};
 
-use crate::fault::RunFault;
 use balise_history::{Group, Plan};
 use balise_lines::{Counted, put};
+use balise_text::RunFault;
 use balise_view::group_line;
 use std::alloc::Global;
 use std::io::Write;

@@ -2,7 +2,7 @@ use Rattle.std.proofs.Common.{◌≡◌, ◌∙◌, ℕ, Err, None, Some, ap, su
 use Rattle.balise_lines.specs.Reading.{line_of, number_of}
 use Rattle.balise_text.specs.Texts.{Text}
 use Rattle.balise_cli.specs.Faults.{IsCause}
-use Rattle.balise_cli.specs.declared.fault.RunFault.TheVariants.{OutOfMemory, WriteFault}
+use Rattle.balise_text.specs.declared.run_fault.RunFault.TheVariants.{OutOfMemory, WriteFault}
 use Rattle.balise_cli.specs.Phases.{DidPart, DidSome, DidStep, WrittenOfLine, WroteSuch, commands_phase}
 use Rattle.balise_cli.specs.Progress.{RanToFault}
 use Rattle.balise_cli.proofs.Endings.{commands_ended, line_fails, line_over, went_on}

@@ -3,8 +3,8 @@ use Rattle.std.proofs.Common.{◌≡◌, ◌∙◌, ◌&&◌, Err, Option, sym, 
 use Rattle.balise_lines.specs.Writing.{Leaves}
 use Rattle.balise_cli.specs.Faults.{reason_of}
 use Rattle.balise_cli.specs.Output.{Header}
-use Rattle.balise_cli.specs.declared.fault.RunFault.{RunFault}
-use Rattle.balise_cli.specs.declared.fault.RunFault.TheVariants.{OutOfMemory, WriteFault}
+use Rattle.balise_text.specs.declared.run_fault.RunFault.{RunFault}
+use Rattle.balise_text.specs.declared.run_fault.RunFault.TheVariants.{OutOfMemory, WriteFault}
 use Rattle.balise_cli.specs.declared.status.Status.{Status}
 use Rattle.balise_cli.proofs.OneLine.{command_end_part, command_over, command_part, command_ran_out}
 use Rattle.balise_cli.proofs.commands.Commands.answer.Goals as goal

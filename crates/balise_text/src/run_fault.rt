@@ -1,14 +1,13 @@
-//! Why a run doesn't come to its end.
+//! Why a run over text doesn't come to its end.
 
 ghost use Rattle.std.specs.Prelude.{◌≡◌};
-ghost use Rattle.balise_fields_run.specs.Faults.{refusal_of};
+ghost use Rattle.balise_text.specs.RunFaults.{refusal_of};
 
-use balise_fields::FieldsFault;
 use balise_lines::WriteFault;
 use balise_rules::Refusal;
 use thiserror::Error;
 
-/// Why a run doesn't come to its end.
+/// Why a run over text doesn't come to its end.
 #[derive(Clone, Copy, Debug, Error, PartialEq, Eq)]
 pub enum RunFault {
     #[error("a line has more than 4,096 bytes, or the input more than 67,108,864")]
@@ -36,21 +35,11 @@ impl RunFault {
 }
 
 impl From<WriteFault> for RunFault {
-    ghost use Rattle.balise_fields_run.specs.declared.fault.RunFault.TheVariants.{WriteFault};
+    ghost use Rattle.balise_text.specs.declared.run_fault.RunFault.TheVariants.{WriteFault};
 
     ghost from_gives = { λ _ e. e ≡ WriteFault };
 
     fn from(_e: WriteFault) -> RunFault {
         RunFault::WriteFault
-    }
-}
-
-impl From<FieldsFault> for RunFault {
-    ghost use Rattle.balise_fields_run.specs.declared.fault.RunFault.TheVariants.{OutOfMemory};
-
-    ghost from_gives = { λ _ e. e ≡ OutOfMemory };
-
-    fn from(_e: FieldsFault) -> RunFault {
-        RunFault::OutOfMemory
     }
 }

@@ -1,4 +1,5 @@
-/* baliseplan in your own process: what the program does from standard input to standard output, from memory to memory.
+/* baliseplan and balisefields in your own process: what these programs do from standard input to standard output, from
+ * memory to memory.
  *
  * Link with what `pkg-config --cflags --libs baliseplan` prints. baliseplan(3) and LIBRARY.md have the whole interface,
  * FORMATS.md has what goes in and what comes out.
@@ -14,8 +15,8 @@
  * 5. malloc, realloc and free are one allocator that aligns its blocks as the C library's does, and that several
  *    threads may use if several threads call.
  *
- * Ownership: a call takes none. What it allocates it frees before it returns, but for the output of
- * baliseplan_run_alloc. It keeps no state, so calls don't depend on each other.
+ * Ownership: a call takes none. What it allocates it frees before it returns, but for the output of a call whose name
+ * ends with _alloc. It keeps no state, so calls don't depend on each other.
  *
  * Threads: the calls have no shared data, so several threads may call at once, each with its own output and *written.
  * They may share the input.
@@ -93,13 +94,32 @@ int32_t baliseplan_size(const uint8_t *input, size_t input_len, uint32_t flags, 
 int32_t baliseplan_run_alloc(const uint8_t *input, size_t input_len, uint32_t flags, uint8_t **output,
                              size_t *output_len);
 
-/* Frees the output of baliseplan_run_alloc. Null is nothing to free. */
+/* Writes what the program balisefields prints for input, a telegram or a packet a line: the fields of its digits, or why
+ * and where they are refused (FIELDS.md). It goes to the front of output, and the number of bytes to *written; the bytes
+ * after them stay as they are.
+ * Returns BALISEPLAN_ACCEPTED; BALISEPLAN_SOME_REFUSED where some digits are refused; or a fault. It never returns
+ * BALISEPLAN_BAD_INPUT or BALISEPLAN_USAGE.
+ *
+ * It allocates output_len + 1 bytes beside what one line takes, and frees them. */
+int32_t baliseplan_explain(const uint8_t *input, size_t input_len, uint8_t *output, size_t output_len,
+                           size_t *written);
+
+/* The other way: writes what balisefields --spell prints for input, the fields of telegrams and packets: their digits, or
+ * which line is refused and why. All else is as for baliseplan_explain. */
+int32_t baliseplan_spell(const uint8_t *input, size_t input_len, uint8_t *output, size_t output_len, size_t *written);
+
+/* Do what the two calls above do, with an output that they allocate as baliseplan_run_alloc does. They begin with some
+ * room and run again with more while it is too small, so they never return BALISEPLAN_OUTPUT_FULL. */
+int32_t baliseplan_explain_alloc(const uint8_t *input, size_t input_len, uint8_t **output, size_t *output_len);
+int32_t baliseplan_spell_alloc(const uint8_t *input, size_t input_len, uint8_t **output, size_t *output_len);
+
+/* Frees the output of a call whose name ends with _alloc. Null is nothing to free. */
 void baliseplan_free(uint8_t *output);
 
 /* end of cffi */
 
-/* In C and C++ the two calls below stand in for baliseplan_run and baliseplan_size. They give the library the address
- * of a byte for a null pointer with length 0. */
+/* In C and C++ the calls below stand in for those without _or_null. They give the library the address of a byte for a
+ * null pointer with length 0. */
 static inline int32_t baliseplan_run_or_null(const uint8_t *input, size_t input_len, uint32_t flags, uint8_t *output,
                                              size_t output_len, size_t *written)
 {
@@ -114,9 +134,27 @@ static inline int32_t baliseplan_size_or_null(const uint8_t *input, size_t input
     return baliseplan_size(input_len ? input : &none, input_len, flags, size);
 }
 
+static inline int32_t baliseplan_explain_or_null(const uint8_t *input, size_t input_len, uint8_t *output,
+                                                 size_t output_len, size_t *written)
+{
+    uint8_t none = 0;
+    return baliseplan_explain(input_len ? input : &none, input_len, output_len ? output : &none, output_len, written);
+}
+
+static inline int32_t baliseplan_spell_or_null(const uint8_t *input, size_t input_len, uint8_t *output,
+                                               size_t output_len, size_t *written)
+{
+    uint8_t none = 0;
+    return baliseplan_spell(input_len ? input : &none, input_len, output_len ? output : &none, output_len, written);
+}
+
 #define baliseplan_run(input, input_len, flags, output, output_len, written) \
     baliseplan_run_or_null(input, input_len, flags, output, output_len, written)
 #define baliseplan_size(input, input_len, flags, size) baliseplan_size_or_null(input, input_len, flags, size)
+#define baliseplan_explain(input, input_len, output, output_len, written) \
+    baliseplan_explain_or_null(input, input_len, output, output_len, written)
+#define baliseplan_spell(input, input_len, output, output_len, written) \
+    baliseplan_spell_or_null(input, input_len, output, output_len, written)
 
 #ifdef __cplusplus
 }

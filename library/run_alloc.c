@@ -1,4 +1,4 @@
-/* A run into a block that is allocated here. Not proved: it calls the proved run, and hands its answer on. */
+/* Runs into a block that is allocated here. Not proved: they call the proved ones, and hand their answers on. */
 #include <stdlib.h>
 
 #include "baliseplan.h"
@@ -53,6 +53,37 @@ int32_t baliseplan_run_alloc(const uint8_t *input, size_t input_len, uint32_t fl
     }
     shrink(output, *output_len);
     return answer;
+}
+
+/* A call over fields, in either direction. Digits are explained by some eight times as many bytes. */
+typedef int32_t fields_call(const uint8_t *, size_t, uint8_t *, size_t, size_t *);
+
+static int32_t into_a_block(fields_call *call, const uint8_t *input, size_t input_len, uint8_t **output,
+                            size_t *output_len)
+{
+    const uint8_t none = 0;
+    size_t room = first_room(input_len, BALISEPLAN_JSON);
+    int32_t answer;
+    *output = NULL;
+    *output_len = 0;
+    do {
+        if (!renew(output, room))
+            return BALISEPLAN_OUT_OF_MEMORY;
+        answer = call(input_len ? input : &none, input_len, *output, room, output_len);
+        room *= 4;
+    } while (answer == BALISEPLAN_OUTPUT_FULL);
+    shrink(output, *output_len);
+    return answer;
+}
+
+int32_t baliseplan_explain_alloc(const uint8_t *input, size_t input_len, uint8_t **output, size_t *output_len)
+{
+    return into_a_block(baliseplan_explain, input, input_len, output, output_len);
+}
+
+int32_t baliseplan_spell_alloc(const uint8_t *input, size_t input_len, uint8_t **output, size_t *output_len)
+{
+    return into_a_block(baliseplan_spell, input, input_len, output, output_len);
 }
 
 void baliseplan_free(uint8_t *output)

@@ -1,15 +1,18 @@
--- What begins an output of an input: nothing does, and a longer text that is cut.
-use Rattle.std.proofs.Common.{◌∙◌, ◌≡◌, ◌<◌, ℕ, true, [], ◌++◌, length, take, drop, Result, Ok, Err, arith, refl, sym, ap, append_assoc, append-nil, length-append, take-append-drop}
+-- What begins an output of an input: nothing does, all that was written, and a longer text that is cut.
+use Rattle.std.proofs.Common.{◌∙◌, ◌≡◌, ◌<◌, ℕ, true, [], ◌++◌, inl, inr, length, take, drop, Result, Ok, Err, arith, refl, subst, sym, ap, append_assoc, append-nil, length-append, take-append-drop}
+use Rattle.std.proofs.Math.Seq.{take-length}
+use Rattle.std.proofs.lemmas.List.{length-take-le}
 use Rattle.balise_lines.specs.Lines.{lines_of}
 use Rattle.balise_arguments.specs.declared.options.Flags.{Flags}
 use Rattle.balise_text.specs.Texts.{Text}
 use Rattle.balise_cli.specs.Ends.{IsOutputOf}
 use Rattle.balise_cli.specs.Output.{Ended, Ending, Header, TooLong}
-use Rattle.balise_cli.specs.declared.fault.RunFault.{RunFault}
-use Rattle.balise_cli.specs.declared.fault.RunFault.TheVariants.{InputTooLong, OutOfMemory, ReadFault, WriteFault}
+use Rattle.balise_text.specs.declared.run_fault.RunFault.{RunFault}
+use Rattle.balise_text.specs.declared.run_fault.RunFault.TheVariants.{InputTooLong, OutOfMemory, ReadFault, WriteFault}
 use Rattle.balise_cli.specs.declared.status.Status.{Status}
 use Rattle.balise_cli.proofs.Outputs.{some_output}
-use Rattle.balise_c.specs.Outcome.{BeginsLonger, BeginsOutput, Ran}
+use Rattle.balise_c.specs.HandedOver.{count_within, ends_within}
+use Rattle.balise_c.specs.Outcome.{BeginsLonger, BeginsOutput, IsPrinted, Ran}
 
 pub nothing : (flags : Flags) (input : Text) → BeginsOutput flags input []
 nothing flags input = let o = some_output flags true Header 1 0 (lines_of input) in record { output = o.0; ending = o.1.0; is_output = o.1.1; begins = (o.0, refl) }
@@ -27,9 +30,10 @@ begun flags input text (Err ReadFault) b = b
 begun flags input text (Err WriteFault) b = b.0
 
 -- and where it is cut, that output is longer
-pub cut : (flags : Flags) (input text : Text) (n : ℕ) (r : Result Status RunFault) → Ran flags input text r → length (take n text) ≡ n → n < length text → BeginsLonger flags input (take n text)
-cut flags input text n r p size less =
+pub cut : (flags : Flags) (input text : Text) (r : Result Status RunFault) (n : ℕ) → n < length text → Ran flags input text r → BeginsLonger flags input (take n text)
+cut flags input text r n less p =
     let b = begun flags input text r p in
+    let size : length (take n text) ≡ n = length-take-le n text (omega (arith, less)) in
     let whole = ap length b.begins.1 in
     let parts = length-append text b.begins.0 in (
       record {
@@ -40,3 +44,11 @@ cut flags input text n r p size less =
       },
       omega (arith, whole, parts, size, less),
     )
+
+-- all that was written is printed, where it fits
+pub printed : (flags : Flags) (input text : Text) (r : Result Status RunFault) → Ran flags input text r → IsPrinted flags input (take (count_within r (length text)) text) (ends_within r)
+printed flags input text (Ok status) p = subst (λ (t : Text). IsPrinted flags input t (Ok status)) (sym (take-length text)) p
+printed flags input text (Err InputTooLong) p = subst (λ (t : Text). IsPrinted flags input t (Err InputTooLong)) (sym (take-length text)) p
+printed flags input text (Err OutOfMemory) p = subst (λ (t : Text). IsPrinted flags input t (Err OutOfMemory)) (sym (take-length text)) (p.0, inr p.1)
+printed flags input text (Err ReadFault) p = (nothing flags input, inl refl)
+printed flags input text (Err WriteFault) p = (nothing flags input, inl refl)

@@ -1,2 +1,4 @@
 pub mod FlagBits
 pub mod Outcome
+pub mod HandedOver
+pub mod FieldsOutcome

@@ -8,8 +8,8 @@ use Rattle.balise_cli.specs.Ends.{DidLines, FailsToWrite, IsOutputOf, RunsOutOfM
 use Rattle.balise_cli.specs.Laws.{PrintsStanding}
 use Rattle.balise_cli.specs.Output.{Ended, Ending, Phase, TooLong}
 use Rattle.balise_cli.specs.Statuses.{code_of}
-use Rattle.balise_cli.specs.declared.fault.RunFault.{RunFault}
-use Rattle.balise_cli.specs.declared.fault.RunFault.TheVariants.{InputTooLong, OutOfMemory, ReadFault, WriteFault}
+use Rattle.balise_text.specs.declared.run_fault.RunFault.{RunFault}
+use Rattle.balise_text.specs.declared.run_fault.RunFault.TheVariants.{InputTooLong, OutOfMemory, ReadFault, WriteFault}
 use Rattle.balise_cli.specs.declared.status.Status.{Status}
 
 -- this text begins an output of the input
@@ -59,13 +59,17 @@ IsGrown flags input text (Err OutOfMemory) = BeginsOutput flags input text × ((
 IsGrown flags input text (Err ReadFault) = ⊥
 IsGrown flags input text (Err WriteFault) = ⊥
 
+-- the number of a fault
+abbrev pub fault_number : RunFault → ℕ
+fault_number InputTooLong = 29
+fault_number OutOfMemory = 30
+fault_number ReadFault = 31
+fault_number WriteFault = 32
+
 -- the exit status, or the number of the fault
 abbrev pub number_of : Result Status RunFault → ℕ
 number_of (Ok status) = code_of status
-number_of (Err InputTooLong) = 29
-number_of (Err OutOfMemory) = 30
-number_of (Err ReadFault) = 31
-number_of (Err WriteFault) = 32
+number_of (Err fault) = fault_number fault
 
 -- What a run leaves in the output: the text at the front, and all after it as it was. Only a full output is the fault of the writer.
 pub record Fills (flags : Flags) (input old new : Text) (written : ℕ) (answer : ℤ) : Type 0 where

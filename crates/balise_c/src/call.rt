@@ -3,7 +3,7 @@
 ghost use Rattle.std.specs.Prelude.{◌≡◌, ◌≤◌, [], length, take, drop, IsErrOf};
 ghost use Rattle.balise_c.specs.Outcome.{HasSize, IsPrinted, Ran};
 
-use crate::copying::copy_front;
+use crate::handing_over::hand_over;
 use crate::output_text::OutputText;
 use balise_cli::{Counted, Flags, RunFault, Status, run};
 use std::alloc::Global;
@@ -42,20 +42,7 @@ pub(crate) fn fill(
     };
     let mut writer = Counted::new(text);
     let ended = run_into(alloc, input, flags, &mut writer);
-    let text = writer.inner().bytes();
-    if text.len() > output.len() {
-        *written = copy_front(text, output);
-        return Err(RunFault::WriteFault);
-    }
-    match ended {
-        // Neither comes: there was room left, and reading bytes doesn't fail. But the contract of `run` is of any reader
-        // and writer. Nothing is written then.
-        Err(RunFault::ReadFault | RunFault::WriteFault) => Err(RunFault::OutOfMemory),
-        ended => {
-            *written = copy_front(text, output);
-            ended
-        }
-    }
+    hand_over(ended, writer.inner().bytes(), output, written)
 }
 
 /// Runs, and counts what was printed. Here a write fails only where memory runs out.
@@ -72,7 +59,7 @@ pub(crate) fn measure(
     *size = writer.inner().bytes().len();
     match ended {
         Err(RunFault::WriteFault) => Err(RunFault::OutOfMemory),
-        // It never comes, as above.
+        // It never comes: reading bytes doesn't fail.
         Err(RunFault::ReadFault) => {
             *size = 0;
             Err(RunFault::OutOfMemory)

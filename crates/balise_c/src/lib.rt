@@ -2,8 +2,10 @@
 #![tactic(auto)]
 
 ghost use Rattle.std.specs.Prelude.{◌≡◌, ◌≢◌, ◌<◌, ◌≤◌, pos};
+ghost use Rattle.balise_c.specs.FieldsOutcome.{FillsBy};
 ghost use Rattle.balise_c.specs.FlagBits.{flags_of};
 ghost use Rattle.balise_c.specs.Outcome.{Fills, Measures};
+ghost use Rattle.balise_fields_run.specs.declared.way.Way.TheVariants.{Explain, Spell};
 
 // From the parameters of a call to a run.
 mod flag_bits;
@@ -13,12 +15,16 @@ mod output_text;
 mod answer;
 mod call;
 mod copying;
+mod fields;
+mod handing_over;
 #[cfg(test)]
 mod tests;
 
-use crate::answer::number_of;
+use crate::answer::{fields_number, number_of};
 use crate::call::{fill, measure};
+use crate::fields::fill_with_fields;
 use crate::flag_bits::{FIRST_UNKNOWN, flags_of};
+use balise_fields_run::Way;
 use std::alloc::Global;
 
 /// The answer where a bit is set that is no flag.
@@ -72,4 +78,35 @@ pub extern "C" fn baliseplan_size(alloc: Global, input: &[u8], flags: u32, size:
         return USAGE;
     }
     number_of(measure(alloc, input, flags_of(flags), size))
+}
+
+/// Does what the program `balisefields` does, from memory to memory: writes the fields of the digits of telegrams and
+/// packets. Answers the exit status 0 or 1, or a fault's number 29, 30 or 32; then only a beginning of an output may be
+/// written. 32: the output is too small.
+#[unsafe(no_mangle)]
+pub extern "C" fn baliseplan_explain(
+    alloc: Global,
+    input: &[u8],
+    output: &mut [u8],
+    written: &mut usize,
+) -> i32
+    ensures fills { FillsBy Explain input.now output.old output.new written.new result }
+    ensures never { result ≢ pos 31 }
+{
+    fields_number(fill_with_fields(alloc, Way::Explain, input, output, written))
+}
+
+/// Does what `balisefields --spell` does, from memory to memory: writes the digits of telegrams and packets whose fields
+/// are given. Answers as `baliseplan_explain`.
+#[unsafe(no_mangle)]
+pub extern "C" fn baliseplan_spell(
+    alloc: Global,
+    input: &[u8],
+    output: &mut [u8],
+    written: &mut usize,
+) -> i32
+    ensures fills { FillsBy Spell input.now output.old output.new written.new result }
+    ensures never { result ≢ pos 31 }
+{
+    fields_number(fill_with_fields(alloc, Way::Spell, input, output, written))
 }

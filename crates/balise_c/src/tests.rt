@@ -1,6 +1,6 @@
 //! Tests of the calls.
 
-use crate::{baliseplan_abi, baliseplan_run, baliseplan_size};
+use crate::{baliseplan_abi, baliseplan_explain, baliseplan_run, baliseplan_size, baliseplan_spell};
 use std::alloc::Global;
 use std::process::Abort;
 
@@ -98,6 +98,100 @@ fn writes_a_beginning_to_a_small_output(rt: HostRuntime) {
         text: &REPLIES[..81],
     };
     check_run(&rt, rt.alloc(), &row, output.as_mut_slice());
+}
+
+/// A call over fields, with the answer and the text that are due.
+#[derive(Clone, Copy)]
+struct FieldsRow<'a> {
+    input: &'a [u8],
+    answer: i32,
+    text: &'a [u8],
+}
+
+const FIELDS: &[u8] =
+    b"packet 33\n0 8 NID_PACKET 0 66\n8 2 Q_DIR 0 1\n10 13 L_PACKET 0 31\n23 8 NID_TSR 0 4\ngroup\n";
+
+const DIGITS: &[u8] = b"packet 33 42403e08\ngroup\n";
+
+const EXPLAINED: &[FieldsRow<'static>] = &[
+    FieldsRow {
+        input: DIGITS,
+        answer: 0,
+        text: FIELDS,
+    },
+    FieldsRow {
+        input: b"packet 33 42403e09\n",
+        answer: 1,
+        text: b"fault 4 SpareBits - 31 zero\n",
+    },
+    FieldsRow {
+        input: b"",
+        answer: 0,
+        text: b"",
+    },
+];
+
+const SPELT: &[FieldsRow<'static>] = &[
+    FieldsRow {
+        input: FIELDS,
+        answer: 0,
+        text: DIGITS,
+    },
+    FieldsRow {
+        input: b"packet 33\nNID_PACKET 66\nQ_DIR 1\n",
+        answer: 1,
+        text: b"bad 4 Missing NID_TSR\n",
+    },
+];
+
+fn check_explained(rt: &impl Abort, alloc: Global, row: &FieldsRow, output: &mut [u8]) {
+    let mut written = 999;
+    let answer = baliseplan_explain(alloc, row.input, output, &mut written);
+    assert!(rt; (answer == row.answer) & (written == row.text.len()));
+    assert!(rt; output.starts_with(row.text));
+    assert!(rt; output[written..].iter().all(|byte| *byte == 7));
+}
+
+fn check_spelt(rt: &impl Abort, alloc: Global, row: &FieldsRow, output: &mut [u8]) {
+    let mut written = 999;
+    let answer = baliseplan_spell(alloc, row.input, output, &mut written);
+    assert!(rt; (answer == row.answer) & (written == row.text.len()));
+    assert!(rt; output.starts_with(row.text));
+    assert!(rt; output[written..].iter().all(|byte| *byte == 7));
+}
+
+#[test]
+fn explains_digits(rt: HostRuntime) {
+    for row in EXPLAINED {
+        let mut output = [7; 200];
+        check_explained(&rt, rt.alloc(), row, output.as_mut_slice());
+    }
+}
+
+#[test]
+fn spells_fields(rt: HostRuntime) {
+    for row in SPELT {
+        let mut output = [7; 200];
+        check_spelt(&rt, rt.alloc(), row, output.as_mut_slice());
+    }
+}
+
+#[test]
+fn writes_a_beginning_of_fields_and_of_digits(rt: HostRuntime) {
+    let mut output = [7; 20];
+    let explained = FieldsRow {
+        input: DIGITS,
+        answer: 32,
+        text: &FIELDS[..20],
+    };
+    check_explained(&rt, rt.alloc(), &explained, output.as_mut_slice());
+    let mut output = [7; 24];
+    let spelt = FieldsRow {
+        input: FIELDS,
+        answer: 32,
+        text: &DIGITS[..24],
+    };
+    check_spelt(&rt, rt.alloc(), &spelt, output.as_mut_slice());
 }
 
 #[test]

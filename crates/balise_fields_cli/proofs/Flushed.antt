@@ -8,11 +8,12 @@ use Rattle.balise_text.specs.Texts.{Text}
 use Rattle.balise_fields_run.specs.Explained.{DidLines, Ran, StopsAtLong}
 use Rattle.balise_fields_run.specs.ItemLines.{lines_text}
 use Rattle.balise_fields_run.specs.Spelt.{DidItems, ItemsStopAtLong, Spelled}
-use Rattle.balise_fields_run.specs.declared.fault.RunFault.{RunFault}
+use Rattle.balise_text.specs.declared.run_fault.RunFault.{RunFault}
 use Rattle.balise_fields_run.specs.declared.status.Status.{Status}
-use Rattle.balise_fields_cli.specs.Program.{count_after, RanBy}
-use Rattle.balise_fields_cli.specs.declared.way.Way.{Way}
-use Rattle.balise_fields_cli.specs.declared.way.Way.TheVariants.{Explain, Spell}
+use Rattle.balise_fields_cli.specs.Program.{count_after}
+use Rattle.balise_fields_run.specs.Ways.{RanBy}
+use Rattle.balise_fields_run.specs.declared.way.Way.{Way}
+use Rattle.balise_fields_run.specs.declared.way.Way.TheVariants.{Explain, Spell}
 
 lines_kept : (had has old mid new : Option Text) (P : List Line → Text → Bool → Type 0) → Keeps mid new → DidLines had has old mid P → DidLines had has old new P
 lines_kept had has old mid new P k w = record {

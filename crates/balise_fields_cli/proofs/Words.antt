@@ -11,7 +11,7 @@ use Rattle.balise_arguments.specs.declared.fault.ArgsFault.{ArgsFault}
 use Rattle.balise_arguments.specs.declared.fault.ArgsFault.TheVariants.{Help, Memory, Other}
 use Rattle.balise_fields_cli.specs.Arguments.{Asks, IsSpell, program}
 use Rattle.balise_fields_cli.specs.Ways.{way_of}
-use Rattle.balise_fields_cli.specs.declared.way.Way.{Way}
+use Rattle.balise_fields_run.specs.declared.way.Way.{Way}
 
 program_simple : is_simple program ≡ true
 unfolding program clap_on_literals

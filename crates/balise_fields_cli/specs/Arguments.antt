@@ -6,8 +6,8 @@ use Rattle.clap.specs.declared.error.ErrorKind.TheVariants.{DisplayHelp}
 use Rattle.balise_arguments.specs.Arguments.{flag_rule}
 use Rattle.balise_arguments.specs.declared.fault.ArgsFault.{ArgsFault}
 use Rattle.balise_arguments.specs.declared.fault.ArgsFault.TheVariants.{Help, Memory, Other}
-use Rattle.balise_fields_cli.specs.declared.way.Way.{Way}
-use Rattle.balise_fields_cli.specs.declared.way.Way.TheVariants.{Explain, Spell}
+use Rattle.balise_fields_run.specs.declared.way.Way.{Way}
+use Rattle.balise_fields_run.specs.declared.way.Way.TheVariants.{Explain, Spell}
 
 -- the argument --spell without a value, and clap's own --help; no version, so that --version is an unknown word
 unfoldable pub program : App

@@ -3,9 +3,9 @@ use Rattle.std.specs.Prelude.{Bool, true, false, Some, None, Result, Ok, Err}
 use Rattle.balise_rules.specs.declared.refusal.Refusal.TheVariants as refusal
 use Rattle.balise_arguments.specs.declared.fault.ArgsFault.{ArgsFault}
 use Rattle.balise_arguments.specs.declared.fault.ArgsFault.TheVariants.{Help, Memory, Other}
-use Rattle.balise_fields_run.specs.Faults.{refusal_of}
+use Rattle.balise_text.specs.RunFaults.{refusal_of}
 use Rattle.balise_fields_run.specs.Statuses.{code_of}
-use Rattle.balise_fields_run.specs.declared.fault.RunFault.{RunFault}
+use Rattle.balise_text.specs.declared.run_fault.RunFault.{RunFault}
 use Rattle.balise_fields_run.specs.declared.status.Status.{Status}
 use Rattle.balise_fields_cli.specs.declared.exit.Exit.{Exit}
 

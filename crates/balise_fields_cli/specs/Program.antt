@@ -10,25 +10,18 @@ use Rattle.balise_arguments.specs.declared.fault.ArgsFault.{ArgsFault}
 use Rattle.balise_arguments.specs.declared.fault.ArgsFault.TheVariants.{Help, Memory, Other}
 use Rattle.balise_text.specs.Replies.{fault_line}
 use Rattle.balise_text.specs.Texts.{Text}
-use Rattle.balise_fields_run.specs.Explained.{Ran}
-use Rattle.balise_fields_run.specs.Spelt.{Spelled}
-use Rattle.balise_fields_run.specs.declared.fault.RunFault.{RunFault}
+use Rattle.balise_fields_run.specs.Ways.{RanBy}
+use Rattle.balise_text.specs.declared.run_fault.RunFault.{RunFault}
 use Rattle.balise_fields_run.specs.declared.status.Status.{Status}
 use Rattle.balise_fields_cli.specs.Arguments.{Asks}
 use Rattle.balise_fields_cli.specs.Exits.{exit_after_arguments, exit_of}
 use Rattle.balise_fields_cli.specs.declared.exit.Exit.{Exit}
-use Rattle.balise_fields_cli.specs.declared.way.Way.{Way}
-use Rattle.balise_fields_cli.specs.declared.way.Way.TheVariants.{Explain, Spell}
+use Rattle.balise_fields_run.specs.declared.way.Way.{Way}
 
 -- the count after a flush
 abbrev pub count_after : Bool → ℕ → ℕ
 count_after true n = n
 count_after false n = one_more n
-
--- how a run of this way ended
-abbrev pub RanBy : Way → (had has old new : Option Text) → (read reads written writes : ℕ) → Result Status RunFault → Type 0
-RanBy Explain had has old new read reads written writes result = Ran had has old new read reads written writes result
-RanBy Spell had has old new read reads written writes result = Spelled had has old new read reads written writes result
 
 -- There was a run of this way and then a flush, and the exit is the one for both. Where the flush failed the count rose, and where it succeeded nothing is left in the buffer.
 pub record Works {R W A : Type 0} (way : Way) (remaining : R → Option Text) (contents : W → Option Text) (reader reader' : Counted R) (writer writer' : Counted (BufWriter W A)) (exit : Exit) : Type 0 where

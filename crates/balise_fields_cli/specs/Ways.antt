@@ -1,7 +1,7 @@
 -- Which way the program goes.
 use Rattle.std.specs.Prelude.{Bool, true, false}
-use Rattle.balise_fields_cli.specs.declared.way.Way.{Way}
-use Rattle.balise_fields_cli.specs.declared.way.Way.TheVariants.{Explain, Spell}
+use Rattle.balise_fields_run.specs.declared.way.Way.{Way}
+use Rattle.balise_fields_run.specs.declared.way.Way.TheVariants.{Explain, Spell}
 
 -- by whether `--spell` is given
 abbrev pub way_of : Bool → Way

@@ -5,9 +5,10 @@ ghost use Rattle.clap.specs.Words.{app_of, first_value, found_of, new_app, rule_
 ghost use Rattle.balise_arguments.specs.Arguments.{flag_rule};
 ghost use Rattle.balise_arguments.specs.Faults.{IsFor};
 ghost use Rattle.balise_fields_cli.specs.Arguments.{program, Asks};
+ghost use Rattle.balise_fields_cli.specs.Ways.{way_of};
 
-use crate::way::Way;
 use balise_arguments::ArgsFault;
+use balise_fields_run::Way;
 use clap::error::ErrorKind;
 use clap::{Arg, ArgAction, ArgMatches, Command, Error};
 use std::alloc::{AllocError, Global};
@@ -36,9 +37,16 @@ pub(crate) fn check_words<'a>(alloc: Global, words: &'a [&'a str]) -> Result<Way
         return Err(ArgsFault::Memory);
     };
     match command.try_get_matches_from(words) {
-        Ok(matches) => Ok(Way::of_flag(is_used(&matches, "spell"))),
+        Ok(matches) => Ok(way_of(is_used(&matches, "spell"))),
         Err(error) => Err(fault_of(error)),
     }
+}
+
+// The way, by whether `--spell` is given.
+fn way_of(spell: bool) -> Way
+    ensures { result ≡ way_of spell }
+{
+    if spell { Way::Spell } else { Way::Explain }
 }
 
 // The fault that an error of clap is.

@@ -6,7 +6,6 @@ mod command_line;
 mod exit;
 mod on_system;
 mod program;
-mod way;
 
 pub use balise_lines::Counted;
 pub use balise_rules::Refusal;

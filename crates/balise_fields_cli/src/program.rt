@@ -1,34 +1,18 @@
 //! The program over its words, its input and its two outputs.
 
 ghost use Rattle.std.specs.Prelude.{map};
-ghost use Rattle.balise_fields_cli.specs.Program.{DoesWords, RanBy, Shows, Starts, Works, reported};
+ghost use Rattle.balise_fields_cli.specs.Program.{DoesWords, Shows, Starts, Works, reported};
 ghost use Rattle.balise_lines.specs.Writing.{Writes};
 
 use crate::arguments::check_words;
 use crate::exit::{Exit, exit_after_arguments, exit_of};
-use crate::way::Way;
 use balise_arguments::ArgsFault;
-use balise_fields_run::{RunFault, Status, explain_lines, spell_lines};
+use balise_fields_run::{Way, run};
 use balise_lines::{Counted, WriteFault};
 use balise_text::put_fault;
 use std::alloc::Global;
 use std::fmt::Display;
 use std::io::{BufWriter, Read, Write};
-
-// Runs this way.
-fn run<R: Read, W: Write>(
-    alloc: Global,
-    way: Way,
-    reader: &mut Counted<R>,
-    writer: &mut Counted<W>,
-) -> Result<Status, RunFault>
-    ensures { RanBy way (R.remaining reader.old.inner) (R.remaining reader.new.inner) (W.contents writer.old.inner) (W.contents writer.new.inner) reader.old.failed reader.new.failed writer.old.failed writer.new.failed result }
-{
-    match way {
-        Way::Explain => explain_lines(alloc, reader, writer),
-        Way::Spell => spell_lines(alloc, reader, writer),
-    }
-}
 
 // Runs this way, and then flushes, also where a fault ended the run. States how the program ends after both.
 fn work<R: Read, W: Write + Drop>(

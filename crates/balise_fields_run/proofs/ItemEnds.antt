@@ -8,8 +8,8 @@ use Rattle.balise_lines.specs.declared.counted.Counted.{Counted}
 use Rattle.balise_lines.specs.declared.lines.Lines.{Lines}
 use Rattle.balise_text.specs.Texts.{Text}
 use Rattle.balise_items.specs.Items.{GivenItem}
-use Rattle.balise_fields_run.specs.declared.fault.RunFault.{RunFault}
-use Rattle.balise_fields_run.specs.declared.fault.RunFault.TheVariants.{InputTooLong, OutOfMemory, ReadFault, WriteFault}
+use Rattle.balise_text.specs.declared.run_fault.RunFault.{RunFault}
+use Rattle.balise_text.specs.declared.run_fault.RunFault.TheVariants.{InputTooLong, OutOfMemory, ReadFault, WriteFault}
 use Rattle.balise_fields_run.specs.ItemLines.{closed_text, line_text}
 use Rattle.balise_fields_run.specs.ItemSteps.{TextFails}
 use Rattle.balise_fields_run.specs.Spelt.{DidItems, ItemsOutOfMemory, ItemsUnwritten, SpelledToFault}

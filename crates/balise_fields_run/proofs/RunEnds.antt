@@ -6,8 +6,8 @@ use Rattle.balise_lines.specs.Reading.{OverAtEnd, TookLine}
 use Rattle.balise_lines.specs.declared.counted.Counted.{Counted}
 use Rattle.balise_lines.specs.declared.lines.Lines.{Lines}
 use Rattle.balise_text.specs.Texts.{Text}
-use Rattle.balise_fields_run.specs.declared.fault.RunFault.{RunFault}
-use Rattle.balise_fields_run.specs.declared.fault.RunFault.TheVariants.{InputTooLong, OutOfMemory, ReadFault, WriteFault}
+use Rattle.balise_text.specs.declared.run_fault.RunFault.{RunFault}
+use Rattle.balise_text.specs.declared.run_fault.RunFault.TheVariants.{InputTooLong, OutOfMemory, ReadFault, WriteFault}
 use Rattle.balise_fields_run.specs.Explained.{DidLines, RanToFault, RunsOutOfMemory}
 use Rattle.balise_fields_run.specs.Steps.{LineFails, NoneAhead}
 use Rattle.balise_fields_run.proofs.RunSteps.{HasCome, failed_ahead, long_ahead, ran_out, unwritten}

@@ -8,8 +8,8 @@ use Rattle.balise_fields.specs.declared.field_line.FieldLine.{FieldLine}
 use Rattle.balise_fields.specs.FieldLines.{field_line_of}
 use Rattle.balise_fields.proofs.Sequences.{some_front_of}
 use Rattle.balise_items.specs.Items.{GivenItem}
-use Rattle.balise_fields_run.specs.declared.fault.RunFault.{RunFault}
-use Rattle.balise_fields_run.specs.declared.fault.RunFault.TheVariants.{InputTooLong, OutOfMemory, ReadFault, WriteFault}
+use Rattle.balise_text.specs.declared.run_fault.RunFault.{RunFault}
+use Rattle.balise_text.specs.declared.run_fault.RunFault.TheVariants.{InputTooLong, OutOfMemory, ReadFault, WriteFault}
 use Rattle.balise_fields_run.specs.ItemLines.{ends_item, line_bad, line_text}
 use Rattle.balise_fields_run.specs.ItemSteps.{TextDone, TextFails}
 

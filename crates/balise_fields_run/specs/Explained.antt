@@ -9,10 +9,10 @@ use Rattle.balise_text.specs.Texts.{Text}
 use Rattle.balise_fields.specs.declared.explained.Explained.{Explained}
 use Rattle.balise_fields.specs.Explaining.{IsExplained, is_refused}
 use Rattle.balise_fields.specs.ExplainedTexts.{explained_text}
-use Rattle.balise_fields_run.specs.declared.fault.RunFault.{RunFault}
-use Rattle.balise_fields_run.specs.declared.fault.RunFault.TheVariants as fault
+use Rattle.balise_text.specs.declared.run_fault.RunFault.{RunFault}
+use Rattle.balise_text.specs.declared.run_fault.RunFault.TheVariants as fault
 use Rattle.balise_fields_run.specs.declared.status.Status.{Status}
-use Rattle.balise_fields_run.specs.Faults.{IsFault}
+use Rattle.balise_text.specs.RunFaults.{IsFault}
 use Rattle.balise_fields_run.specs.Statuses.{status_of}
 
 -- Lines of digits, the first of them at this place of the input, each explained by itself: what is printed for all of them, and whether some are refused.

@@ -3,8 +3,8 @@ use Rattle.std.specs.Prelude.{◌≡◌, Bool, Option}
 use Rattle.balise_lines.specs.Writing.{LastFailed, WritesAll, WritesSome}
 use Rattle.balise_lines.specs.declared.counted.Counted.{Counted}
 use Rattle.balise_text.specs.Texts.{Text}
-use Rattle.balise_fields_run.specs.declared.fault.RunFault.{RunFault}
-use Rattle.balise_fields_run.specs.declared.fault.RunFault.TheVariants.{InputTooLong, OutOfMemory, ReadFault, WriteFault}
+use Rattle.balise_text.specs.declared.run_fault.RunFault.{RunFault}
+use Rattle.balise_text.specs.declared.run_fault.RunFault.TheVariants.{InputTooLong, OutOfMemory, ReadFault, WriteFault}
 
 -- all of the text was written, and this says whether an item was refused
 abbrev pub TextDone : {W : Type 0} → (W → Option Text) → Counted W → Counted W → Text → Bool → Bool → Type 0

@@ -1,4 +1,3 @@
-pub mod Faults
 pub mod Statuses
 pub mod Explained
 pub mod Steps
@@ -6,3 +5,4 @@ pub mod ItemLines
 pub mod Spelt
 pub mod ItemSteps
 pub mod SpelledBack
+pub mod Ways

@@ -6,10 +6,10 @@ use Rattle.balise_lines.specs.Lines.{Fits, Line, lines_of, whole}
 use Rattle.balise_lines.specs.Reading.{IsInput}
 use Rattle.balise_lines.specs.Writing.{IsPartOf}
 use Rattle.balise_text.specs.Texts.{Text}
-use Rattle.balise_fields_run.specs.declared.fault.RunFault.{RunFault}
-use Rattle.balise_fields_run.specs.declared.fault.RunFault.TheVariants as fault
+use Rattle.balise_text.specs.declared.run_fault.RunFault.{RunFault}
+use Rattle.balise_text.specs.declared.run_fault.RunFault.TheVariants as fault
 use Rattle.balise_fields_run.specs.declared.status.Status.{Status}
-use Rattle.balise_fields_run.specs.Faults.{IsFault}
+use Rattle.balise_text.specs.RunFaults.{IsFault}
 use Rattle.balise_fields_run.specs.ItemLines.{closed_bad, closed_text, line_text, lines_bad, lines_text, next_of, open_of}
 use Rattle.balise_fields_run.specs.Statuses.{status_of}
 

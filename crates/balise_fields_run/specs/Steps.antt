@@ -11,8 +11,8 @@ use Rattle.balise_text.specs.Texts.{Text}
 use Rattle.balise_fields.specs.declared.explained.Explained.{Explained}
 use Rattle.balise_fields.specs.Explaining.{IsExplained, is_refused}
 use Rattle.balise_fields.specs.ExplainedTexts.{explained_text}
-use Rattle.balise_fields_run.specs.declared.fault.RunFault.{RunFault}
-use Rattle.balise_fields_run.specs.declared.fault.RunFault.TheVariants.{InputTooLong, OutOfMemory, ReadFault, WriteFault}
+use Rattle.balise_text.specs.declared.run_fault.RunFault.{RunFault}
+use Rattle.balise_text.specs.declared.run_fault.RunFault.TheVariants.{InputTooLong, OutOfMemory, ReadFault, WriteFault}
 
 -- the line was explained, and all of that was written
 abbrev pub LineDone : {W : Type 0} → (W → Option Text) → Counted W → Counted W → Text → Bool → Type 0

@@ -4,11 +4,11 @@ ghost use Rattle.std.specs.Prelude.{IfErr, IfOk};
 ghost use Rattle.balise_fields_run.specs.Explained.{Ran};
 ghost use Rattle.balise_fields_run.specs.Steps.{LineDone, LineFails};
 
-use crate::fault::RunFault;
 use crate::next::next;
 use crate::status::Status;
 use balise_fields::{explain_line, put_explained};
 use balise_lines::{Counted, Lines, Next};
+use balise_text::RunFault;
 use std::alloc::Global;
 use std::io::{Read, Write};
 

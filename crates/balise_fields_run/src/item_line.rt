@@ -6,10 +6,10 @@ ghost use Rattle.balise_fields.specs.FieldLines.{field_line_of};
 ghost use Rattle.balise_fields_run.specs.ItemLines.{begun_after, closed_bad, closed_text, ends_item, grown, is_plan, line_bad, line_text, open_after, plan_text};
 ghost use Rattle.balise_fields_run.specs.ItemSteps.{TextDone, TextFails};
 
-use crate::fault::RunFault;
 use balise_fields::FieldsFault;
 use balise_items::{FieldLine, Item, begins_item, put_spelling, read_field_line, spell_item};
 use balise_lines::{Counted, WriteFault, put};
+use balise_text::RunFault;
 use std::alloc::Global;
 use std::io::Write;
 

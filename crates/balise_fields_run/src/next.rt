@@ -4,8 +4,8 @@ ghost use Rattle.std.specs.Prelude.{◌≡◌, IfErr, IfOk, OnOk};
 ghost use Rattle.balise_lines.specs.Reading.{OverAtEnd, Took};
 ghost use Rattle.balise_fields_run.specs.Steps.{NoneAhead};
 
-use crate::fault::RunFault;
 use balise_lines::{Counted, LineFault, Lines, Next};
+use balise_text::RunFault;
 use std::io::Read;
 
 /// Reads the next line.

@@ -2,12 +2,12 @@
 
 ghost use Rattle.balise_fields_run.specs.Spelt.{Spelled};
 
-use crate::fault::RunFault;
 use crate::item_line::{close, spell_line};
 use crate::next::next;
 use crate::status::Status;
 use balise_items::Item;
 use balise_lines::{Counted, Lines, Next};
+use balise_text::RunFault;
 use std::alloc::Global;
 use std::io::{Read, Write};
 

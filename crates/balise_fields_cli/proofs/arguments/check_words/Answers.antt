@@ -5,7 +5,7 @@ use Rattle.balise_fields_cli.proofs.arguments.check_words.Goals as goal
 
 pub returns-in-Ok-try_get_matches_from : goal.returns-in-Ok-try_get_matches_from
 returns-in-Ok-try_get_matches_from c =
-    run_asked (app_of c.in-Ok.command) c.in-Ok-try_get_matches_from.matches _ _ c.of_flag.result (search rules) c.in-Ok-try_get_matches_from.ensures.matches c.in-Ok-try_get_matches_from.ensures.kinds c.is_used.ensures c.of_flag.ensures
+    run_asked (app_of c.in-Ok.command) c.in-Ok-try_get_matches_from.matches _ _ c.way_of.result (search rules) c.in-Ok-try_get_matches_from.ensures.matches c.in-Ok-try_get_matches_from.ensures.kinds c.is_used.ensures c.way_of.ensures
 
 pub returns-in-Err : goal.returns-in-Err
 returns-in-Err c = faulted _ c.in-Err.error c.fault_of.result (kind_at_err (app_of c.in-Ok.command) _ c.in-Err.error (search rules) c.in-Err.ensures.kinds) c.fault_of.ensures

@@ -3,7 +3,7 @@ use Rattle.balise_lines.specs.Writing.{LastFailed}
 use Rattle.balise_fields.proofs.Sequences.{some_behind}
 use Rattle.balise_fields_run.specs.ItemLines.{closed_text, plan_text}
 use Rattle.balise_fields_run.specs.ItemSteps.{TextFails}
-use Rattle.balise_fields_run.specs.declared.fault.RunFault.{RunFault}
+use Rattle.balise_text.specs.declared.run_fault.RunFault.{RunFault}
 use Rattle.balise_fields_run.proofs.TextParts.{first_fails}
 use Rattle.balise_fields_run.proofs.item_line.end_item.Goals as goal
 

@@ -1,0 +1,28 @@
+-- What a call hands over of what a run wrote.
+use Rattle.std.specs.Prelude.{◌≡◌, ◌<◌, ◌≤◌, ℕ, length, take, drop, Result, Ok, Err}
+use Rattle.balise_text.specs.Texts.{Text}
+use Rattle.balise_text.specs.declared.run_fault.RunFault.{RunFault}
+use Rattle.balise_text.specs.declared.run_fault.RunFault.TheVariants.{InputTooLong, OutOfMemory, ReadFault, WriteFault}
+
+-- how a call ends whose run ended so, where all that it wrote fits: neither a read nor a write fails there
+abbrev pub ends_within : {S : Type 0} → Result S RunFault → Result S RunFault
+ends_within (Ok status) = Ok status
+ends_within (Err InputTooLong) = Err InputTooLong
+ends_within (Err OutOfMemory) = Err OutOfMemory
+ends_within (Err ReadFault) = Err OutOfMemory
+ends_within (Err WriteFault) = Err OutOfMemory
+
+-- how many bytes it hands over of so many
+abbrev pub count_within : {S : Type 0} → Result S RunFault → ℕ → ℕ
+count_within (Ok status) n = n
+count_within (Err InputTooLong) n = n
+count_within (Err OutOfMemory) n = n
+count_within (Err ReadFault) n = 0
+count_within (Err WriteFault) n = 0
+
+-- The front of what a run wrote, which ended so, is at the front of the output: all of it, or what there is room for. Only then is the output full, as a fault of the writer.
+pub record HandsOver {S : Type 0} (ended : Result S RunFault) (text old new : Text) (written : ℕ) (result : Result S RunFault) : Type 0 where
+  pub kept : drop written new ≡ drop written old
+  pub copied : take written new ≡ take written text
+  pub fits : length text ≤ length old → (written ≡ count_within ended (length text)) × (result ≡ ends_within ended)
+  pub is_full : length old < length text → (written ≡ length old) × (result ≡ Err WriteFault)

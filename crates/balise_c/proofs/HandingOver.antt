@@ -1,5 +1,5 @@
 -- What is handed over of what a run wrote, whatever the run.
-use Rattle.std.proofs.Common.{◌∙◌, ◌≡◌, ◌⊎◌, ◌<◌, ◌≤◌, ℕ, inl, inr, length, take, Result, Ok, Err, arith, ap, subst, sym}
+use Rattle.std.proofs.Common.{◌≡◌, ◌⊎◌, ◌<◌, ◌≤◌, ℕ, inl, inr, length, take, Result, Ok, Err, arith, subst, sym}
 use Rattle.std.proofs.lemmas.Bool.{cases_lt}
 use Rattle.std.specs.Result.{IsErrOf}
 use Rattle.balise_text.specs.Texts.{Text}

@@ -1,6 +1,8 @@
 //! Tests of the calls.
 
-use crate::{baliseplan_abi, baliseplan_explain, baliseplan_run, baliseplan_size, baliseplan_spell};
+use crate::{
+    baliseplan_abi, baliseplan_explain, baliseplan_run, baliseplan_size, baliseplan_spell,
+};
 use std::alloc::Global;
 use std::process::Abort;
 

@@ -51,7 +51,7 @@ far-elsewhere h k f e =
     let b = both-parts (eqb (home_number k % 16384) h.group) (nat_lt (home_number k) (limit h.extent)) e in
     let same : home_number k % 16384 ≡ k.group = omega (arith, f) in
     let other : eqb h.group k.group ≡ false = test-sym nat_test h.group k.group ∙ sym (ap (λ (n : ℕ). eqb n h.group) same) ∙ b.0 in
-    let below : code k.extent * 16384 + k.group < limit h.extent = ltb-true (home_number k) (limit h.extent) b.1 in
+    let below : code k.extent * 16384 + k.group < limit h.extent = omega (arith, f, ltb-true (home_number k) (limit h.extent) b.1) in
     by-extents h.extent k.extent (eqb h.group k.group) (eqb h.telegram k.telegram) k.group other f below
 
 -- an entry whose number is far is apart

@@ -60,7 +60,7 @@ code Named = 1
 code Group = 2
 
 abbrev pub home_number : Home → ℕ
-home_number h = code h.extent * 16384 + h.group
+home_number h = code h.extent * 16384 + h.group % 16384
 
 -- the same of an entry
 abbrev pub home_at : Entry → Home

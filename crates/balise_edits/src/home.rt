@@ -80,7 +80,7 @@ impl Home {
             Extent::Named => 1,
             Extent::Group => 2,
         };
-        extent * 16384 + self.group
+        extent * 16384 + self.group % 16384
     }
 
     /// Its group, by the last 14 bits.

@@ -1,16 +1,15 @@
 -- What the codec's calls find, as what digits are explained as.
-use Rattle.std.proofs.Common.{◌≡◌, ◌∙◌, inl, inr, ℕ, ◌+◌, ◌-◌, ◌==◌, ◌&&◌, ◌≤◌, ◌<◌, Bool, true, List, [], ◌∷◌, ◌++◌, length, take, drop, Option, Some, None, Result, Ok, Err, refl, sym, ap, subst, append_assoc, append-nil, length-append, arith}
-use Rattle.std.proofs.lemmas.List.{length-drop, length-take, drop-append-le, take_all}
+use Rattle.std.proofs.Common.{◌≡◌, ◌∙◌, inl, inr, ℕ, ◌+◌, ◌==◌, ◌&&◌, ◌≤◌, Bool, true, List, [], ◌∷◌, ◌++◌, length, take, drop, Option, Some, None, Ok, Err, refl, sym, ap, subst, append_assoc, append-nil, length-append, arith}
+use Rattle.std.proofs.lemmas.List.{length-drop, length-take, take_all}
 use Rattle.std.proofs.lemmas.List.Elements.{All-push}
-use Rattle.std.specs.Result.{IfOk}
 use Rattle.balise_rules.specs.declared.refusal.Refusal.{Refusal}
 use Rattle.balise_rules.specs.declared.tag.Tag.{Tag}
 use Rattle.balise_rules.specs.declared.tag.Tag.TheVariants.{Base}
 use Rattle.balise_rules.specs.declared.variable.Var.TheVariants.{MVersion}
-use Rattle.balise_rules.specs.Bits.{ones, part}
+use Rattle.balise_rules.specs.Bits.{part}
 use Rattle.balise_rules.specs.Forms.{spelling}
 use Rattle.balise_rules.specs.Packet.{Packet, bits_of, value, IsSpelt, read_first}
-use Rattle.balise_rules.specs.Telegram.{IsLength, is_balise, packets_bits, read_header, read_packets, read_telegram, used}
+use Rattle.balise_rules.specs.Telegram.{IsLength, is_balise, packets_bits, read_header, read_packets, read_telegram}
 use Rattle.balise_rules.proofs.PacketRead.{first_found}
 use Rattle.balise_layout.specs.Collected.{all_keyed}
 use Rattle.balise_telegram.specs.declared.fault.TelegramFault.{TelegramFault}

@@ -1,19 +1,16 @@
 -- From the refusal of a packet by itself to what its digits are.
-use Rattle.std.proofs.Common.{◌≡◌, ◌≢◌, ◌≤◌, ◌<◌, ◌+◌, ◌∙◌, ℕ, Bool, true, false, eqb, nat_lt, ◌||◌, List, [], length, take, drop, Option, Some, None, Result, Ok, Err, inl, inr, sym, ap, arith, ◌⊎◌}
+use Rattle.std.proofs.Common.{◌≡◌, ◌≢◌, ◌≤◌, ◌+◌, ◌∙◌, ℕ, Bool, true, false, eqb, nat_lt, ◌||◌, List, length, take, drop, Result, Ok, Err, inl, inr, sym, arith, ◌⊎◌}
 use Rattle.std.proofs.lemmas.Bool.{ltb-false, or_parts, eqb-true}
 use Rattle.std.proofs.lemmas.Bool.Decides.{nat_tests}
 use Rattle.balise_rules.specs.declared.refusal.Refusal.{Refusal}
-use Rattle.balise_rules.specs.declared.refusal.Refusal.TheVariants.{PacketCut, PacketZero, LayoutMismatch, BadLength, SpareBits}
-use Rattle.balise_rules.specs.Refusals.{and_then}
+use Rattle.balise_rules.specs.declared.refusal.Refusal.TheVariants.{BadLength, SpareBits}
 use Rattle.balise_rules.specs.Addresses.{packet_in}
 use Rattle.balise_rules.specs.Bits.{num}
 use Rattle.balise_rules.specs.Digits.{fill, all_zero}
-use Rattle.balise_rules.specs.Forms.{Fields, read_form}
-use Rattle.balise_rules.specs.Packet.{Packet, read_packet, read_body, read_first, length_said, is_cut}
-use Rattle.balise_rules.specs.Packets.{packet}
-use Rattle.balise_rules.proofs.Cases.{unok}
+use Rattle.balise_rules.specs.Packet.{Packet, read_body, read_first, length_said, is_cut}
 use Rattle.balise_rules.proofs.Tests.{split_on}
-use Rattle.balise_telegram.proofs.PacketDigits.{word_long, word_spare, word_read, IsWhole}
+pub use Rattle.balise_telegram.proofs.PacketDigits.{IsWhole, word_read}
+use Rattle.balise_telegram.proofs.PacketDigits.{word_long, word_spare}
 
 -- the tests before the length all pass
 pub after_tests : {P : Type 0} (b : List Bool) → (nat_lt (length b) 8 ≡ true → P) → (nat_lt (length b) 8 ≡ false → eqb (num (take 8 b)) 0 ≡ true → P) → (nat_lt (length b) 8 ≡ false → eqb (num (take 8 b)) 0 ≡ false → eqb (num (take 8 b)) 255 ≡ true → P)

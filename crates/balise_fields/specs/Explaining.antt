@@ -1,5 +1,5 @@
 -- What digits are explained as: the fields of a telegram or of a packet by itself with their places, up to a fault.
-use Rattle.std.specs.Prelude.{◌≡◌, ◌≢◌, ◌⊎◌, ℕ, ◌+◌, ◌*◌, ◌==◌, Bool, true, false, not, List, [], ◌∷◌, length, take, drop, codes, if◌then◌else◌, is_some, Option, Some, None, Ok, Err}
+use Rattle.std.specs.Prelude.{◌≡◌, ◌≢◌, ◌⊎◌, ℕ, ◌+◌, ◌*◌, Bool, true, false, List, [], ◌∷◌, length, take, drop, codes, if◌then◌else◌, is_some, Option, Some, None, Ok, Err}
 use Rattle.balise_rules.specs.declared.refusal.Refusal.{Refusal}
 use Rattle.balise_rules.specs.declared.refusal.Refusal.TheVariants as refusal
 use Rattle.balise_rules.specs.declared.tag.Tag.{Tag}
@@ -12,8 +12,6 @@ use Rattle.balise_rules.specs.Telegram.{Telegram, is_balise, read_header, read_t
 use Rattle.balise_layout.specs.Collected.{all_keyed}
 use Rattle.balise_telegram.specs.declared.fault.TelegramFault.{TelegramFault}
 use Rattle.balise_telegram.specs.Faults.{refusal_of}
-use Rattle.balise_codec.specs.declared.explain.PacketFields.{PacketFields}
-use Rattle.balise_codec.specs.declared.explain.TelegramFields.{TelegramFields}
 use Rattle.balise_codec.specs.declared.reach.Reach.{Reach}
 use Rattle.balise_codec.specs.declared.stop.Stop.{Stop}
 use Rattle.balise_codec.specs.declared.trace.Due.{Due}

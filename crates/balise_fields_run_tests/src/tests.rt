@@ -2,5 +2,6 @@
 
 mod devices;
 mod programs;
+mod ran;
 mod runs;
 mod spellings;

@@ -1,5 +1,6 @@
 //! The tests, by topic.
 
+mod alone;
 mod changes;
 mod full;
 mod header;

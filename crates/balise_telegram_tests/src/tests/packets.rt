@@ -57,7 +57,7 @@ pub(crate) fn is_back(
 }
 
 /// Whether the packet has these bits.
-fn has_bits(rt: &impl Abort, packet: &Packet, bits: &Bits) -> bool {
+pub(crate) fn has_bits(rt: &impl Abort, packet: &Packet, bits: &Bits) -> bool {
     let mut given = bits.slice(0, 0).expect(rt, "memory");
     packet.write(&mut given).is_ok() & (given == *bits)
 }

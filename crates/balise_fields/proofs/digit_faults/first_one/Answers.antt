@@ -1,4 +1,4 @@
-use Rattle.std.proofs.Common.{◌≡◌, ◌≢◌, ◌∙◌, ◌+◌, ◌<◌, drop, length, sym, arith}
+use Rattle.std.proofs.Common.{◌≡◌, ◌∙◌, ◌+◌, ◌<◌, drop, length, sym, arith}
 use Rattle.balise_rules.specs.Bits.{num, part}
 use Rattle.balise_fields.specs.Explaining.{zeros_before}
 use Rattle.balise_fields.proofs.ZerosAndDigits.{one_here, zero_here}

@@ -1,4 +1,4 @@
-use Rattle.std.proofs.Common.{◌≡◌, ◌∙◌, Ok, ap, inl, sym}
+use Rattle.std.proofs.Common.{◌∙◌, ap, inl, sym}
 use Rattle.balise_rules.specs.Digits.{read_hex}
 use Rattle.balise_codec.proofs.HeadsRead.{on_ok}
 use Rattle.balise_fields.specs.Explaining.{IsBits, IsTelegram}

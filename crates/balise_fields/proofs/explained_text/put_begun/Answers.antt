@@ -1,4 +1,4 @@
-use Rattle.std.proofs.Common.{◌≡◌, ◌∙◌, ◌++◌, refl, sym, ap}
+use Rattle.std.proofs.Common.{◌≡◌, ◌∙◌, ◌++◌, sym, ap}
 use Rattle.balise_lines.specs.Writing.{LastFailed}
 use Rattle.balise_text.specs.Texts.{Text}
 use Rattle.balise_fields.specs.ExplainedTexts.{begun_text, fault_text, front_text, last_text}

@@ -1,4 +1,4 @@
-use Rattle.std.proofs.Common.{◌≡◌, ◌∙◌, codes, length, sym}
+use Rattle.std.proofs.Common.{◌∙◌, codes, length, sym}
 use Rattle.std.proofs.lemmas.Bool.{eqb-false}
 use Rattle.balise_lines.specs.Writing.{LastFailed}
 use Rattle.balise_fields.specs.ExplainedTexts.{fields_text, last_text}

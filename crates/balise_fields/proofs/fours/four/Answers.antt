@@ -1,4 +1,4 @@
-use Rattle.std.proofs.Common.{◌≡◌, ◌∙◌, ◌-◌, ◌*◌, ◌%◌, ◌^◌, ◌<◌, ◌≤◌, ◌+◌, ap, sym, subst, arith, length}
+use Rattle.std.proofs.Common.{◌≡◌, ◌∙◌, ◌-◌, ◌*◌, ◌%◌, ◌^◌, ◌≤◌, ◌+◌, ap, arith, length}
 use Rattle.std.proofs.Math.Nat.{mod-eq_of_lt}
 use Rattle.balise_fields.specs.Fours.{four_at}
 use Rattle.balise_fields.proofs.DigitFours.{four_below, whole_four, last_four}

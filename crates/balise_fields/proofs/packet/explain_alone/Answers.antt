@@ -2,7 +2,8 @@ use Rattle.std.proofs.Common.{◌≡◌, ◌≢◌, ◌∙◌, Err, rules, sym, 
 use Rattle.balise_rules.specs.declared.refusal.Refusal.{Refusal}
 use Rattle.balise_rules.specs.declared.refusal.Refusal.TheVariants.{BadLength, OutOfMemory, SpareBits}
 use Rattle.balise_rules.specs.Addresses.{packet_in}
-use Rattle.balise_fields.proofs.PacketDigits.{IsWhole, refused_after, spare_whole, whole_size, whole_within}
+use Rattle.balise_fields.proofs.PacketDigits.{refused_after, spare_whole, whole_size, whole_within}
+use Rattle.balise_telegram.proofs.PacketDigits.{IsWhole}
 use Rattle.balise_fields.proofs.packet.explain_alone.Goals as goal
 
 not_memory : (e : Refusal) → e ≡ SpareBits → e ≢ OutOfMemory

@@ -1,4 +1,4 @@
-use Rattle.std.proofs.Common.{◌≡◌, ◌∙◌, ◌≤◌, Some, length, refl, sym, ap, subst, arith}
+use Rattle.std.proofs.Common.{◌∙◌, ◌≤◌, Some, length, refl, sym, ap, subst, arith}
 use Rattle.balise_rules.specs.Forms.{spelling}
 use Rattle.balise_layout.specs.Collected.{all_keyed}
 use Rattle.balise_codec.specs.Heads.{Tells}

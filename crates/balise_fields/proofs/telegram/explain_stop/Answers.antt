@@ -1,11 +1,11 @@
-use Rattle.std.proofs.Common.{◌≡◌, ◌∙◌, ◌+◌, ◌≤◌, Some, None, length, drop, refl, sym, ap, subst, arith}
+use Rattle.std.proofs.Common.{◌∙◌, ◌≤◌, Some, length, drop, sym, ap, subst, arith}
 use Rattle.std.proofs.lemmas.List.{length-drop}
 use Rattle.balise_rules.specs.Forms.{spelling}
 use Rattle.balise_layout.specs.Collected.{all_keyed}
 use Rattle.balise_telegram.specs.Faults.{refusal_of}
 use Rattle.balise_codec.specs.Heads.{Tells}
 use Rattle.balise_codec.specs.Places.{placed}
-use Rattle.balise_fields.specs.Explaining.{due_of, fault}
+use Rattle.balise_fields.specs.Explaining.{fault}
 use Rattle.balise_fields.proofs.FieldsFound.{end_is_read, none_after, reach_fits}
 use Rattle.balise_fields.proofs.telegram.explain_stop.Goals as goal
 

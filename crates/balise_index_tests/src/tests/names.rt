@@ -60,18 +60,18 @@ fn check_tags(rt: &impl Abort, alloc: Global) {
     let tags = [
         Tag::Base(0),
         Tag::Fresh(0),
-        Tag::Fresh(4_000_000_000),
-        Tag::Base(293_999_998),
+        Tag::Fresh(4_001_000_000),
+        Tag::Base(292_999_998),
     ];
     let mut index = NameIndex::new(alloc);
     for tag in &tags {
         assert!(rt; index.set_tag(id(1, 1), *tag).is_ok());
         assert!(rt; index.tag(id(1, 1)) == Some(*tag));
     }
-    assert!(rt; index.set_tag(id(1, 1), Tag::Base(293_999_999)).is_err());
-    assert!(rt; index.set_tag(id(1, 1), Tag::Fresh(4_000_000_001)).is_err());
-    assert!(rt; index.set_tag(id(65536, 1), Tag::Base(0)).is_err());
-    assert!(rt; index.tag(id(1, 1)) == Some(Tag::Base(293_999_998)));
+    assert!(rt; index.set_tag(id(1, 1), Tag::Base(292_999_999)).is_err());
+    assert!(rt; index.set_tag(id(1, 1), Tag::Fresh(4_001_000_001)).is_err());
+    assert!(rt; index.set_tag(id(1024, 1), Tag::Base(0)).is_err());
+    assert!(rt; index.tag(id(1, 1)) == Some(Tag::Base(292_999_998)));
 }
 
 #[test]

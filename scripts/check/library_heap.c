@@ -1,7 +1,7 @@
 /* Refuses each allocation of a call in turn, and looks at what the call leaves. Linked with the library and with
  * --wrap=malloc,--wrap=calloc,--wrap=realloc,--wrap=free, so that the library allocates by the four functions below.
  *
- * usage: library_heap FILE FLAGS
+ * usage: library_heap FILE FLAGS, of the editor, or library_heap FILE explain, or library_heap FILE spell
  * Prints the most that a call allocates. Ends with 0; with 1 if a byte wasn't freed, or was written where none should
  * be, or the answer or the output is wrong; with 2 if FILE can't be used.
  */
@@ -81,10 +81,28 @@ void __wrap_free(void *block)
 struct run {
     const uint8_t *input;
     size_t input_len, room, len;
-    uint32_t flags;
+    const char *call;
     int32_t answer;
     uint8_t *whole, *output;
 };
+
+static int32_t into(const struct run *run, uint8_t *output, size_t *written)
+{
+    if (!strcmp(run->call, "explain"))
+        return baliseplan_explain(run->input, run->input_len, output, run->room, written);
+    if (!strcmp(run->call, "spell"))
+        return baliseplan_spell(run->input, run->input_len, output, run->room, written);
+    return baliseplan_run(run->input, run->input_len, (uint32_t)atoi(run->call), output, run->room, written);
+}
+
+static int32_t allocated(const struct run *run, uint8_t **output, size_t *len)
+{
+    if (!strcmp(run->call, "explain"))
+        return baliseplan_explain_alloc(run->input, run->input_len, output, len);
+    if (!strcmp(run->call, "spell"))
+        return baliseplan_spell_alloc(run->input, run->input_len, output, len);
+    return baliseplan_run_alloc(run->input, run->input_len, (uint32_t)atoi(run->call), output, len);
+}
 
 static void begin(long fails)
 {
@@ -93,7 +111,7 @@ static void begin(long fails)
     counting = true;
 }
 
-/* What one call with a refused allocation may leave: a beginning of the output with 30; else the run went on, and a
+/* What one call with a refused allocation may leave: a beginning of the output with 30; else the editor went on, and a
  * command was answered so. Where `shrinks`, what was refused may have been the last one, which gives room back. */
 static bool is_right(const struct run *run, int32_t answer, const uint8_t *output, size_t written, bool shrinks)
 {
@@ -104,19 +122,19 @@ static bool is_right(const struct run *run, int32_t answer, const uint8_t *outpu
     return answer == BALISEPLAN_SOME_REFUSED && memmem(output, written, "refused 30 OutOfMemory\n", 23);
 }
 
-/* How many of the calls of baliseplan_run are wrong. */
+/* How many of the calls with an output of ours are wrong. */
 static long refuse_each(struct run *run)
 {
     long wrong = 0;
     begin(0);
-    run->answer = baliseplan_run(run->input, run->input_len, run->flags, run->whole, run->room, &run->len);
+    run->answer = into(run, run->whole, &run->len);
     counting = false;
     long needed = calls, peak = most;
     for (long fails = 1; fails <= needed; fails++) {
         size_t written = 0;
         memset(run->output, FILL, run->room + 1);
         begin(fails);
-        int32_t answer = baliseplan_run(run->input, run->input_len, run->flags, run->output, run->room, &written);
+        int32_t answer = into(run, run->output, &written);
         counting = false;
         wrong += !is_right(run, answer, run->output, written, false) || blocks || bytes;
         for (size_t i = written; i <= run->room; i++)
@@ -127,7 +145,7 @@ static long refuse_each(struct run *run)
     return wrong;
 }
 
-/* The same for baliseplan_run_alloc, whose block stays the caller's until it is freed. */
+/* The same for the call whose name ends with _alloc. Its block stays the caller's until it is freed. */
 static long refuse_each_allocated(const struct run *run)
 {
     long wrong = 0, needed = 0;
@@ -135,7 +153,7 @@ static long refuse_each_allocated(const struct run *run)
         uint8_t *output = NULL;
         size_t len = 99;
         begin(fails);
-        int32_t answer = baliseplan_run_alloc(run->input, run->input_len, run->flags, &output, &len);
+        int32_t answer = allocated(run, &output, &len);
         if (fails == 0) {
             needed = calls;
             wrong += answer != run->answer || len != run->len || memcmp(output, run->whole, len);
@@ -158,12 +176,12 @@ int main(int argc, char **argv)
     static uint8_t input[1 << 20];
     if (!file)
         return 2;
-    struct run run = {.input = input, .flags = (uint32_t)atoi(argv[2])};
+    struct run run = {.input = input, .call = argv[2]};
     run.input_len = fread(input, 1, sizeof input, file);
     if (ferror(file) || !feof(file))
         return 2;
     fclose(file);
-    run.room = 16 * run.input_len + 4096;
+    run.room = 20 * run.input_len + 4096;
     run.whole = calloc(run.room + 1, 1);
     run.output = calloc(run.room + 1, 1);
     if (!run.whole || !run.output)

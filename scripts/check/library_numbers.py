@@ -17,6 +17,7 @@ from typing import Iterable, Mapping
 ROOT = Path(__file__).resolve().parents[2]
 HEADER = "include/baliseplan.h"
 PYTHON = "examples/python/baliseplan/__init__.py"
+PYTHON_FAULTS = "examples/python/baliseplan/errors.py"
 RUST = "examples/rust/src/lib.rs"
 HELP = "crates/baliseplan_help/stdout"
 MAKEFILE = "what `make -n packed-shared` prints"
@@ -60,8 +61,8 @@ def numbers() -> dict[str, list[Place]]:
     for name, printed in FAULTS.items():
         rust = rf"^\s*Fault::{printed} => (\d+),"
         answer = rf"^\s*(\d+) => Err\(Fault::{printed}\),"
-        crate = ("crates/balise_c/src/answer.rt", rf"RunFault::{printed}\) => (\d+),")
-        python = (PYTHON, rf'(\d+): "{printed}"')
+        crate = ("crates/balise_c/src/answer.rt", rf"^\s*RunFault::{printed} => (\d+),")
+        python = (PYTHON_FAULTS, rf'(\d+): "{printed}"')
         found[f"the fault {printed}"] = [define(name), python, (RUST, rust), (RUST, answer), crate]
     found["the status of a bad input"] = [define("BAD_INPUT"), (PYTHON, r"^BAD_INPUT = (\d+)$"),
                                           (RUST, r"^\s*(\d+) => Ok\(Status::BadInput\),")]

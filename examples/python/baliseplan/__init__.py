@@ -4,6 +4,7 @@
 
     result = baliseplan.run(plan, ["set 5.100 0 0 NID_TSR 0 9"])
     result.plan, result.journal, result.replies
+    baliseplan.explain("packet 33 42403e00").items[0].packets
 
 Texts are `str` with one character for each byte, or `bytes`.
 """
@@ -12,79 +13,24 @@ from __future__ import annotations
 
 import functools
 import json
-from dataclasses import dataclass, field
-from typing import Any, Iterable, Union
+from dataclasses import dataclass
+from typing import Any
 
 from ._library import call, strerror, version
+from ._replies import Reply, replies_of
+from ._texts import BYTES, Lines, Text, joined, whole_lines
+from .errors import BadInput, Error, Fault, unless_fault
+from .fields import Digits, Field, Fields, Item, Refusal, explain, explain_bytes, spell, spell_bytes
 
 __all__ = [
     "BadInput", "Error", "Fault", "Reply", "Result", "QUIET", "STOP", "JOURNAL", "JSON",
     "call", "run", "run_bytes", "strerror", "version",
+    "Digits", "Field", "Fields", "Item", "Refusal", "explain", "explain_bytes", "spell", "spell_bytes",
 ]
 
 QUIET, STOP, JOURNAL, JSON = 1, 2, 4, 8
 FLAGS = QUIET | STOP | JOURNAL | JSON
 BAD_INPUT = 2
-FAULTS = {29: "InputTooLong", 30: "OutOfMemory", 31: "ReadFault", 32: "WriteFault"}
-BYTES = "latin-1"  # each byte is one character, so that the library sees a text as it is
-Text = Union[str, bytes]
-
-
-class Error(Exception):
-    """There is no result. It has the number and the name of the reason."""
-
-    number: int
-    name: str
-
-
-class BadInput(Error):
-    """The plan or the journal was refused. `line` counts the lines of the input from 1: first the plan's."""
-
-    def __init__(self, line: int, number: int, name: str) -> None:
-        super().__init__(line, number, name)  # what pickle makes a copy of
-        self.line, self.number, self.name = line, number, name
-
-    def __str__(self) -> str:
-        return f"line {self.line}: {self.number} {self.name}"
-
-
-class Fault(Error):
-    """The run didn't come to its end. `output` is what it printed until then."""
-
-    def __init__(self, number: int, output: bytes = b"") -> None:
-        super().__init__(number, output)
-        self.number, self.name, self.output = number, FAULTS[number], output
-
-    def __str__(self) -> str:
-        return f"fault {self.number} {self.name}"
-
-    @property
-    def replies(self) -> list[Reply]:
-        """The replies to the commands that were answered."""
-        whole = self.output[: self.output.rfind(b"\n") + 1]
-        return replies_of((b"\n" + whole).partition(b"\nplan 1\n")[0][1:].decode(BYTES))
-
-
-@dataclass(frozen=True)
-class Reply:
-    """The reply to one command, with the review lines of a turn."""
-
-    text: str
-    reviews: list[str] = field(default_factory=list)
-
-    @property
-    def refused(self) -> bool:
-        return self.text.startswith("refused ")
-
-    @property
-    def number(self) -> int:
-        """The serial of the edit that was done, undone, redone or struck; or the number of the refusal."""
-        return int(self.text.split()[1])
-
-    @property
-    def name(self) -> str | None:
-        """The name of the refusal, if there is one."""
-        return self.text.split()[2] if self.refused else None
 
 
 @dataclass(frozen=True)
@@ -112,7 +58,7 @@ class Result:
 
 def run(
     plan: Text,
-    commands: Text | Iterable[Text] = (),
+    commands: Lines = (),
     journal: Text | None = None,
     *,
     stop: bool = False,
@@ -127,7 +73,7 @@ def run(
     if b"edits" in before.split(b"\n"):
         raise ValueError("the plan and the journal have no line `edits`; commands are given apart")
     flags = JOURNAL | (STOP if stop else 0) | (JSON if view else 0)
-    status, output = run_bytes(before + b"edits\n" + command_lines(commands), flags)
+    status, output = run_bytes(before + b"edits\n" + joined(commands), flags)
     text = output.decode(BYTES)
     if status == BAD_INPUT:
         _, line, number, name = text.split()
@@ -142,10 +88,7 @@ def run_bytes(data: bytes, flags: int = 0) -> tuple[int, bytes]:
     """
     if not 0 <= flags <= FLAGS:
         raise ValueError(f"{flags} has a bit that is no flag")
-    answer, output = call(data, flags)
-    if answer in FAULTS:
-        raise Fault(answer, output)
-    return answer, output
+    return unless_fault(*call(data, flags))
 
 
 def split(output: str, view: bool) -> Result:
@@ -155,37 +98,3 @@ def split(output: str, view: bool) -> Result:
     groups = output.find("\n{", journal) + 1 or len(output)
     seen = output[groups:] if view else None
     return Result(replies_of(output[:plan]), output[plan:journal], output[journal:groups], seen)
-
-
-def replies_of(text: str) -> list[Reply]:
-    replies: list[Reply] = []
-    for line in text.splitlines():
-        if line.startswith("review "):
-            replies[-1].reviews.append(line)
-        else:
-            replies.append(Reply(line))
-    return replies
-
-
-def as_bytes(text: Text) -> bytes:
-    return text if isinstance(text, bytes) else text.encode(BYTES)
-
-
-def whole_lines(text: Text) -> bytes:
-    """The text, whose last line gets its end where it has none."""
-    data = as_bytes(text)
-    return data + b"\n" if data and not data.endswith(b"\n") else data
-
-
-
-def command_lines(commands: Text | Iterable[Text]) -> bytes:
-    if isinstance(commands, (str, bytes)):
-        return whole_lines(commands)
-    return b"".join(one_line(each) for each in commands)
-
-
-def one_line(command: Text) -> bytes:
-    line = as_bytes(command)
-    if b"\n" in line:
-        raise ValueError("a command of a list is one line")
-    return line + b"\n"

@@ -6,6 +6,7 @@ import ctypes
 import functools
 import os
 from pathlib import Path
+from typing import Any, Callable
 
 ABI = 1
 """The interface that the declarations of this module are for: BALISEPLAN_ABI of the header."""
@@ -14,14 +15,28 @@ NAME = f"libbaliseplan.so.{ABI}"
 
 
 def call(data: bytes, flags: int) -> tuple[int, bytes]:
-    """One call: what it answers, and what it printed. Flags have to be from 0 to 2^32 - 1."""
+    """One run of the editor: what the call answers, and what it printed. Flags have to be from 0 to 2^32 - 1."""
+    return printed_by(library().baliseplan_run_alloc, data, len(data), flags)
+
+
+def call_explain(data: bytes) -> tuple[int, bytes]:
+    """One run from digits to fields."""
+    return printed_by(library().baliseplan_explain_alloc, data, len(data))
+
+
+def call_spell(data: bytes) -> tuple[int, bytes]:
+    """One run from fields to digits."""
+    return printed_by(library().baliseplan_spell_alloc, data, len(data))
+
+
+def printed_by(function: Callable[..., int], *given: bytes | int) -> tuple[int, bytes]:
+    """What a call answers that allocates its output, and a copy of that."""
     output, length = ctypes.c_void_p(), ctypes.c_size_t()
-    loaded = library()
-    answer: int = loaded.baliseplan_run_alloc(data, len(data), flags, ctypes.byref(output), ctypes.byref(length))
+    answer = function(*given, ctypes.byref(output), ctypes.byref(length))
     try:
         return answer, ctypes.string_at(output, length.value) if output else b""
     finally:
-        loaded.baliseplan_free(output)
+        library().baliseplan_free(output)
 
 
 def strerror(answer: int) -> str:
@@ -52,18 +67,20 @@ def library() -> ctypes.CDLL:
 
 
 def declare(loaded: ctypes.CDLL) -> None:
-    loaded.baliseplan_abi.restype, loaded.baliseplan_abi.argtypes = ctypes.c_uint32, []
-    loaded.baliseplan_version.restype, loaded.baliseplan_version.argtypes = ctypes.c_char_p, []
-    loaded.baliseplan_strerror.restype, loaded.baliseplan_strerror.argtypes = ctypes.c_char_p, [ctypes.c_int32]
-    loaded.baliseplan_free.restype, loaded.baliseplan_free.argtypes = None, [ctypes.c_void_p]
-    loaded.baliseplan_run_alloc.restype = ctypes.c_int32
-    loaded.baliseplan_run_alloc.argtypes = [
-        ctypes.c_char_p,
-        ctypes.c_size_t,
-        ctypes.c_uint32,
-        ctypes.POINTER(ctypes.c_void_p),
-        ctypes.POINTER(ctypes.c_size_t),
-    ]
+    data = [ctypes.c_char_p, ctypes.c_size_t]
+    output = [ctypes.POINTER(ctypes.c_void_p), ctypes.POINTER(ctypes.c_size_t)]
+    calls: dict[str, tuple[Any, list[Any]]] = {
+        "baliseplan_abi": (ctypes.c_uint32, []),
+        "baliseplan_version": (ctypes.c_char_p, []),
+        "baliseplan_strerror": (ctypes.c_char_p, [ctypes.c_int32]),
+        "baliseplan_free": (None, [ctypes.c_void_p]),
+        "baliseplan_run_alloc": (ctypes.c_int32, [*data, ctypes.c_uint32, *output]),
+        "baliseplan_explain_alloc": (ctypes.c_int32, [*data, *output]),
+        "baliseplan_spell_alloc": (ctypes.c_int32, [*data, *output]),
+    }
+    for name, (returned, given) in calls.items():
+        function = getattr(loaded, name)
+        function.restype, function.argtypes = returned, given
 
 
 def library_path() -> str:

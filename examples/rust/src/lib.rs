@@ -9,9 +9,20 @@
 //! assert!(run.output.starts_with(b"refused 23 NothingToUndo\nplan 1\n"));
 //! # Ok::<(), baliseplan::Stopped>(())
 //! ```
+//!
+//! The digits of telegrams and packets as fields, and fields as digits:
+//!
+//! ```
+//! let digits = b"packet 33 2c803960\n";
+//! let fields = baliseplan::explain(digits)?.output;
+//! assert!(fields.starts_with(b"packet 33\n0 8 NID_PACKET 0 44\n"));
+//! assert_eq!(baliseplan::spell(&fields)?.output, digits);
+//! # Ok::<(), baliseplan::Stopped>(())
+//! ```
 
 mod raw;
 
+use raw::Way;
 use std::error::Error;
 use std::fmt;
 use std::ops::BitOr;
@@ -54,7 +65,7 @@ pub enum Fault {
     InputTooLong,
     OutOfMemory,
     ReadFault,
-    /// The output is too small. Only `run_into` has this.
+    /// The output is too small. Only the functions have this whose names end with `_into`.
     WriteFault,
 }
 
@@ -118,7 +129,21 @@ impl From<Fault> for Stopped {
 
 /// Runs over an input: a plan, perhaps its journal, and commands.
 pub fn run(input: &[u8], flags: Flags) -> Result<Run, Stopped> {
-    let (answer, printed) = raw::run_alloc(input, flags.0);
+    whole(raw::run_alloc(input, flags.0))
+}
+
+/// The fields of digits: what `balisefields` prints for telegrams and packets, a line each. The status is `SomeRefused`
+/// where some digits are refused, and never `BadInput`.
+pub fn explain(input: &[u8]) -> Result<Run, Stopped> {
+    whole(raw::fields_alloc(Way::Explain, input))
+}
+
+/// The digits of fields: what `balisefields --spell` prints. The status is as for `explain`.
+pub fn spell(input: &[u8]) -> Result<Run, Stopped> {
+    whole(raw::fields_alloc(Way::Spell, input))
+}
+
+fn whole((answer, printed): (i32, raw::Output)) -> Result<Run, Stopped> {
     let output = copied(printed.bytes())?;
     match ended(answer) {
         Ok(status) => Ok(Run { status, output }),
@@ -138,6 +163,18 @@ fn copied(bytes: &[u8]) -> Result<Vec<u8>, Fault> {
 /// fault are a beginning of a right output.
 pub fn run_into(input: &[u8], flags: Flags, output: &mut [u8]) -> (Result<Status, Fault>, usize) {
     let (answer, written) = raw::run(input, flags.0, output);
+    (ended(answer), written)
+}
+
+/// As `explain`, to the front of an output of the caller's, like `run_into`.
+pub fn explain_into(input: &[u8], output: &mut [u8]) -> (Result<Status, Fault>, usize) {
+    let (answer, written) = raw::fields(Way::Explain, input, output);
+    (ended(answer), written)
+}
+
+/// As `spell`, to the front of an output of the caller's, like `run_into`.
+pub fn spell_into(input: &[u8], output: &mut [u8]) -> (Result<Status, Fault>, usize) {
+    let (answer, written) = raw::fields(Way::Spell, input, output);
     (ended(answer), written)
 }
 

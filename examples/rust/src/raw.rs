@@ -26,7 +26,40 @@ extern "C" {
         output: *mut *mut u8,
         output_len: *mut usize,
     ) -> i32;
+    fn baliseplan_explain(
+        input: *const u8,
+        input_len: usize,
+        output: *mut u8,
+        output_len: usize,
+        written: *mut usize,
+    ) -> i32;
+    fn baliseplan_explain_alloc(
+        input: *const u8,
+        input_len: usize,
+        output: *mut *mut u8,
+        output_len: *mut usize,
+    ) -> i32;
+    fn baliseplan_spell(
+        input: *const u8,
+        input_len: usize,
+        output: *mut u8,
+        output_len: usize,
+        written: *mut usize,
+    ) -> i32;
+    fn baliseplan_spell_alloc(
+        input: *const u8,
+        input_len: usize,
+        output: *mut *mut u8,
+        output_len: *mut usize,
+    ) -> i32;
     fn baliseplan_free(output: *mut u8);
+}
+
+/// A way over fields.
+#[derive(Clone, Copy)]
+pub enum Way {
+    Explain,
+    Spell,
 }
 
 /// An output that the library allocated.
@@ -94,6 +127,48 @@ pub fn size(input: &[u8], flags: u32) -> (i32, usize) {
     // SAFETY: as above.
     let answer = unsafe { baliseplan_size(input.as_ptr(), input.len(), flags, &mut size) };
     (answer, size)
+}
+
+pub fn fields_alloc(way: Way, input: &[u8]) -> (i32, Output) {
+    check_abi();
+    let call = match way {
+        Way::Explain => baliseplan_explain_alloc,
+        Way::Spell => baliseplan_spell_alloc,
+    };
+    let mut output = Output {
+        start: ptr::null_mut(),
+        len: 0,
+    };
+    // SAFETY: as above.
+    let answer = unsafe {
+        call(
+            input.as_ptr(),
+            input.len(),
+            &mut output.start,
+            &mut output.len,
+        )
+    };
+    (answer, output)
+}
+
+pub fn fields(way: Way, input: &[u8], output: &mut [u8]) -> (i32, usize) {
+    check_abi();
+    let call = match way {
+        Way::Explain => baliseplan_explain,
+        Way::Spell => baliseplan_spell,
+    };
+    let mut written = 0;
+    // SAFETY: as above.
+    let answer = unsafe {
+        call(
+            input.as_ptr(),
+            input.len(),
+            output.as_mut_ptr(),
+            output.len(),
+            &mut written,
+        )
+    };
+    (answer, written)
 }
 
 pub fn version() -> &'static str {

@@ -1,8 +1,9 @@
-/* Times calls of the library: library_calls FILE COUNT: microseconds of processor time for one call, the least of five
- * rounds of COUNT calls each, over the input of the file. First with an output that just fits, then with one that the
- * library allocates. */
+/* Times calls of the library: library_calls FILE COUNT [explain | spell]: microseconds of processor time for one call,
+ * the least of five rounds of COUNT calls each, over the input of the file. First with an output that just fits, then
+ * with one that the library allocates. */
 #include <stdio.h>
 #include <stdlib.h>
+#include <string.h>
 #include <time.h>
 
 #include "baliseplan.h"
@@ -38,21 +39,63 @@ static void run(const struct text *input, struct text *output)
     baliseplan_run(input->bytes, input->len, 0, output->bytes, output->len, &written);
 }
 
-static void run_alloc(const struct text *input, struct text *output)
+static void explain(const struct text *input, struct text *output)
 {
-    uint8_t *bytes;
-    baliseplan_run_alloc(input->bytes, input->len, 0, &bytes, &output->len);
-    baliseplan_free(bytes);
+    size_t written = 0;
+    baliseplan_explain(input->bytes, input->len, output->bytes, output->len, &written);
 }
 
+static void spell(const struct text *input, struct text *output)
+{
+    size_t written = 0;
+    baliseplan_spell(input->bytes, input->len, output->bytes, output->len, &written);
+}
+
+static void run_alloc(const struct text *input, struct text *output)
+{
+    baliseplan_run_alloc(input->bytes, input->len, 0, &output->bytes, &output->len);
+}
+
+static void explain_alloc(const struct text *input, struct text *output)
+{
+    baliseplan_explain_alloc(input->bytes, input->len, &output->bytes, &output->len);
+}
+
+static void spell_alloc(const struct text *input, struct text *output)
+{
+    baliseplan_spell_alloc(input->bytes, input->len, &output->bytes, &output->len);
+}
+
+struct calls {
+    const char *name;
+    void (*into)(const struct text *, struct text *);
+    void (*alloc)(const struct text *, struct text *);
+};
+
+static const struct calls ALL[] = {
+    {"run", run, run_alloc}, {"explain", explain, explain_alloc}, {"spell", spell, spell_alloc}};
+
+/* The calls of a name; null where there are none. */
+static const struct calls *calls_of(const char *name)
+{
+    for (size_t at = 0; at < sizeof ALL / sizeof *ALL; at++)
+        if (!strcmp(name, ALL[at].name))
+            return &ALL[at];
+    return NULL;
+}
+
+/* Microseconds of one call. An output that the call allocates is freed after it. */
 static double least(void (*call)(const struct text *, struct text *), const struct text *input, struct text *output,
-                    long count)
+                    long count, int allocates)
 {
     double least = 1e9;
     for (int round = 0; round < 5; round++) {
         double start = seconds();
-        for (long at = 0; at < count; at++)
+        for (long at = 0; at < count; at++) {
             call(input, output);
+            if (allocates)
+                baliseplan_free(output->bytes);
+        }
         double took = (seconds() - start) / (double)count;
         least = took < least ? took : least;
     }
@@ -62,17 +105,18 @@ static double least(void (*call)(const struct text *, struct text *), const stru
 int main(int argc, char **argv)
 {
     struct text input = {NULL, 0}, output = {NULL, 0};
-    long count = argc == 3 ? atol(argv[2]) : 0;
-    input.bytes = count > 0 ? read_all(argv[1], &input.len) : NULL;
+    long count = argc == 3 || argc == 4 ? atol(argv[2]) : 0;
+    const struct calls *calls = calls_of(argc == 4 ? argv[3] : "run");
+    input.bytes = count > 0 && calls ? read_all(argv[1], &input.len) : NULL;
     if (!input.bytes) {
-        fputs("usage: library_calls FILE COUNT\n", stderr);
+        fputs("usage: library_calls FILE COUNT [explain | spell]\n", stderr);
         return 2;
     }
-    baliseplan_size(input.bytes, input.len, 0, &output.len);
-    output.bytes = calloc(output.len + 1, 1);
+    calls->alloc(&input, &output);
     if (!output.bytes)
         return 1;
-    printf("%.1f", least(run, &input, &output, count));
-    printf(" (with an allocated output %.1f)\n", least(run_alloc, &input, &output, count));
+    printf("%.1f", least(calls->into, &input, &output, count, 0));
+    baliseplan_free(output.bytes);
+    printf(" (with an allocated output %.1f)\n", least(calls->alloc, &input, &output, count, 1));
     return 0;
 }

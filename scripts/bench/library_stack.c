@@ -1,6 +1,7 @@
 /* Measures the stack that a call of the library takes: library_stack FILE ..: the most of baliseplan_run_alloc over the
- * files with each of the 16 sets of flags, in bytes, and what a thread takes that calls nothing. The stack is filled
- * with one byte before the call, and looked at after it. */
+ * files with each of the 16 sets of flags, in bytes, that of baliseplan_explain_alloc and of baliseplan_spell_alloc over
+ * them, and what a thread takes that calls nothing. The stack is filled with one byte before the call, and looked at
+ * after it. */
 #define _GNU_SOURCE
 #include <pthread.h>
 #include <stdio.h>
@@ -23,12 +24,32 @@ static void *nothing(void *given)
     return given;
 }
 
-static void *call(void *given)
+static void *run(void *given)
 {
     struct call *call = given;
     uint8_t *output;
     size_t len;
     baliseplan_run_alloc(call->input, call->len, call->flags, &output, &len);
+    baliseplan_free(output);
+    return NULL;
+}
+
+static void *explain(void *given)
+{
+    struct call *call = given;
+    uint8_t *output;
+    size_t len;
+    baliseplan_explain_alloc(call->input, call->len, &output, &len);
+    baliseplan_free(output);
+    return NULL;
+}
+
+static void *spell(void *given)
+{
+    struct call *call = given;
+    uint8_t *output;
+    size_t len;
+    baliseplan_spell_alloc(call->input, call->len, &output, &len);
     baliseplan_free(output);
     return NULL;
 }
@@ -49,6 +70,11 @@ static size_t taken(uint8_t *stack, void *(*work)(void *), struct call *given)
     return STACK - free_bytes;
 }
 
+static size_t larger(size_t one, size_t other)
+{
+    return one > other ? one : other;
+}
+
 static struct call read_all(const char *path)
 {
     struct call call = {malloc(1 << 26), 0, 0};
@@ -67,15 +93,16 @@ int main(int argc, char **argv)
         fputs("usage: library_stack FILE ..\n", stderr);
         return 2;
     }
-    size_t most = 0, own = taken(stack, nothing, NULL);
+    size_t of_run = 0, of_explain = 0, of_spell = 0, own = taken(stack, nothing, NULL);
     for (int at = 1; at < argc; at++) {
         struct call given = read_all(argv[at]);
-        for (given.flags = 0; given.flags <= BALISEPLAN_FLAGS; given.flags++) {
-            size_t bytes = taken(stack, call, &given);
-            most = bytes > most ? bytes : most;
-        }
+        for (given.flags = 0; given.flags <= BALISEPLAN_FLAGS; given.flags++)
+            of_run = larger(of_run, taken(stack, run, &given));
+        of_explain = larger(of_explain, taken(stack, explain, &given));
+        of_spell = larger(of_spell, taken(stack, spell, &given));
         free(given.input);
     }
-    printf("%zu bytes at most, of which a thread that calls nothing takes %zu\n", most, own);
+    printf("%zu bytes at most, to explain %zu, to spell %zu, of which a thread that calls nothing takes %zu\n", of_run,
+           of_explain, of_spell, own);
     return 0;
 }

@@ -3,7 +3,9 @@
 # print with a program.
 # usage: scripts/check/library.sh PROGRAM [COUNT] [--built]
 # The examples and rows are compared with each of the 16 sets of flags, COUNT damaged ones (2,000) with one set each,
-# and COUNT random inputs with their own. With --built what stands in out/ is checked, and no kit is needed.
+# and COUNT random inputs with their own. Fields are compared with the program balisefields, where it was built, on the
+# examples of docs/FIELDS.md, a quarter of COUNT random inputs each way, and a quarter of COUNT damaged ones; else with
+# the reference, on a tenth of that. With --built what stands in out/ is checked, and no kit is needed.
 # Ends with 0; with 1 if something doesn't build, differs or fails, which it shows; with 2 if PROGRAM or a tool is
 # missing.
 set -eu
@@ -31,6 +33,10 @@ python3 runs.py ar cargo cc c++ make objcopy pkg-config valgrind || exit 2
 python=$(bash python.sh mypy pytest) || exit 2
 
 cd ../..
+of_fields=crates/balisefields/out/balisefields fields_count=$((count / 4))
+if [ ! -x "$of_fields" ]; then
+    of_fields="$(printf %q "$python") reference/balisefields.py" fields_count=$((count / 40))
+fi
 folder=$(mktemp -d)
 trap 'rm -rf "$folder"' EXIT
 export LC_ALL=C PYTHONDONTWRITEBYTECODE=1 CARGO_NET_OFFLINE=true CARGO_TARGET_DIR=$folder/cargo
@@ -69,7 +75,7 @@ checks "changed numbers of the library" "$python" scripts/check/library_numbers.
 # C: an optimised build, one that inlines nothing, and the header in C++ from the oldest to the newest.
 strict=(-pedantic -Wall -Wextra -Werror)
 flags=(-Iinclude out/libbaliseplan.a)
-for caller in run calls; do
+for caller in run fields calls; do
     build "examples/c/$caller.c" \
         cc -std=c99 -O2 "${strict[@]}" "examples/c/$caller.c" "${flags[@]}" -o "$folder/$caller"
 done
@@ -93,6 +99,15 @@ for plan in examples/*.plan "$folder/long.plan"; do
         passes "$plan with each allocation refused" "$folder/heap" "$plan" "$set"
     done
 done
+# Telegrams and packets, sound and damaged. Explained they are longer than the first room too.
+for seed in {1..10}; do
+    "$python" reference/random_fields.py "$seed" >> "$folder/digits"
+    "$python" reference/random_fields.py "$seed" --damaged >> "$folder/digits"
+    "$python" reference/random_fields.py "$seed" --spell >> "$folder/fields_given"
+    "$python" reference/random_fields.py "$seed" --spell --damaged >> "$folder/fields_given"
+done
+passes "digits with each allocation refused" "$folder/heap" "$folder/digits" explain
+passes "fields with each allocation refused" "$folder/heap" "$folder/fields_given" spell
 passes "examples/c/calls.c under valgrind" valgrind -q --error-exitcode=9 --leak-check=full --show-leak-kinds=all \
     "$folder/calls0" 10000
 tests=(-m pytest -q -p no:cacheprovider)
@@ -104,19 +119,27 @@ checks "what is installed" scripts/check/library_install.sh "$program"
 checks "the comparison with the program" "$python" scripts/check/library_runs.py "$count" "$program" \
     "$folder/run" "$folder/cargo/release/baliseplan"
 
-# The comparison itself: a caller that drops a line, and one that always ends with 77.
-printf '#!/bin/sh\n"%s" "$@" > "%s" 2> /dev/null\nstatus=$?\nsed 1d "%s"\nexit $status\n' \
-    "$folder/run" "$folder/dropped" "$folder/dropped" > "$folder/drops"
-printf '#!/bin/sh\nexit 77\n' > "$folder/ends"
-chmod +x "$folder/drops" "$folder/ends"
-for wrong in drops ends; do
-    status=0
-    "$python" scripts/check/library_runs.py --first 40 0 "$program" "$folder/$wrong" > "$folder/log" 2>&1 || status=$?
+checks "the comparison of fields with $of_fields" "$python" scripts/check/library_fields.py "$fields_count" "$of_fields" \
+    "$folder/fields" "$folder/cargo/release/balisefields"
+
+# finds WRONG CALLER SCRIPT PROGRAM: the comparison itself, with a caller that drops a line or always ends with 77
+finds() {
+    local status=0
+    case $1 in
+        drops) printf '#!/bin/sh\n"%s" "$@" > "$0.out" 2> /dev/null\nstatus=$?\nsed 1d "$0.out"\nexit $status\n' "$2" ;;
+        ends) printf '#!/bin/sh\nexit 77\n' ;;
+    esac > "$folder/$1"
+    chmod +x "$folder/$1"
+    "$python" "scripts/check/$3" --first 40 0 "$4" "$folder/$1" > "$folder/log" 2>&1 || status=$?
     if [ "$status" != 1 ] || ! tail -n 1 "$folder/log" | grep -q differing; then
         cat "$folder/log"
-        echo "the comparison doesn't find a caller that is wrong ($wrong)"
+        echo "$3 doesn't find a caller that is wrong ($1)"
         failed=1
     fi
+}
+for wrong in drops ends; do
+    finds "$wrong" "$folder/run" library_runs.py "$program"
+    finds "$wrong" "$folder/fields" library_fields.py "$of_fields"
 done
 
 [ "$failed" = 0 ] && echo "the library and its callers in C, Python and Rust are right"

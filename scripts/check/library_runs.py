@@ -18,11 +18,11 @@ from collections.abc import Iterator
 from itertools import islice
 from pathlib import Path
 
-from runs import ended, run
+from library_callers import Answer, Words, compared, damaged, of_program
+from runs import ended
 
 ROOT = Path(__file__).resolve().parents[2]
-WORDS = ("--quiet", "--stop", "--journal", "--json")
-BYTES = b"\n\r\0\t 019afFgz^./-$\x7f\x80\xff"
+FLAGS = ("--quiet", "--stop", "--journal", "--json")
 FAULT = 3
 
 # The second program has a module baliseplan too, so its folder comes last.
@@ -32,36 +32,16 @@ import baliseplan  # noqa: E402
 from random_inputs import make_input  # noqa: E402
 
 
-def words_of(flags: int) -> list[str]:
-    return [word for bit, word in enumerate(WORDS) if flags >> bit & 1]
+def words_of(flags: int) -> Words:
+    return tuple(word for bit, word in enumerate(FLAGS) if flags >> bit & 1)
 
 
-def by_program(program: str, data: bytes, flags: int) -> tuple[int, bytes]:
-    done = run([program, *words_of(flags)], data)
-    return done.status, done.output
-
-
-def by_module(data: bytes, flags: int) -> tuple[int, bytes]:
+def by_module(data: bytes, words: Words) -> Answer:
     """The status, 3 for a fault, and the output, which a fault has too."""
     try:
-        return baliseplan.run_bytes(data, flags)
+        return baliseplan.run_bytes(data, sum(1 << FLAGS.index(word) for word in words))
     except baliseplan.Fault as fault:
         return FAULT, fault.output
-
-
-def damaged(data: bytes) -> bytes:
-    """The text with bytes lost, put in, changed, or lines doubled, in up to three places."""
-    for _ in range(random.randint(1, 3)):
-        at = random.randrange(len(data) + 1)
-        kind = random.randrange(4)
-        if kind == 3:
-            lines = data.splitlines(keepends=True)
-            at = random.randrange(len(lines) + 1)
-            data = b"".join(lines[:at] + lines[max(at - 1, 0) :])
-        else:
-            put = b"" if kind == 0 else bytes([random.choice(BYTES)])
-            data = data[:at] + put + data[at + (kind != 1) :]
-    return data
 
 
 def rows() -> Iterator[bytes]:
@@ -71,19 +51,19 @@ def rows() -> Iterator[bytes]:
             yield ast.literal_eval(literal).encode("latin-1")
 
 
-def inputs(count: int) -> Iterator[tuple[bytes, int]]:
+def inputs(count: int) -> Iterator[tuple[bytes, Words]]:
     texts = [plan.read_bytes() for plan in sorted((ROOT / "examples").glob("*.plan"))]
     line = (ROOT / "examples" / "line.base").read_bytes()
     texts += [line + b"edits\nturn 5.300\nstrike 1\n"]
     texts += [file.read_bytes() for file in sorted((ROOT / "checks" / "rows").glob("*.in"))]
     texts += [line + b"edits\nturn 5.300\nundo\n" + b"x" * 4097 + b"\n", line + b"x" * 4097]
     texts += [b"", *rows()]
-    yield from ((text, flags) for text in texts for flags in range(16))
+    yield from ((text, words_of(flags)) for text in texts for flags in range(16))
     for _ in range(count):
-        yield damaged(random.choice(texts)), random.randrange(16)
+        yield damaged(random.choice(texts)), words_of(random.randrange(16))
     for seed in range(1, count + 1):
         made = make_input(seed, "small")
-        yield made.text, sum(1 << bit for bit, word in enumerate(WORDS) if word in made.arguments)
+        yield made.text, tuple(word for word in FLAGS if word in made.arguments)
 
 
 def main(words: list[str]) -> int:
@@ -92,19 +72,8 @@ def main(words: list[str]) -> int:
     if words[0] == "--first":
         most, words = int(words[1]), words[2:]
     count, program, callers = int(words[0]), words[1], words[2:]
-    done = differing = 0
-    for data, flags in islice(inputs(count), most):
-        due = by_program(program, data, flags)
-        got = {"examples/python": by_module(data, flags)}
-        for caller in callers:
-            got[caller] = by_program(caller, data, flags)
-        done += 1
-        for caller, found in got.items():
-            if found != due:
-                differing += 1
-                print(f"{caller} {' '.join(words_of(flags))}: {found[0]} and not {due[0]}, for {data!r}")
-    print(f"{done} inputs, {differing} differing")
-    return 1 if differing else 0
+    theirs = {caller: of_program([caller]) for caller in callers}
+    return compared(islice(inputs(count), most), of_program([program]), {"examples/python": by_module, **theirs})
 
 
 if __name__ == "__main__":

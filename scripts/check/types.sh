@@ -9,10 +9,11 @@ python=$(bash python.sh mypy pytest hypothesis) || exit 2
 failed=0
 mypy=("$python" -m mypy --strict --cache-dir "$(mktemp -d)")
 env -C ../../reference "${mypy[@]}" . || failed=1
-# Two modules have the name baliseplan: the reference, and the one that library_runs.py imports.
-mapfile -t scripts < <(printf '%s\n' ./*.py | grep -v library_runs)
+# Two modules have the name baliseplan: the reference, and the one that these two scripts import.
+callers=(library_runs.py library_fields.py)
+mapfile -t scripts < <(printf '%s\n' *.py | grep -vxF "$(printf '%s\n' "${callers[@]}")")
 MYPYPATH=../../reference:../dist "${mypy[@]}" "${scripts[@]}" ../bench/hostile_loads.py || failed=1
-MYPYPATH=../../examples/python:../../reference "${mypy[@]}" library_runs.py || failed=1
+MYPYPATH=../../examples/python:../../reference "${mypy[@]}" "${callers[@]}" || failed=1
 # What all.sh and everything.sh share is set in one file and used in another.
 shellcheck -x -P SCRIPTDIR -S warning -e SC2034,SC2154 ./*.sh ./*.bats ../setup.sh ../dist/*.sh ../dist/plandesk || failed=1
 [ "$failed" = 0 ] && echo "types: no fault in reference/, scripts/check/ and scripts/dist/"

@@ -120,8 +120,15 @@ complete_after() {
 same "completion" "--quiet --stop --journal --json --help" "$(complete_after "")"
 same "completion after two options" "--journal --json" "$(complete_after --stop --quiet --j)"
 
-# The lines of the page and the example of the manual page.
-sed -n '/^#include <baliseplan.h>$/,/^\.EE/{/^\.EE/d;s/\\e/\\/g;p}' man/baliseplan.3 > "$folder/tool.c"
+# example NUMBER: a program of the manual page
+example() {
+    awk -v n="$1" '/^\.EX/ { at++; inside = 1; next } /^\.EE/ { inside = 0 } inside && at == n' man/baliseplan.3 |
+        sed 's/\\e/\\/g'
+}
+
+# The lines of the page and the examples of the manual page.
+example 1 > "$folder/tool.c"
+example 2 > "$folder/fields.c"
 due=$(printf '%s\n' 'ok 1' 'plan 1' group a1007f80a03250900f84ffffffffffffffffffffffffffffffffc0 'journal 2 2' \
     '1 set b0/0/b0 NID_TSR 0 9 5')
 cd "$folder"
@@ -136,6 +143,10 @@ while IFS= read -r line; do
     count=$((count + 1))
 done < <(sed -n 's/^    \(cc tool\.c .*\)/\1/p' "$root/docs/LIBRARY.md")
 [ "$count" -ge 3 ] || { echo "docs/LIBRARY.md has $count lines that build tool.c"; failed=1; }
+due_fields=$(printf '%s\n' 'packet 33' '0 8 NID_PACKET 0 66' '8 2 Q_DIR 0 1' '10 13 L_PACKET 0 31' '23 8 NID_TSR 0 0')
+passes "the example with fields" \
+    bash -c 'cc fields.c $(pkg-config --cflags baliseplan) "$0" -o fields' "$prefix/lib/libbaliseplan.a"
+same "the example with fields" "$due_fields" "$(./fields)"
 
 # A place with a space and an ampersand: pkg-config writes it for the shell to read again.
 passes "make install to an odd place" \

@@ -47,7 +47,7 @@ sed "s/^a1007f80a0fa/a1007f00a0fa/" line.plan > changed.plan
 grep -q "Both programs make it" report.html'
 
 caller='
-cd "$HOME" && cp '$documents'/examples/c/run.c .
+cd "$HOME" && cp '$documents'/examples/c/*.[ch] .
 cc run.c $(pkg-config --cflags --libs baliseplan) -o run
 cc run.c $(pkg-config --cflags baliseplan) "$(pkg-config --variable=libdir baliseplan)/libbaliseplan.a" -o run_static
 for each in ./run ./run_static; do

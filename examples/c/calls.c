@@ -176,16 +176,18 @@ static void expect_long(void)
     baliseplan_free(output);
 }
 
+/* Each empty line is refused by a line of 29 bytes. */
 static void expect_long_fields(void)
 {
-    static uint8_t due[2000000];
+    static uint8_t due[3000000];
     size_t input_len, len, written = 0;
-    const uint8_t *input = repeated("", "a1007f80a03250900f82ffffffffffffffffffffffffffffffffc0\n", &input_len);
+    const uint8_t *input = repeated("", "\n", &input_len);
     uint8_t *output;
     int32_t answer = baliseplan_explain_alloc(input, input_len, &output, &len);
-    if (answer != baliseplan_explain(input, input_len, due, sizeof due, &written) || answer != BALISEPLAN_ACCEPTED ||
-        len != written || len < 9 * input_len || output[len] || memcmp(output, due, len)) {
-        printf("fields longer than nine times their digits: answered %d and wrote %zu bytes\n", (int)answer, len);
+    int32_t once = baliseplan_explain(input, input_len, due, sizeof due, &written);
+    if (answer != once || answer != BALISEPLAN_SOME_REFUSED || len != written || len != 29 * input_len ||
+        output[len] || memcmp(output, due, len)) {
+        printf("fields longer than their digits: answered %d and wrote %zu bytes\n", (int)answer, len);
         failed = 1;
     }
     baliseplan_free(output);

@@ -5,7 +5,6 @@ use baliseplan::{explain, explain_into, spell, spell_into, Fault, Status, Stoppe
 const DIGITS: &[u8] = b"packet 33 42403e08\ngroup\n";
 const FIELDS: &[u8] =
     b"packet 33\n0 8 NID_PACKET 0 66\n8 2 Q_DIR 0 1\n10 13 L_PACKET 0 31\n23 8 NID_TSR 0 4\ngroup\n";
-const TELEGRAM: &[u8] = b"a1007f80a03250900f82ffffffffffffffffffffffffffffffffc0\n";
 
 #[test]
 fn explains_digits_and_turns_fields_back() {
@@ -74,8 +73,8 @@ fn writes_a_beginning_to_a_small_output_and_leaves_the_rest() {
 
 #[test]
 fn explains_an_output_longer_than_its_first_guess() {
-    let digits = TELEGRAM.repeat(10_000);
-    let fields = explain(&digits).unwrap().output;
-    assert!(fields.len() > 9 * digits.len());
-    assert_eq!(spell(&fields).unwrap().output, digits);
+    let fields = explain(&b"\n".repeat(10_000)).unwrap();
+    assert_eq!(fields.status, Status::SomeRefused);
+    let due = b"fault 3 BadLength - 0 length\n".repeat(10_000);
+    assert_eq!(fields.output, due);
 }

@@ -99,13 +99,14 @@ for plan in examples/*.plan "$folder/long.plan"; do
         passes "$plan with each allocation refused" "$folder/heap" "$plan" "$set"
     done
 done
-# Telegrams and packets, sound and damaged. Explained they are longer than the first room too.
+# Telegrams and packets, sound and damaged, and empty lines, which are explained as more than the first room too.
 for seed in {1..10}; do
     "$python" reference/random_fields.py "$seed" >> "$folder/digits"
     "$python" reference/random_fields.py "$seed" --damaged >> "$folder/digits"
     "$python" reference/random_fields.py "$seed" --spell >> "$folder/fields_given"
     "$python" reference/random_fields.py "$seed" --spell --damaged >> "$folder/fields_given"
 done
+yes '' | head -n 2000 >> "$folder/digits"
 passes "digits with each allocation refused" "$folder/heap" "$folder/digits" explain
 passes "fields with each allocation refused" "$folder/heap" "$folder/fields_given" spell
 passes "examples/c/calls.c under valgrind" valgrind -q --error-exitcode=9 --leak-check=full --show-leak-kinds=all \

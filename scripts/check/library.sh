@@ -120,8 +120,8 @@ checks "what is installed" scripts/check/library_install.sh "$program"
 checks "the comparison with the program" "$python" scripts/check/library_runs.py "$count" "$program" \
     "$folder/run" "$folder/cargo/release/baliseplan"
 
-checks "the comparison of fields with $of_fields" "$python" scripts/check/library_fields.py "$fields_count" "$of_fields" \
-    "$folder/fields" "$folder/cargo/release/balisefields"
+checks "the comparison with a program for fields" "$python" scripts/check/library_fields.py "$fields_count" \
+    "$of_fields" "$folder/fields" "$folder/cargo/release/balisefields"
 
 # finds WRONG CALLER SCRIPT PROGRAM: the comparison itself, with a caller that drops a line or always ends with 77
 finds() {

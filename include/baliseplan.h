@@ -105,7 +105,8 @@ int32_t baliseplan_explain(const uint8_t *input, size_t input_len, uint8_t *outp
                            size_t *written);
 
 /* The other way: writes what balisefields --spell prints for input, the fields of telegrams and packets: their digits, or
- * which line is refused and why. All else is as for baliseplan_explain. */
+ * which line is refused and why. It allocates what one item takes in place of one line; all else is as for
+ * baliseplan_explain. */
 int32_t baliseplan_spell(const uint8_t *input, size_t input_len, uint8_t *output, size_t output_len, size_t *written);
 
 /* Do what the two calls above do, with an output that they allocate as baliseplan_run_alloc does. They begin with some

@@ -19,4 +19,3 @@ pub mod Headline
 pub mod OneStanding
 pub mod Shortage
 pub mod Flushed
-pub mod Reported

@@ -14,10 +14,12 @@ use Rattle.balise_arguments.specs.declared.options.Flags.{Flags}
 use Rattle.balise_text.specs.Replies.{fault_line}
 use Rattle.balise_text.specs.Texts.{Text}
 use Rattle.balise_cli.specs.Ends as ends
-use Rattle.balise_cli.specs.Exits.{exit_after_arguments, exit_of}
+use Rattle.balise_program.specs.Exits.{exit_after_arguments}
+use Rattle.balise_program.specs.Reporting.{Reports, Shows, count_after}
+use Rattle.balise_cli.specs.Exits.{exit_of}
 use Rattle.balise_text.specs.RunFaults.{IsFault}
 use Rattle.balise_cli.specs.Output.{Ended, TooLong}
-use Rattle.balise_cli.specs.declared.exit.Exit.{Exit}
+use Rattle.balise_program.specs.declared.exit.Exit.{Exit}
 use Rattle.balise_text.specs.declared.run_fault.RunFault.{RunFault}
 use Rattle.balise_text.specs.declared.run_fault.RunFault.TheVariants as fault
 use Rattle.balise_cli.specs.declared.status.Status.{Status}
@@ -40,11 +42,6 @@ pub record RunCounts (read reads written writes : ℕ) (ended : Result Status Ru
   pub unwritten : OnOk ended (writes ≡ written)
   pub fault : IfErr ended (IsFault read reads written writes)
 
--- the count after a flush
-abbrev pub count_after : Bool → ℕ → ℕ
-count_after true n = n
-count_after false n = one_more n
-
 -- There was a run and then a flush, and the exit is the one for both. Where the flush failed the count rose, and where it succeeded nothing is left in the buffer.
 pub record Works {R W A : Type 0} (remaining : R → Option Text) (contents : W → Option Text) (flags : Flags) (reader reader' : Counted R) (writer writer' : Counted (BufWriter W A)) (exit : Exit) : Type 0 where
   pub ended : Result Status RunFault
@@ -56,15 +53,6 @@ pub record Works {R W A : Type 0} (remaining : R → Option Text) (contents : W 
   pub flush_counts : writer'.failed ≡ count_after flushed count
   pub empty : flushed ≡ true → writer_buffer writer'.inner ≡ []
 
--- the line for the fault that the program ends with, or nothing
-abbrev pub reported : Option Refusal → Text
-reported (Some r) = fault_line r
-reported None = []
-
--- that line was written, or a beginning of it up to a failed call
-abbrev pub Reports : {E : Type 0} → (E → Option Text) → Counted E → Counted E → Exit → Type 0
-Reports contents old new exit = WritesAll contents old new (reported exit.fault) ⊎ WritesSome LastFailed contents old new (reported exit.fault)
-
 -- the words ask for these flags, or for none
 abbrev pub Asks : List Text → Result Flags ArgsFault → Type 0
 Asks words (Ok flags) =
@@ -74,12 +62,6 @@ Asks words (Ok flags) =
     × (IsTrue flags.json ↔ IsUsed (codes "json") words)
     × AreAccepted words
 Asks words (Err e) = IsFaultOf words e
-
--- help is printed on the one stream alone, and what is wrong with the words on the other
-abbrev pub Shows : {W E : Type 0} → ArgsFault → W → W → E → E → Type 0
-Shows (Help e) writer writer' errors errors' = errors' ≡ errors
-Shows Memory writer writer' errors errors' = (writer' ≡ writer) × (errors' ≡ errors)
-Shows (Other e) writer writer' errors errors' = writer' ≡ writer
 
 -- What the words ask for was done: a run; or help was printed, or what is wrong with the words, each on its own stream and nothing on the other, and no input was read.
 abbrev pub Does : {R W A E : Type 0} → (R → Option Text) → (W → Option Text) → Result Flags ArgsFault → Counted R → Counted R → Counted (BufWriter W A) → Counted (BufWriter W A) → Counted E → Counted E → Exit → Type 0

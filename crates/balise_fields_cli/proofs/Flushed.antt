@@ -10,7 +10,6 @@ use Rattle.balise_fields_run.specs.ItemLines.{lines_text}
 use Rattle.balise_fields_run.specs.Spelt.{DidItems, ItemsStopAtLong, Spelled}
 use Rattle.balise_text.specs.declared.run_fault.RunFault.{RunFault}
 use Rattle.balise_fields_run.specs.declared.status.Status.{Status}
-use Rattle.balise_fields_cli.specs.Program.{count_after}
 use Rattle.balise_fields_run.specs.Ways.{RanBy}
 use Rattle.balise_fields_run.specs.declared.way.Way.{Way}
 use Rattle.balise_fields_run.specs.declared.way.Way.TheVariants.{Explain, Spell}
@@ -102,19 +101,3 @@ spelled_kept had has old mid new read reads written writes (Err fault) k w = rec
 pub kept_by : (way : Way) (had has old mid new : Option Text) (read reads written writes : ℕ) (ended : Result Status RunFault) → Keeps mid new → RanBy way had has old mid read reads written writes ended → RanBy way had has old new read reads written writes ended
 kept_by Explain had has old mid new read reads written writes ended k w = ran_kept had has old mid new read reads written writes ended k w
 kept_by Spell had has old mid new read reads written writes ended k w = spelled_kept had has old mid new read reads written writes ended k w
-
-counted_at : {A E : Type 0} (old new : ℕ) (r : Result A E) → Counts old new r → new ≡ count_after (is_ok r) old
-counted_at old new (Ok a) w = w
-counted_at old new (Err x) w = w
-
--- a flush that failed was counted
-pub flush_counted : {A E : Type 0} (old new : ℕ) (r : Result A E) (flushed : Bool) → flushed ≡ is_ok r → Counts old new r → new ≡ count_after flushed old
-flush_counted old new r flushed e w = subst (λ b. new ≡ count_after b old) (sym e) (counted_at old new r w)
-
-done_at : {A E P : Type 0} (r : Result A E) → OnOk r P → is_ok r ≡ true → P
-done_at (Ok a) p t = p
-done_at (Err x) p t = absurd cc
-
--- what holds after a flush
-pub flush_done : {A E P : Type 0} (r : Result A E) (flushed : Bool) → flushed ≡ is_ok r → OnOk r P → flushed ≡ true → P
-flush_done r flushed e p t = done_at r p (sym e ∙ t)

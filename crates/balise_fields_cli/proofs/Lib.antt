@@ -1,3 +1,2 @@
 pub mod Words
 pub mod Flushed
-pub mod Reported

@@ -5,19 +5,9 @@ use Rattle.balise_lines.specs.Writing.{LastFailed, WritesAll, WritesSome}
 use Rattle.balise_lines.specs.declared.counted.Counted.{Counted}
 use Rattle.balise_arguments.specs.declared.fault.ArgsFault.TheVariants.{Memory}
 use Rattle.balise_text.specs.Texts.{Text}
-use Rattle.balise_fields_cli.specs.Exits.{exit_after_arguments}
-use Rattle.balise_fields_cli.specs.Program.{Reports, Starts}
-use Rattle.balise_fields_cli.specs.declared.exit.Exit.{Exit}
-
--- memory ran out before the words were looked at, and that is reported
-abbrev pub StopsWithoutMemory : {E : Type 0} → (E → Option Text) → Counted E → Counted E → Exit → Type 0
-StopsWithoutMemory errors_hold errors errors' exit = (exit ≡ exit_after_arguments Memory) × Reports errors_hold errors errors' exit
-
--- a word is no text, and that is reported
-abbrev pub StopsAtBadText : {E : Type 0} → (E → Option Text) → Counted E → Counted E → Exit → Type 0
-StopsAtBadText errors_hold errors errors' exit =
-    (exit ≡ record { code = 64; fault = None })
-    × (WritesAll errors_hold errors errors' (codes "error: an argument is not UTF-8\n") ⊎ WritesSome LastFailed errors_hold errors errors' (codes "error: an argument is not UTF-8\n"))
+use Rattle.balise_program.specs.Reporting.{StopsWithoutMemory}
+use Rattle.balise_fields_cli.specs.Program.{Starts}
+use Rattle.balise_program.specs.declared.exit.Exit.{Exit}
 
 -- What the words ask for was done; or there was no memory for them, and nothing was read or written.
 abbrev pub MayStart : {R W A E : Type 0} → (R → Option Text) → (W → Option Text) → (E → Option Text) → List Text → Counted R → Counted R → Counted (BufWriter W A) → Counted (BufWriter W A) → Counted E → Counted E → Exit → Type 0

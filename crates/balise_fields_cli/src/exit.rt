@@ -1,61 +1,18 @@
-//! How the program ends: its exit status, and the fault that it reports.
+//! How the program ends after a run.
 
-ghost use Rattle.std.specs.Prelude.{◌≡◌, None, Some};
-ghost use Rattle.balise_fields_cli.specs.Exits.{exit_after_arguments, exit_of};
+ghost use Rattle.std.specs.Prelude.{◌≡◌};
+ghost use Rattle.balise_fields_cli.specs.Exits.{exit_of};
 
-use balise_arguments::ArgsFault;
-use balise_fields_run::{RunFault, Status};
-use balise_rules::Refusal;
+use balise_fields_run::Status;
+use balise_program::{Exit, RunFault, exit_after_run};
 
-/// How the program ends: its exit status, and the fault, 29 to 32, that is reported on standard error.
-#[derive(Clone, Copy, Debug, PartialEq, Eq)]
-pub struct Exit {
-    pub code: u8,
-    pub fault: Option<Refusal>,
-}
-
-/// How it ends after a run, by whether the output could be flushed: 0 and 1 as the run ended, 3 at a fault. Output that
-/// couldn't be flushed is a fault of the writer.
+/// How the program ends after a run, by whether the output could be flushed: 0 and 1 as the run ended, 3 at a fault. Output
+/// that couldn't be flushed is a fault of the writer.
 pub(crate) fn exit_of(ended: Result<Status, RunFault>, flushed: bool) -> Exit
     ensures { result ≡ exit_of ended flushed }
 {
     match ended {
-        Err(fault) => Exit {
-            code: 3,
-            fault: Some(fault.refusal()),
-        },
-        Ok(status) => {
-            if flushed {
-                return Exit {
-                    code: status.code(),
-                    fault: None,
-                };
-            }
-            Exit {
-                code: 3,
-                fault: Some(Refusal::WriteFault),
-            }
-        }
-    }
-}
-
-/// How it ends where the arguments ask for no run: 0 after help, 64 where they aren't the program's, and 3 where memory
-/// runs out.
-pub(crate) fn exit_after_arguments(fault: &ArgsFault) -> Exit
-    ensures { result ≡ exit_after_arguments fault.now }
-{
-    match fault {
-        ArgsFault::Help(_) => Exit {
-            code: 0,
-            fault: None,
-        },
-        ArgsFault::Memory => Exit {
-            code: 3,
-            fault: Some(Refusal::OutOfMemory),
-        },
-        ArgsFault::Other(_) => Exit {
-            code: 64,
-            fault: None,
-        },
+        Ok(status) => exit_after_run(Ok(status.code()), flushed),
+        Err(fault) => exit_after_run(Err(fault), flushed),
     }
 }

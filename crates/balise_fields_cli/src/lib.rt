@@ -9,5 +9,5 @@ mod program;
 
 pub use balise_lines::Counted;
 pub use balise_rules::Refusal;
-pub use command_line::{launch, stop_without_memory};
-pub use exit::Exit;
+pub use balise_program::{Exit, stop_without_memory};
+pub use command_line::launch;

@@ -1,17 +1,13 @@
 //! The program over its words, its input and its two outputs.
 
 ghost use Rattle.std.specs.Prelude.{map};
-ghost use Rattle.balise_fields_cli.specs.Program.{DoesWords, Shows, Starts, Works, reported};
-ghost use Rattle.balise_lines.specs.Writing.{Writes};
+ghost use Rattle.balise_fields_cli.specs.Program.{DoesWords, Starts, Works};
 
 use crate::arguments::check_words;
-use crate::exit::{Exit, exit_after_arguments, exit_of};
-use balise_arguments::ArgsFault;
+use crate::exit::exit_of;
 use balise_fields_run::{Way, run};
-use balise_lines::{Counted, WriteFault};
-use balise_text::put_fault;
+use balise_program::{Counted, Exit, exit_after_arguments, report, show};
 use std::alloc::Global;
-use std::fmt::Display;
 use std::io::{BufWriter, Read, Write};
 
 // Runs this way, and then flushes, also where a fault ended the run. States how the program ends after both.
@@ -26,33 +22,6 @@ fn work<R: Read, W: Write + Drop>(
     let ended = run(alloc, way, reader, writer);
     let flushed = writer.flush_buffer();
     exit_of(ended, flushed.is_ok())
-}
-
-/// Writes the line for the fault that the program ends with. Where there is none, it writes nothing.
-pub(crate) fn report<E: Write>(errors: &mut Counted<E>, exit: Exit) -> Result<(), WriteFault>
-    ensures { Writes E.contents errors.old errors.new result (reported exit.fault) }
-{
-    match exit.fault {
-        Some(refusal) => put_fault(errors, refusal),
-        None => Ok(()),
-    }
-}
-
-// Writes a text for the user. It isn't reported where that fails, since there is no other place for it.
-fn print<W: Write>(writer: &mut W, text: impl Display + Drop) {
-    let _ = writer.write_fmt(text);
-    let _ = writer.flush();
-}
-
-// Prints help, or what is wrong with the arguments.
-fn show<W: Write, E: Write>(fault: &ArgsFault, writer: &mut W, errors: &mut E)
-    ensures { Shows fault.now writer.old writer.new errors.old errors.new }
-{
-    match fault {
-        ArgsFault::Help(text) => print(writer, text),
-        ArgsFault::Memory => {}
-        ArgsFault::Other(text) => print(errors, text),
-    }
 }
 
 // Does what the words ask for, and doesn't report the fault that the program ends with.

@@ -1,5 +1,6 @@
 use Rattle.balise_cli.proofs.Endings.{ran_begun, ran_complete, ran_fault, ran_full, ran_lines, ran_long, ran_memory, ran_output, ran_some, ran_unread, ran_unwritten}
-use Rattle.balise_cli.proofs.Flushed.{flush_counted, flush_done, runs_kept}
+use Rattle.balise_cli.proofs.Flushed.{runs_kept}
+use Rattle.balise_program.proofs.Flushes.{flush_counted, flush_done}
 use Rattle.balise_cli.proofs.Headline.{standing_written}
 use Rattle.balise_cli.proofs.program.work.Goals as goal
 

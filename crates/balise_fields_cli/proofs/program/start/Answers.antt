@@ -1,4 +1,4 @@
-use Rattle.balise_fields_cli.proofs.Reported.{reports}
+use Rattle.balise_program.proofs.Reported.{reports}
 use Rattle.balise_fields_cli.proofs.program.start.Goals as goal
 
 pub returns : goal.returns

@@ -1,4 +1,5 @@
-use Rattle.balise_fields_cli.proofs.Flushed.{flush_counted, flush_done, kept_by}
+use Rattle.balise_fields_cli.proofs.Flushed.{kept_by}
+use Rattle.balise_program.proofs.Flushes.{flush_counted, flush_done}
 use Rattle.balise_fields_cli.proofs.program.work.Goals as goal
 
 pub returns : goal.returns

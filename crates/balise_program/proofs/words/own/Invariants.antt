@@ -1,6 +1,6 @@
 use Rattle.std.proofs.Common.{◌≡◌, ◌++◌}
 use Rattle.std.specs.Vec.Iter.{into_iter_items}
-use Rattle.balise_cli.proofs.command_line.owned.Given as goal
+use Rattle.balise_program.proofs.words.own.Given as goal
 
 abbrev pub invariant-loop-word : goal.invariant-loop-word
 invariant-loop-word l = l.words.items ++ into_iter_items l.word-iterator ≡ into_iter_items l.fn.arguments

@@ -1,5 +1,5 @@
 use Rattle.std.proofs.Common.{◌≡◌, map, string_bytes, take}
-use Rattle.balise_cli.proofs.command_line.lent.Given as goal
+use Rattle.balise_program.proofs.words.lend.Given as goal
 
 abbrev pub invariant-loop-word : goal.invariant-loop-word
 invariant-loop-word l = map (λ w. w.now) l.lent.items ≡ map string_bytes (take l.word-index l.words)

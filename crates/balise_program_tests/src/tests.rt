@@ -1,0 +1,4 @@
+//! The tests, by topic.
+
+mod ends;
+mod said;

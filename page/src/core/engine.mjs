@@ -1,5 +1,5 @@
 // @ts-check
-/** The proved engine behind one call. No other module reads or writes its memory. */
+/** The proved engine behind three calls. No other module reads or writes its memory. */
 
 /** The flags of a run, to be combined by |. */
 export const FLAG = Object.freeze({ quiet: 1, stop: 2, journal: 4, json: 8 });
@@ -39,22 +39,47 @@ export class Engine {
    * @returns {Run}
    */
   run(input, flags) {
+    return this.#withRoom('baliseplan_run', input, [flags], firstRoom(input.length, flags));
+  }
+
+  /**
+   * Does what `balisefields < input > output` does: the fields of digits (docs/FIELDS.md).
+   * @param {Uint8Array} input
+   */
+  explain(input) {
+    return this.#withRoom('baliseplan_explain', input, [], input.length * 16 + 65536);
+  }
+
+  /**
+   * Does what `balisefields --spell < input > output` does: the digits of fields.
+   * @param {Uint8Array} input
+   */
+  spell(input) {
+    return this.#withRoom('baliseplan_spell', input, [], input.length + 65536);
+  }
+
+  /**
+   * Calls again with more room until the output fits.
+   * @param {string} name of the call @param {Uint8Array} input @param {number[]} flags none, or one
+   * @param {number} first bytes for the output @returns {Run}
+   */
+  #withRoom(name, input, flags, first) {
     const start = performance.now();
-    for (let room = firstRoom(input.length, flags); ; room *= 4) {
-      const { status, output } = this.#once(input, flags, room);
+    for (let room = first; ; room *= 4) {
+      const { status, output } = this.#once(name, input, flags, room);
       if (status !== STATUS.full) return { status, output, ms: performance.now() - start };
     }
   }
 
-  /** @param {Uint8Array} input @param {number} flags @param {number} room bytes for the output */
-  #once(input, flags, room) {
+  /** @param {string} name @param {Uint8Array} input @param {number[]} flags @param {number} room bytes for the output */
+  #once(name, input, flags, room) {
     const { exports } = new WebAssembly.Instance(this.module, {});
-    const { malloc, baliseplan_run, memory } = /** @type {any} */ (exports);
+    const { malloc, memory, [name]: call } = /** @type {any} */ (exports);
     const places = [Math.max(input.length, 1), room, 8].map((bytes) => malloc(BigInt(bytes)));
     if (places.includes(0n)) return { status: STATUS.noMemory, output: new Uint8Array(0) };
     const [from, to, written] = places;
     new Uint8Array(memory.buffer, Number(from), input.length).set(input);
-    const status = baliseplan_run(from, BigInt(input.length), flags, to, BigInt(room), written);
+    const status = call(from, BigInt(input.length), ...flags, to, BigInt(room), written);
     // The memory may have grown, and then it has another buffer.
     const bytes = Number(new DataView(memory.buffer).getBigUint64(Number(written), true));
     return { status, output: new Uint8Array(memory.buffer).slice(Number(to), Number(to) + bytes) };

@@ -5,7 +5,7 @@
  * Each group links to the next two and to the one before; each fifth lies the other way round; some have speed profiles,
  * gradients, restrictions and packets that the engine doesn't know. The same COUNT gives the same plan.
  */
-import { digitsOf } from '../src/core/layouts.mjs';
+import { digitsOf } from '../src/core/bits.mjs';
 
 const count = Number(process.argv[2] ?? 5);
 /** Numbers of a country before the next one begins. */

@@ -8,7 +8,7 @@ import { commandsOf, splitAtTurns } from '../src/core/commands.mjs';
 import { clean, damageOf } from '../src/core/damage.mjs';
 import { DATA } from '../src/core/data.mjs';
 import { kindOf, partsOf, placeOfLine } from '../src/core/files.mjs';
-import { LAYOUTS, blankPacket } from '../src/core/layouts.mjs';
+import { LAYOUTS } from '../src/core/layouts.mjs';
 import { explain, unknownVariable } from '../src/core/refusals.mjs';
 import { bytesOf, textOf } from '../src/core/texts.mjs';
 import { HEADER, VARIABLES, grouped, meaning, metresText, rawValue } from '../src/core/variables.mjs';
@@ -111,14 +111,6 @@ test('widths and what is set in place are those of docs/FORMATS.md', () => {
   assert.equal(rows.length, 12);
   const found = Object.entries(VARIABLES).map(([name, { bits, steering = false }]) => /** @type {const} */ ([name, { bits, steering }]));
   assert.deepEqual(new Map(found.sort()), new Map([...wanted].sort()));
-});
-
-test('blank packets are those of docs/FORMATS.md', () => {
-  const texts = {
-    5: '05408a000000000000', 21: '15406c00000000', 27: '1b40740000000000', 41: '29407e0000000000',
-    65: '41408e000000000000', 66: '42403e00', 136: '88404c0000',
-  };
-  for (const [number, digits] of Object.entries(texts)) assert.equal(blankPacket(Number(number), 1), digits);
 });
 
 test('a text of commands, and its runs that end with a turn', () => {

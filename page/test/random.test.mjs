@@ -3,15 +3,17 @@
 import assert from 'node:assert/strict';
 import fs from 'node:fs';
 import test from 'node:test';
-import { packetBits, spansOf } from '../src/core/bits.mjs';
+import { digitsOf, packetBits, spansOf } from '../src/core/bits.mjs';
 import { diffGroup } from '../src/core/diff.mjs';
-import { LAYOUTS, blankPacket, digitsOf, formOf, groupDigits, packetDigits } from '../src/core/layouts.mjs';
+import { packetItem } from '../src/core/items.mjs';
+import { blankFields, formOf, packetFields } from '../src/core/layouts.mjs';
 import { linksOf, summaryOf } from '../src/core/links.mjs';
 import { bytesOf } from '../src/core/texts.mjs';
 import { occurrences } from '../src/core/variables.mjs';
 import { Checker } from '../src/worker/checker.mjs';
-import { base, engine, none } from './setup.mjs';
+import { base, digitsOfItems, engine, none, packetOf, telegramsOf } from './setup.mjs';
 import { Session } from '../src/worker/session.mjs';
+import { packetDigits } from '../src/worker/speller.mjs';
 
 const PLAIN = /^(D_|L_TSR|V_TSR|NID_TSR|Q_LOCACC|Q_SCALE)/; // no other edit changes these
 
@@ -41,7 +43,7 @@ function randomPacket(random, number) {
     }
   };
   fill(form);
-  return packetDigits(number, 1, form);
+  return packetOf(packetFields(number, 1, form));
 }
 
 /**
@@ -63,14 +65,14 @@ function command(random, session, update) {
     }
   }
   switch (kind) {
-    case 8: case 9: return `insert ${id} ${pig} ${random(packets.length + 1)} ${blankPacket([65, 66, 136][random(3)], 1)}`;
+    case 8: case 9: return `insert ${id} ${pig} ${random(packets.length + 1)} ${packetOf(blankFields([65, 66, 136][random(3)]))}`;
     case 10: return `delete ${id} ${pig} ${pkt}`;
     case 11: case 12: return `move ${id} ${pig} ${pkt} ${random(Math.max(1, packets.length))}`;
     case 13: case 14: return `turn ${id}`;
     case 15: return `renumber ${id} ${1 + random(900)}`;
     case 16: return random(3) ? 'undo' : 'redo';
     case 17: return update.edits.length > 0 ? `strike ${update.edits[random(update.edits.length)].s}` : 'undo';
-    case 18: return `add ${random(session.groups.length + 1)} ${groupDigits({ country: 5, number: 1000 + random(500), balises: 1 + random(3), version: 33, long: random(2) === 1 }).join(' ')}`;
+    case 18: return `add ${random(session.groups.length + 1)} ${telegramsOf({ country: 5, number: 1000 + random(500), balises: 1 + random(3), version: 33, long: random(2) === 1 }).join(' ')}`;
     case 19: return session.groups.length > 3 && random(3) === 0 ? `drop ${id}` : 'redo';
     case 20: return `insert ${id} ${pig} ${random(packets.length + 1)} ${randomPacket(random, [5, 21, 27, 41][random(4)])}`;
     default: return `seth ${id} ${pig} M_MCOUNT ${random(256)}`;
@@ -108,21 +110,38 @@ function reviewsAgree(session, update, views, reviews) {
 }
 
 /**
- * Bits lie where their values say, a form writes its packet again, and a group doesn't differ from itself.
+ * Bits lie where their values say, the engine makes the digits of a packet of what its form shows, and a group doesn't
+ * differ from itself.
  * @param {Session} session
  */
 function bitsAgree(session) {
+  /** @type {string[][]} */
+  const items = [];
+  /** @type {string[]} */
+  const due = [];
   for (const each of session.decoder.decoded(session.groups)) {
     each.group.telegrams.forEach((telegram, pig) => {
       assert.ok(spansOf(telegram, each.digits[pig]).every(({ agrees }) => agrees));
       const bits = packetBits(telegram, each.digits[pig]);
-      telegram.packets.forEach(({ fields, known }, pkt) => {
-        if (known && LAYOUTS[fields[0][1]]) assert.equal(
-          packetDigits(fields[0][1], fields[1][1], formOf(fields[0][1], fields.slice(3))), digitsOf(bits[pkt]));
+      telegram.packets.forEach(({ fields: [[, number], [, direction], , ...fields], known }, pkt) => {
+        if (!known) return;
+        items.push(packetItem(telegram.m_version, packetFields(number, direction, formOf(number, fields))));
+        due.push(digitsOf(bits[pkt]));
       });
     });
     assert.equal(diffGroup(each, each), null);
   }
+  assert.deepEqual(digitsOfItems(items), due);
+}
+
+/**
+ * The engine makes the digits of every packet of a plan again, also of those that it doesn't know.
+ * @param {Session} session
+ */
+function packetsAgree(session) {
+  for (const { group, digits } of session.decoder.decoded(session.groups))
+    for (const [pig, telegram] of group.telegrams.entries())
+      assert.deepEqual(packetDigits(engine, digits[pig]), packetBits(telegram, digits[pig]).map(digitsOf));
 }
 
 for (let seed = 1; seed <= 12; seed += 1)
@@ -150,6 +169,7 @@ for (let seed = 1; seed <= 12; seed += 1)
       assert.deepEqual(new Set(session.changes().filter(({ index }) => index >= 0).map(({ index }) => index)),
         new Set(update.changed));
     }
+    packetsAgree(session);
     for (const { s } of update.edits.filter(({ stands }) => stands).slice(0, 4)) {
       const { strikes, whole } = session.chain(s);
       assert.ok(whole && strikes[strikes.length - 1] === s);

@@ -4,13 +4,14 @@ import assert from 'node:assert/strict';
 import test from 'node:test';
 import { spansOf } from '../src/core/bits.mjs';
 import { complete } from '../src/core/complete.mjs';
-import { blankPacket, groupDigits } from '../src/core/layouts.mjs';
+import { packetItem } from '../src/core/items.mjs';
+import { LAYOUTS, blankFields } from '../src/core/layouts.mjs';
 import { layOut } from '../src/core/line.mjs';
 import { linksOf, pendingSummaries, summaryOf, unknownPackets } from '../src/core/links.mjs';
 import { bytesOf } from '../src/core/texts.mjs';
 import { packSplices } from '../src/worker/overview.mjs';
 import { Refused, Session } from '../src/worker/session.mjs';
-import { base, done, engine, none, opened } from './setup.mjs';
+import { base, digitsOfItems, done, engine, none, opened, packetOf, telegramsOf } from './setup.mjs';
 
 const MONDAY = [
   'set 5.200 1 0 V_TSR 0 6', 'set 5.200 1 0 L_TSR 0 450', 'insert 5.200 1 1 41408e000000000000', 'set 5.200 1 1 Q_SCALE 0 1',
@@ -137,8 +138,8 @@ test('a trial keeps nothing', () => {
 
 test('a new group is what the engine takes', () => {
   const session = opened();
-  const digits = groupDigits({ country: 5, number: 600, balises: 2, version: 33, long: true });
-  const { replies, edits } = done(session, ['add 5 ' + digits.join(' '), 'insert 5.600 0 0 ' + blankPacket(5, 1)]);
+  const digits = telegramsOf({ country: 5, number: 600, balises: 2, version: 33, long: true });
+  const { replies, edits } = done(session, ['add 5 ' + digits.join(' '), 'insert 5.600 0 0 ' + packetOf(blankFields(5))]);
   assert.deepEqual(replies.map(({ text }) => text), ['ok 1', 'ok 2']);
   assert.equal(edits[1].where, '5.600');
 });
@@ -160,6 +161,8 @@ test('completion', () => {
     identities: (/** @type {string} */ start) => session.overview.ids.filter((id) => id.startsWith(start)),
     group: (/** @type {string} */ id) => groups[session.overview.ids.indexOf(id)],
     standing: () => [{ s: 4, what: 'turned round', where: '5.300' }],
+    blanks: (/** @type {number} */ version) => Object.keys(LAYOUTS).map(Number).map((number) =>
+      ({ number, digits: digitsOfItems([packetItem(version, blankFields(number))])[0] })),
   };
   const texts = (/** @type {string} */ line) => complete(line, look).choices.map(({ text }) => text);
   assert.deepEqual(new Set(texts('re')), new Set(['renumber', 'redo']));
@@ -170,6 +173,7 @@ test('completion', () => {
   assert.equal(texts('set 5.200 1 0 V_TSR 0 ')[0], '8');
   assert.deepEqual(texts('seth 5.200 0 M_DUP '), ['0', '1', '2', '3']);
   assert.equal(texts('insert 5.200 1 1 ').length, 7);
+  assert.deepEqual(texts('insert 5.200 1 1 42'), ['42403e00']);
   assert.deepEqual(texts('strike '), ['4']);
   assert.deepEqual(texts('undo '), []);
 });

@@ -4,7 +4,9 @@ import fs from 'node:fs';
 import path from 'node:path';
 import { engineOf } from '../build.mjs';
 import { Engine } from '../src/core/engine.mjs';
+import { groupItems, packetItem } from '../src/core/items.mjs';
 import { Session } from '../src/worker/session.mjs';
+import { spell } from '../src/worker/speller.mjs';
 
 export const TOP = path.resolve(path.dirname(new URL(import.meta.url).pathname), '../..');
 /** The program, where there is one: BALISEPLAN names it, or the one that was built. */
@@ -23,6 +25,19 @@ export function opened() {
   session.open(base, none);
   return session;
 }
+
+/**
+ * The digits that the engine makes of items, which have to be right.
+ * @param {string[][]} items
+ */
+export const digitsOfItems = (items) => spell(engine, items).map(({ digits, bad }, i) => {
+  if (bad) throw new Error(`${JSON.stringify(bad)} of ${items[i].join(' | ')}`);
+  return digits;
+});
+/** @param {[string, number][]} fields of a packet in a telegram of version 2.1 */
+export const packetOf = (fields) => digitsOfItems([packetItem(33, fields)])[0];
+/** @param {Parameters<typeof groupItems>[0]} group */
+export const telegramsOf = (group) => digitsOfItems(groupItems(group));
 
 /**
  * A run that has to be kept.

@@ -22,6 +22,15 @@ export function bitsOf(digits, length) {
 }
 
 /**
+ * Bits as digits, filled up by zeros to whole bytes: for showing, and never for a command.
+ * @param {string} bits
+ */
+export function digitsOf(bits) {
+  const padded = bits.padEnd(Math.ceil(bits.length / 8) * 8, '0');
+  return (padded.match(/.{4}/g) ?? []).map((four) => parseInt(four, 2).toString(16)).join('');
+}
+
+/**
  * @typedef {object} Span
  * @property {'header'|'field'|'opaque'|'end'|'padding'} kind
  * @property {string} name @property {number} start @property {string} bits

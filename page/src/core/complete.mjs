@@ -1,7 +1,6 @@
 // @ts-check
 /** Completion of commands: what may stand as the word at the end, with a hint for each. */
 import { COMMANDS } from './commands.mjs';
-import { LAYOUTS, blankPacket } from './layouts.mjs';
 import { HEADER_SET, VARIABLES, meaning, occurrences, packetName, scaleOf } from './variables.mjs';
 
 /**
@@ -10,6 +9,7 @@ import { HEADER_SET, VARIABLES, meaning, occurrences, packetName, scaleOf } from
  * @property {(start: string, most: number) => string[]} identities identities that begin so
  * @property {(id: string) => import('./bits.mjs').Group | undefined} group the group, where it was decoded
  * @property {() => {s: number, what: string, where: string}[]} standing edits that stand
+ * @property {(version: number) => {number: number, digits: string}[]} blanks packets with all values 0, by M_VERSION
  * @typedef {object} Line the line so far
  * @property {string[]} words @property {string} last the word at the end @property {Look} look @property {number} most
  * @property {import('./bits.mjs').Telegram | undefined} telegram that it names
@@ -40,8 +40,8 @@ const CHOICES = {
   VALUE: valueChoices,
   AT: ({ telegram, words }) => Array.from({ length: (telegram?.packets.length ?? 0) + (words[0] === 'insert' ? 1 : 0) },
     (_, i) => ({ text: String(i), hint: i === 0 ? 'first' : '' })),
-  HEX: () => Object.keys(LAYOUTS).map(Number).map((number) =>
-    ({ text: blankPacket(number, 1), hint: `${number} ${packetName(number)}, all 0` })),
+  HEX: ({ look, telegram }) => (telegram ? look.blanks(telegram.m_version) : []).map(({ number, digits }) =>
+    ({ text: digits, hint: `${number} ${packetName(number)}, all 0` })),
   S: ({ look }) => look.standing().map(({ s, what, where }) => ({ text: String(s), hint: `${where} ${what}` })),
 };
 

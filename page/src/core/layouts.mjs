@@ -1,9 +1,8 @@
 // @ts-check
 /**
- * The packets that the engine knows, as forms to fill in, and the digits of what was filled in. A form that the engine
- * reads otherwise is refused by it; the tests write each packet of random plans anew and compare.
+ * The packets that the engine knows, as forms to fill in: which fields a form shows. The engine makes their digits, and
+ * refuses a form that it has other fields for.
  */
-import { VARIABLES } from './variables.mjs';
 
 /**
  * @typedef {string | {when: [name: string, values: number[]], items: Item[]} | {part: string, first: boolean, items: Item[]}} Item
@@ -110,41 +109,15 @@ export function formOf(number, fields) {
   return read(LAYOUTS[number]);
 }
 
-/** @param {number} value @param {number} bits */
-const binary = (value, bits) => value.toString(2).padStart(bits, '0');
+/**
+ * The fields of a packet, but L_PACKET, which the engine works out.
+ * @param {number} number @param {number} direction @param {Node[]} form @returns {[string, number][]}
+ */
+export const packetFields = (number, direction, form) =>
+  [['NID_PACKET', number], ['Q_DIR', direction], ...fieldsOf(form)];
 
 /**
- * Bits as digits, filled up by zeros to whole bytes.
- * @param {string} bits
+ * A packet for trains in the nominal direction, with all other values 0.
+ * @param {number} number
  */
-export function digitsOf(bits) {
-  const padded = bits.padEnd(Math.ceil(bits.length / 8) * 8, '0');
-  return (padded.match(/.{4}/g) ?? []).map((four) => parseInt(four, 2).toString(16)).join('');
-}
-
-/**
- * The digits of a packet: a word for `insert`.
- * @param {number} number @param {number} direction @param {Node[]} form
- */
-export function packetDigits(number, direction, form) {
-  const body = fieldsOf(form).map(([name, value]) => binary(value, VARIABLES[name].bits)).join('');
-  return digitsOf(binary(number, 8) + binary(direction, 2) + binary(23 + body.length, 13) + body);
-}
-
-/**
- * The digits of a packet with all values 0.
- * @param {number} number @param {number} [direction]
- */
-export const blankPacket = (number, direction = 0) => packetDigits(number, direction, blankForm(LAYOUTS[number]));
-
-/**
- * The digits of telegrams without packets, for `add`.
- * @param {{country: number, number: number, balises: number, version: number, long: boolean}} group
- */
-export function groupDigits({ country, number, balises, version, long }) {
-  return Array.from({ length: balises }, (_, pig) => {
-    const place = binary(pig, 3) + binary(balises - 1, 3);
-    const header = `1${binary(version, 7)}0${place}00${binary(255, 8)}${binary(country, 10)}${binary(number, 14)}1`;
-    return digitsOf(header.padEnd(long ? 830 : 210, '1')); // the ones after the header are packet 255 and padding
-  });
-}
+export const blankFields = (number) => packetFields(number, 1, blankForm(LAYOUTS[number]));

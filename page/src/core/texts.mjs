@@ -94,6 +94,7 @@ export function linesOf(text) {
  * @property {string} name of a refusal, or ''
  * @property {number} first the first dependent edit of a refusal 26, or 0
  * @property {string[]} reviews
+ * @property {import('./items.mjs').Explained} [explained] its digits up to the fault, where they are refused
  */
 
 /** @param {string[]} lines @returns {Reply[]} */

@@ -1,5 +1,6 @@
 // @ts-check
 /** The state of the page and what can be done with it. Views listen to its events and call its actions. */
+import { faultWords } from '../core/faults.mjs';
 import { pendingSummaries } from '../core/links.mjs';
 import { explain, unknownVariable } from '../core/refusals.mjs';
 import { saveText } from './disk.mjs';
@@ -252,7 +253,8 @@ export class App {
   reason(reply, command = '') {
     const unknown = reply.number === 1 && unknownVariable(command);
     if (unknown) return unknown + '.';
-    if (reply.number !== 26) return explain(reply.number).what + '.';
+    if (reply.number !== 26)
+      return `${explain(reply.number).what}.${reply.explained ? ' ' + faultWords(reply.explained) : ''}`;
     const edit = this.edits.find(({ s }) => s === reply.first);
     return `edit ${reply.first} depends on it${edit ? ` (${edit.where}: ${edit.what})` : ''}.`;
   }

@@ -6,6 +6,7 @@ import { metresText } from '../core/variables.mjs';
 import { failureText } from './app.mjs';
 import { groupDiff } from './diff_view.mjs';
 import { button, h, icon, plural, put } from './dom.mjs';
+import { faultView } from './fault_view.mjs';
 import { ROLES } from './roles.mjs';
 import { builtWith } from './worker_calls.mjs';
 
@@ -64,7 +65,8 @@ function fact(good, text, ...more) {
 /** @param {import('../worker/session.mjs').Failure} failure */
 function failureLines(failure) {
   const { name, title, usually, line } = failureText(failure);
-  return h('p.muted', null, h('code', null, name), ' ', title, '. ', usually, line && h('code.entry', null, line));
+  return [h('p.muted', null, h('code', null, name), ' ', title, '. ', usually, line && h('code.entry', null, line)),
+    faultView(failure.explained)];
 }
 
 /** @param {Checked} answer @param {Given} given */

@@ -2,6 +2,8 @@
 /** The box for commands: one or several lines, with completion and a history. */
 import { complete } from '../core/complete.mjs';
 import { commandsOf } from '../core/commands.mjs';
+import { packetItem } from '../core/items.mjs';
+import { LAYOUTS, blankFields } from '../core/layouts.mjs';
 import { h, put } from './dom.mjs';
 
 /** @typedef {{run: () => void, tryOut: () => void}} Actions */
@@ -18,6 +20,7 @@ export class CommandBox {
     this.from = 0;
     /** @type {Map<string, any>} groups decoded for completion, of one version of the plan */ this.decoded = new Map();
     app.on('plan', () => { this.decoded = new Map(); });
+    /** @type {Map<number, {number: number, digits: string}[]>} blank packets by M_VERSION */ this.blank = new Map();
     this.input = h('textarea.mono', {
       id: 'command', rows: 1, placeholder: 'set 5.200 1 0 V_TSR 0 6', 'aria-label': 'Commands, one a line', role: 'combobox', 'aria-expanded': 'false',
       'aria-controls': 'choices', 'aria-autocomplete': 'list', spellcheck: 'false', autocomplete: 'off', autocapitalize: 'off',
@@ -71,6 +74,22 @@ export class CommandBox {
     return undefined;
   }
 
+  /**
+   * The blank packets that the engine makes for telegrams of a version; those that it doesn't know there are left out.
+   * @param {number} version
+   */
+  #blanks(version) {
+    const known = this.blank.get(version);
+    if (known) return known;
+    this.blank.set(version, []);
+    const numbers = Object.keys(LAYOUTS).map(Number);
+    this.app.worker.call('spell', { items: numbers.map((number) => packetItem(version, blankFields(number))) }).then((spelt) => {
+      this.blank.set(version, numbers.flatMap((number, i) => (spelt[i].bad ? [] : [{ number, digits: spelt[i].digits }])));
+      if (document.activeElement === this.input) this.#suggest();
+    }, () => this.blank.delete(version));
+    return [];
+  }
+
   /** @param {string} start @param {number} most */
   #identities(start, most) {
     const ids = [];
@@ -83,7 +102,7 @@ export class CommandBox {
     if (!this.app.loaded || value === '' || value.includes('\n')) return this.hide();
     const found = complete(value.slice(0, selectionStart), {
       identities: (start, most) => this.#identities(start, most), group: (id) => this.#group(id),
-      standing: () => this.app.edits.filter((edit) => edit.stands).reverse(),
+      standing: () => this.app.edits.filter((edit) => edit.stands).reverse(), blanks: (version) => this.#blanks(version),
     });
     this.choices = found.choices;
     this.from = found.from;

@@ -1,6 +1,8 @@
 // @ts-check
 /** Dialogs that make commands: a packet, a group, another number. Each shows its commands as they are made. */
-import { LAYOUTS, formOf, groupDigits } from '../core/layouts.mjs';
+import { badWords } from '../core/faults.mjs';
+import { groupItems, packetItem } from '../core/items.mjs';
+import { LAYOUTS, formOf } from '../core/layouts.mjs';
 import { unknownPackets } from '../core/links.mjs';
 import { VARIABLES, namesGroups, packetName } from '../core/variables.mjs';
 import { dialog } from './dialogs.mjs';
@@ -9,6 +11,9 @@ import { PacketForm } from './packet_form.mjs';
 import { trialView } from './trial_view.mjs';
 
 /** @typedef {import('./app.mjs').App} App */
+
+/** An answer that takes longer than this many milliseconds is waited for in sight. */
+const SLOW = 150;
 
 /** @param {string} label @param {any} input @param {string} [hint] */
 const row = (label, input, hint) => h('label.form-row', null, h('span', null, label), input,
@@ -20,34 +25,76 @@ const numberInput = (value, most, least = 0) => h('input',
 const select = (options, chosen) => h('select', null,
   options.map(([value, text]) => h('option', { value, selected: String(value) === chosen }, text)));
 
+/** @typedef {string[] | {error: string}} Made commands, or why there are none yet */
+
+/**
+ * Has the engine make the digits of items.
+ * @param {App} app @param {string[][]} items @returns {Promise<Made>} the digits of each, or why one has none
+ */
+async function spelled(app, items) {
+  const spelt = /** @type {import('../core/items.mjs').Spelt[]} */ (await app.worker.call('spell', { items }));
+  for (const [i, { bad }] of spelt.entries()) if (bad) return { error: badWords(bad, items[i]) };
+  return spelt.map(({ digits = '' }) => digits);
+}
+
+/**
+ * What a form makes now; a call that fails is a reason too.
+ * @param {() => Made | Promise<Made>} make @returns {Promise<Made>}
+ */
+async function asked(make) {
+  try {
+    return await make();
+  } catch (error) {
+    return { error: /** @type {any} */ (error).message };
+  }
+}
+
+/**
+ * What a form makes, shown as it changes. The engine may be at work: an answer that comes after a later change is dropped.
+ * @param {() => Made | Promise<Made>} make @param {HTMLElement} preview @param {any} submit @param {() => void} clear
+ */
+function previewed(make, preview, submit, clear) {
+  let latest = 0;
+  return async () => {
+    latest += 1;
+    const mine = latest;
+    clear();
+    submit.disabled = false; // it may be sent at once: what is sent waits for the answer
+    const slow = setTimeout(() => put(preview, '…'), SLOW);
+    const made = await asked(make);
+    clearTimeout(slow);
+    if (mine !== latest) return;
+    submit.disabled = 'error' in made;
+    put(preview, 'error' in made ? made.error : made.join('\n'));
+  };
+}
+
 /**
  * A form that makes commands, shows them, and stays open with the reasons if they are refused.
  * @param {App} app @param {string} title @param {any[]} rows
- * @param {{make: () => string[] | {error: string}, verb: string, done?: () => void}} options
+ * @param {{make: () => Made | Promise<Made>, verb: string, done?: () => void}} options
  */
 function commandForm(app, title, rows, { make, verb, done }) {
   const preview = h('code.preview');
   const refusal = h('div.refusal', { role: 'alert' });
   const tried = h('div', { 'aria-live': 'polite' });
   const submit = h('button.primary', { type: 'submit' }, verb);
-  const update = () => {
-    const made = make();
-    submit.disabled = 'error' in made;
-    put(preview, 'error' in made ? made.error : made.join('\n'));
-    put(refusal);
-    put(tried);
-  };
+  const update = previewed(make, preview, submit, () => { put(refusal); put(tried); });
+  let running = false;
   const run = async () => {
-    const commands = make();
-    if ('error' in commands) return;
-    const { kept, replies } = await app.run(commands);
-    if (kept) {
-      element.close();
-      done?.();
-    } else if (replies.length > 0) put(refusal, app.refusals(commands, replies).map((line) => h('p', null, line)));
+    if (running) return;
+    running = true;
+    const commands = await asked(make);
+    if (!('error' in commands)) {
+      const { kept, replies } = await app.run(commands);
+      if (kept) element.close();
+      if (kept) done?.();
+      else if (replies.length > 0) put(refusal, app.refusals(commands, replies).map((line) => h('p', null, line)));
+    }
+    running = false;
   };
   const tryOut = async () => {
-    const commands = make();
+    const commands = await asked(make);
     if (!('error' in commands)) put(tried, await trialView(app, commands));
   };
   const form = h('form', {
@@ -64,77 +111,85 @@ function commandForm(app, title, rows, { make, verb, done }) {
 }
 
 /**
- * @typedef {{number: number, direction: number, fields: [string, number][], known: boolean, hex: string}} Copy a packet to copy
+ * @typedef {import('../core/bits.mjs').Packet} Packet
+ * @typedef {{id: string, pig: number, telegram: import('../core/bits.mjs').Telegram, digits: string}} Place a telegram
  */
 
-/** @param {App} app @param {{id: string, pig: number, copies: Copy[]}} place */
-export function insertDialog(app, { id, pig, copies }) {
-  const packets = copies.length;
+/**
+ * The form of a packet that is there.
+ * @param {Packet} packet @param {() => void} changed
+ */
+function formFor({ fields: [[, number], [, direction], , ...fields] }, changed) {
+  return new PacketForm(number, direction, formOf(number, fields), changed);
+}
+
+/** @param {Packet[]} packets */
+const kindChoice = (packets) => h('select', { 'aria-label': 'Packet' },
+  h('optgroup', { label: 'New' },
+    Object.keys(LAYOUTS).map(Number).map((number) => h('option', { value: number, selected: number === 65 }, `${number} · ${packetName(number)}`))),
+  packets.length > 0 && h('optgroup', { label: 'A copy of' },
+    packets.map(({ fields: [[, number]] }, i) => h('option', { value: `copy ${i}` }, `packet ${i}: ${number} · ${packetName(number)}`))),
+  h('optgroup', { label: 'Other' }, h('option', { value: 'hex' }, 'digits of your own')));
+
+/** @param {App} app @param {Place} place */
+export function insertDialog(app, { id, pig, telegram, digits }) {
+  const { packets, m_version: version } = telegram;
   let update = () => {};
   /** @type {PacketForm | null} */
   let form = null;
   const fields = h('div');
-  const kind = h('select', { 'aria-label': 'Packet' },
-    h('optgroup', { label: 'New' },
-      Object.keys(LAYOUTS).map(Number).map((number) => h('option', { value: number, selected: number === 65 }, `${number} · ${packetName(number)}`))),
-    packets > 0 && h('optgroup', { label: 'A copy of' },
-      copies.map(({ number }, i) => h('option', { value: `copy ${i}` }, `packet ${i}: ${number} · ${packetName(number)}`))),
-    h('optgroup', { label: 'Other' }, h('option', { value: 'hex' }, 'digits of your own')));
+  const kind = kindChoice(packets);
   const at = select(
-    Array.from({ length: packets + 1 },
-      (_, i) => [i, i === 0 ? '0 · first' : i === packets ? `${i} · last` : `${i} · before packet ${i}`]),
-    String(packets));
-  const digits = h('input.mono',
+    Array.from({ length: packets.length + 1 },
+      (_, i) => [i, i === 0 ? '0 · first' : i === packets.length ? `${i} · last` : `${i} · before packet ${i}`]),
+    String(packets.length));
+  const own = h('input.mono',
     { value: '', placeholder: '41408e000000000000', spellcheck: 'false', autocomplete: 'off' });
   const choose = () => {
-    const copy = kind.value.startsWith('copy') ? copies[Number(kind.value.slice(5))] : null;
-    form = copy?.known ? new PacketForm(copy.number, copy.direction, formOf(copy.number, copy.fields.slice(3)),
-      () => update())
-      : LAYOUTS[Number(kind.value)] ? PacketForm.blank(Number(kind.value), () => update()) : null;
-    if (copy && !copy.known) digits.value = copy.hex;
+    const copied = kind.value.startsWith('copy') ? Number(kind.value.slice(5)) : -1;
+    const changed = () => update();
+    form = packets[copied]?.known ? formFor(packets[copied], changed)
+      : LAYOUTS[Number(kind.value)] ? PacketForm.blank(Number(kind.value), changed) : null;
     put(fields,
-      form ? form.element : row('Digits', digits, 'NID_PACKET, Q_DIR, L_PACKET and what follows, filled up by zeros to whole bytes'));
+      form ? form.element : row('Digits', own, 'NID_PACKET, Q_DIR, L_PACKET and what follows, filled up by zeros to whole bytes'));
+    if (!form && copied >= 0) copyDigits(copied);
+  };
+  /** @param {number} copied a packet that the engine keeps bit for bit */
+  const copyDigits = async (copied) => {
+    const all = await app.worker.call('packets', { digits });
+    if (kind.value !== `copy ${copied}`) return;
+    own.value = all[copied];
+    update();
   };
   kind.addEventListener('change', choose);
   choose();
-  const make = () => {
+  const make = async () => {
     if (form?.error) return { error: form.error };
-    const hex = form ? form.digits : digits.value.trim();
-    return hex === '' ? { error: 'no digits yet' } : [`insert ${id} ${pig} ${at.value} ${hex}`];
+    const hex = form ? await spelled(app, [packetItem(version, form.fields)]) : own.value.trim() ? [own.value.trim()] : { error: 'no digits yet' };
+    return 'error' in hex ? hex : [`insert ${id} ${pig} ${at.value} ${hex[0]}`];
   };
   update = commandForm(app, `Put a packet into balise ${pig} of ${id}`, [row('Packet', kind), row('Place', at),
-    fields], {
-    make, verb: 'Insert', done: () => { if (form) compare(app, { id, pig, pkt: Number(at.value) }, form); },
-  });
+    fields], { make, verb: 'Insert' });
 }
 
 /**
  * All fields of a packet anew: those that aren't set in place, and other numbers of parts.
- * @param {App} app @param {{id: string, pig: number, pkt: number, copy: Copy}} place
+ * @param {App} app @param {{id: string, pig: number, pkt: number, version: number}} place @param {Packet} packet
  */
-export function rewriteDialog(app, { id, pig, pkt, copy }) {
+export function rewriteDialog(app, { id, pig, pkt, version }, packet) {
   let update = () => {};
-  const form = new PacketForm(copy.number, copy.direction, formOf(copy.number, copy.fields.slice(3)), () => update());
+  const form = formFor(packet, () => update());
+  const before = String(form.fields);
   const note = h('p.muted', null,
     'The packet is taken out and put in anew, as one step. Edits of it that stand now can be struck only after these two.');
   const place = `${id} ${pig} ${pkt}`;
-  const make = () => (form.error ? { error: form.error } : form.digits === copy.hex ? { error: 'nothing is changed yet' } : [
-    `delete ${place}`, `insert ${place} ${form.digits}`]);
-  update = commandForm(app, `Packet ${copy.number} anew`, [note, form.element],
-    { make, verb: 'Replace', done: () => compare(app, { id, pig, pkt }, form) });
-}
-
-/**
- * Whether the engine read in a packet what the form had.
- * @param {App} app @param {{id: string, pig: number, pkt: number}} place @param {PacketForm} form
- */
-async function compare(app, { id, pig, pkt }, form) {
-  const group = app.byId.get(id);
-  if (group === undefined) return;
-  const [look] = await app.worker.call('look', { indexes: [group] });
-  const read = look.group.telegrams[pig]?.packets[pkt];
-  if (read && JSON.stringify(read.fields.slice(3)) !== JSON.stringify(form.fields))
-    app.tell('The engine read other values than the form had. Undo, and look at the packet by its bits.', 'bad');
+  const make = async () => {
+    if (form.error) return { error: form.error };
+    if (String(form.fields) === before) return { error: 'nothing is changed yet' };
+    const hex = await spelled(app, [packetItem(version, form.fields)]);
+    return 'error' in hex ? hex : [`delete ${place}`, `insert ${place} ${hex[0]}`];
+  };
+  update = commandForm(app, `Packet ${form.number} anew`, [note, form.element], { make, verb: 'Replace' });
 }
 
 /** @param {App} app @param {string} id */
@@ -160,14 +215,14 @@ export function addDialog(app, at) {
   const place = h('input', { type: 'number', min: 0, max: app.groups.length, value: String(at), required: true });
   const rows = [row('Place in the plan', place), row('Country or region', country), row('Number', number),
     row('Balises', balises), row(VARIABLES.M_VERSION.what, version), row('Telegrams', long)];
-  const make = () => {
+  const make = async () => {
     const group = {
       country: Number(country.value), number: Number(number.value), balises: Number(balises.value),
       version: Number(version.value), long: long.value === '1',
     };
-    if (group.balises < 1 || group.balises > 8 || group.country > 1023
-      || group.number > 16383) return { error: '1 to 8 balises, country to 1023, number to 16382' };
-    return [`add ${place.value} ${groupDigits(group).join(' ')}`];
+    if (!(group.balises >= 1 && group.balises <= 8)) return { error: '1 to 8 balises' };
+    const telegrams = await spelled(app, groupItems(group));
+    return 'error' in telegrams ? telegrams : [`add ${place.value} ${telegrams.join(' ')}`];
   };
   commandForm(app, 'Add a group', rows,
     { make, verb: 'Add', done: () => app.jumpTo(`${country.value}.${number.value}`) });

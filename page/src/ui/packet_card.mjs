@@ -1,6 +1,7 @@
 // @ts-check
 /** One packet of the group that is shown: its fields in parts, and what can be done with it. */
-import { LAYOUTS, PART_NAME, PART_START, digitsOf } from '../core/layouts.mjs';
+import { digitsOf } from '../core/bits.mjs';
+import { LAYOUTS, PART_NAME, PART_START } from '../core/layouts.mjs';
 import { VARIABLES, namesGroups, occurrences, packetName, scaleOf } from '../core/variables.mjs';
 import { rewriteDialog } from './forms.mjs';
 import { button, h, plural } from './dom.mjs';
@@ -10,6 +11,7 @@ import { tile } from './tile.mjs';
  * @typedef {object} Place
  * @property {string} id @property {number} pig @property {number} pkt
  * @property {number} count packets of the telegram
+ * @property {number} version of the telegram
  * @typedef {{name: string, value: number, k: number}} Field
  */
 
@@ -59,7 +61,7 @@ export function packetCard(shown, place, packet, bits, diff) {
       one(fields[1]), head.filter(({ name }) => name === 'Q_SCALE').map(one),
       h('span.muted.small', null,
         [parts.length > 0 && plural(parts.length, PART_NAME[number]), `${fields[2].value} bits`].filter(Boolean).join(' · ')),
-      marks(diff), packetButtons(shown, place, packet, bits)),
+      marks(diff), packetButtons(shown, place, packet)),
     packet.known
       ? [h('div.tiles', null, head.filter(({ name }) => name !== 'Q_SCALE').map(one)),
         parts.map((part, i) => partRow(part.map(one), parts.length > 1 ? i : -1))]
@@ -87,10 +89,10 @@ function unknownContent(number, bits) {
   ];
 }
 
-/** @param {import('./group.mjs').Shown} shown @param {Place} place @param {any} packet @param {string} bits */
-function packetButtons({ app, refocus }, { id, pig, pkt, count }, packet, bits) {
+/** @param {import('./group.mjs').Shown} shown @param {Place} place @param {any} packet */
+function packetButtons({ app, refocus }, { id, pig, pkt, count, version }, packet) {
   const place = `${id} ${pig} ${pkt}`;
-  const [number, direction] = [packet.fields[0][1], packet.fields[1][1]];
+  const [[, number]] = packet.fields;
   /** @param {'up'|'down'} icon @param {number} to */
   const move = (icon, to) => button({
     icon, title: `Move ${icon}: move ${place} ${to}`, class: 'quiet', data: {
@@ -103,8 +105,7 @@ function packetButtons({ app, refocus }, { id, pig, pkt, count }, packet, bits) 
       icon: 'form', title: `All fields of packet ${number} anew: delete ${place}, insert ${place} HEX`, class: 'quiet', data: {
         key: `form ${pig} ${pkt}`, rove: '',
       },
-      onclick: () => rewriteDialog(app,
-        { id, pig, pkt, copy: { number, direction, fields: packet.fields, known: true, hex: digitsOf(bits) } }),
+      onclick: () => rewriteDialog(app, { id, pig, pkt, version }, packet),
     }),
     move('up', pkt - 1), move('down', pkt + 1),
     button({ icon: 'cross', title: `Take out: delete ${place}`, class: 'quiet danger', data: { key: `out ${pig} ${pkt}`, rove: '' }, onclick: () => app.do(`delete ${place}`) }));

@@ -1,8 +1,8 @@
 // @ts-check
 /**
- * The fields of a packet as a form: values with units, parts that are added and taken out. It gives the packet's digits.
+ * The fields of a packet as a form: values with units, parts that are added and taken out. The engine makes its digits.
  */
-import { LAYOUTS, blankForm, fieldsOf, isChosen, packetDigits } from '../core/layouts.mjs';
+import { LAYOUTS, blankForm, isChosen, packetFields } from '../core/layouts.mjs';
 import { VARIABLES, meaning, mostOf, rawValue } from '../core/variables.mjs';
 import { valueHint, valueInput } from './editor.mjs';
 import { button, h, put } from './dom.mjs';
@@ -41,19 +41,15 @@ export class PacketForm {
     return new PacketForm(number, 1, nodes, changed);
   }
 
-  /** Why there are no digits yet, or ''. */
+  /** What was typed and is no value, or ''. */
   get error() {
     const [first] = this.errors;
     return first ? `${first[0].name}: ${first[1]}` : '';
   }
 
-  get digits() {
-    return packetDigits(this.number, this.direction, this.nodes);
-  }
-
-  /** The fields that the engine has to read in these digits, but the first three. */
+  /** The fields in bit order, but L_PACKET. */
   get fields() {
-    return fieldsOf(this.nodes);
+    return packetFields(this.number, this.direction, this.nodes);
   }
 
   get #scale() {

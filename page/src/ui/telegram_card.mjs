@@ -1,7 +1,6 @@
 // @ts-check
 /** One telegram of the group that is shown: its room, its header, its packets, its bits. */
 import { packetBits } from '../core/bits.mjs';
-import { digitsOf } from '../core/layouts.mjs';
 import { HEADER_SET, packetName } from '../core/variables.mjs';
 import { bitsView } from './bits_view.mjs';
 import { button, h, put } from './dom.mjs';
@@ -18,11 +17,11 @@ export function telegramCard(shown, { id, telegram, pig, digits }, diff) {
   const box = h('div.bits-box');
   const show = () => put(box, shown.withBits.has(pig) && bitsView(telegram, digits, new Set(diff?.bits ?? []), card));
   const card = h('article.card', { data: { telegram: pig }, tabindex: -1, 'aria-label': `Balise ${pig}` },
-    cardHead(shown, { id, telegram, pig, bits }, show),
+    cardHead(shown, { id, telegram, pig, digits }, show),
     h('div.tiles.header-tiles', null, headerTiles(shown, { id, telegram, pig }, diff)),
     telegram.packets.length === 0 && h('p.empty.muted.small', null, 'No packets.'),
     telegram.packets.map((/** @type {any} */ packet, /** @type {number} */ pkt) =>
-      packetCard(shown, { id, pig, pkt, count: telegram.packets.length }, packet, bits[pkt], diff?.packets.find((each) => each.after === pkt))),
+      packetCard(shown, { id, pig, pkt, count: telegram.packets.length, version: telegram.m_version }, packet, bits[pkt], diff?.packets.find((each) => each.after === pkt))),
     diff?.packets.filter((each) => each.kind === 'removed').map(({ number }) => h('p.gone', null,
       `Packet ${number}, ${packetName(number)}, was taken out here.`)),
     box);
@@ -31,10 +30,10 @@ export function telegramCard(shown, { id, telegram, pig, digits }, diff) {
 }
 
 /**
- * @param {import('./group.mjs').Shown} shown @param {{id: string, telegram: any, pig: number, bits: string[]}} of
+ * @param {import('./group.mjs').Shown} shown @param {{id: string, telegram: any, pig: number, digits: string}} of
  * @param {() => void} show the bits, or not
  */
-function cardHead({ app, withBits }, { id, telegram, pig, bits }, show) {
+function cardHead({ app, withBits }, { id, telegram, pig, digits }, show) {
   const room = `${telegram.used} of ${telegram.bits} bits used`;
   const toggle = button({
     icon: 'bits', text: 'Bits', class: 'quiet', 'aria-expanded': String(withBits.has(pig)), 'aria-label': `Bits of balise ${pig}`, data: {
@@ -46,8 +45,6 @@ function cardHead({ app, withBits }, { id, telegram, pig, bits }, show) {
       show();
     },
   });
-  const copies = telegram.packets.map((/** @type {any} */ { fields, known }, /** @type {number} */ i) =>
-    ({ number: fields[0][1], direction: fields[1][1], fields, known, hex: digitsOf(bits[i]) }));
   return h('header', null,
     h('h3', null, h('span.balise', { 'aria-hidden': 'true' }), `Balise ${pig}`),
     h('span.meter', { title: room, role: 'img', 'aria-label': room },
@@ -57,7 +54,7 @@ function cardHead({ app, withBits }, { id, telegram, pig, bits }, show) {
       icon: 'plus', text: 'Packet', class: 'quiet', title: `insert ${id} ${pig} AT HEX`, 'aria-label': `Put a packet into balise ${pig}`, data: {
         key: `insert ${pig}`, rove: '',
       },
-      onclick: () => insertDialog(app, { id, pig, copies }),
+      onclick: () => insertDialog(app, { id, pig, telegram, digits }),
     })));
 }
 

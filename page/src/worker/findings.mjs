@@ -5,10 +5,9 @@
  */
 import { readJournal } from '../core/journal.mjs';
 import { HEADER_SET, VARIABLES, occurrences } from '../core/variables.mjs';
-import { packetBits } from '../core/bits.mjs';
-import { digitsOf } from '../core/layouts.mjs';
 import { bytesOf, linesOf, textOf } from '../core/texts.mjs';
 import { Refused, Session } from './session.mjs';
+import { packetDigits } from './speller.mjs';
 
 /**
  * @typedef {import('./checker.mjs').Checker} Checker
@@ -120,7 +119,7 @@ export function nameDifference(checker, answer) {
     return { kind: 'order', title: 'The groups are the same, but in another order.', details: [] };
   const trials = new Trials(checker);
   const gaps = gapsOf(checker.made.journal);
-  return older(trials) ?? entryMore(trials, answer) ?? entryMissing(trials, answer, gaps) ?? differing(answer, gaps);
+  return older(trials) ?? entryMore(trials, answer) ?? entryMissing(trials, answer, gaps) ?? differing(checker, answer, gaps);
 }
 
 /** Runs whose plan is compared with the delivered one, within a limit. */
@@ -190,7 +189,7 @@ function entryMore(trials, answer) {
  * @param {Trials} trials @param {Answer} answer @param {number[]} gaps @returns {Finding | null}
  */
 function entryMissing(trials, answer, gaps) {
-  const commands = commandsFor(answer.differs);
+  const commands = commandsFor(trials.made.engine, answer.differs);
   if (gaps.length === 0 || commands === null || trials.over || !trials.give(commands)) return null;
   return {
     kind: 'missing', title: 'An entry seems to be missing from the journal.', commands,
@@ -198,8 +197,8 @@ function entryMissing(trials, answer, gaps) {
   };
 }
 
-/** @param {Answer} answer @param {number[]} gaps @returns {Finding} */
-function differing({ differs }, gaps) {
+/** @param {Checker} checker @param {Answer} answer @param {number[]} gaps @returns {Finding} */
+function differing({ engine }, { differs }, gaps) {
   const bits = differs.reduce(
     (sum, { telegrams }) => sum + telegrams.reduce(
       (/** @type {number} */ all, /** @type {any} */ each) => all + each.bits.length, 0),
@@ -207,7 +206,7 @@ function differing({ differs }, gaps) {
   const whole = differs.every(({ kind, telegrams }) => kind === 'changed'
     && telegrams.every((/** @type {any} */ each) => each.before === each.after));
   const details = gaps.length > 0 ? [`The journal has no entry ${listed(gaps)}. ${ABOUT_GAPS}`] : [];
-  const commands = commandsFor(differs) ?? undefined;
+  const commands = commandsFor(engine, differs) ?? undefined;
   const names = differs.slice(0, 6).map(({ before, after }) => after
     || before).join(', ') + (differs.length > 6 ? ' …' : '');
   if (whole && bits > 0 && differs.length === 1)
@@ -223,15 +222,15 @@ function differing({ differs }, gaps) {
 
 /**
  * The commands that would make the differences, or null where no plain ones do.
- * @param {any[]} differs
+ * @param {import('../core/engine.mjs').Engine} engine @param {any[]} differs
  */
-function commandsFor(differs) {
+function commandsFor(engine, differs) {
   /** @type {string[]} */
   const commands = [];
   for (const diff of differs) {
     if (diff.kind !== 'changed' || diff.turned || diff.before !== diff.after) return null;
     for (const telegram of diff.telegrams) {
-      const some = telegramCommands(diff, telegram);
+      const some = telegramCommands(engine, diff, telegram);
       if (some === null) return null;
       commands.push(...some);
     }
@@ -239,21 +238,23 @@ function commandsFor(differs) {
   return commands.length > 0 && commands.length <= 100 ? commands : null;
 }
 
-/** @param {any} diff @param {any} telegram @returns {string[] | null} */
-function telegramCommands(diff, telegram) {
+/**
+ * @param {import('../core/engine.mjs').Engine} engine @param {any} diff @param {any} telegram @returns {string[] | null}
+ */
+function telegramCommands(engine, diff, telegram) {
   const { before: pig, header, packets } = telegram;
   if (pig === null || pig !== telegram.after
     || packets.some((/** @type {any} */ each) => each.kind === 'moved' || each.content)) return null;
   if (header.some((/** @type {any} */ { name }) => !(name in HEADER_SET))) return null;
   const id = diff.after;
-  const bits = packetBits(diff.views[1].telegrams[pig], diff.digits[1][pig]);
   const of = (/** @type {string} */ kind) => packets.filter((/** @type {any} */ each) => each.kind === kind);
   const sets = of('changed').flatMap((/** @type {any} */ each) => each.fields.map((/** @type {any} */ field) => ({ ...field, pkt: each.after })));
   if (sets.some((/** @type {any} */ { name }) => VARIABLES[name]?.steering)) return null;
+  const digits = of('added').length > 0 ? packetDigits(engine, diff.digits[1][pig]) : [];
   return [
     ...header.map((/** @type {any} */ { name, after }) => `seth ${id} ${pig} ${name} ${after}`),
     ...of('removed').reverse().map((/** @type {any} */ { before }) => `delete ${id} ${pig} ${before}`),
-    ...of('added').map((/** @type {any} */ { after }) => `insert ${id} ${pig} ${after} ${digitsOf(bits[after])}`),
+    ...of('added').map((/** @type {any} */ { after }) => `insert ${id} ${pig} ${after} ${digits[after]}`),
     ...sets.map((/** @type {any} */ { pkt, name, k, after }) => `set ${id} ${pig} ${pkt} ${name} ${k} ${after}`),
   ];
 }

@@ -13,6 +13,7 @@ import { inWords } from '../core/words.mjs';
 import { Decoder, balisesOf, idOf } from './decoder.mjs';
 import { Overview } from './overview.mjs';
 import { loneDiff, planDiff } from './plan_diff.mjs';
+import { explainCommand, explainRefused } from './speller.mjs';
 
 /**
  * @typedef {import('../core/bits.mjs').Group} Group
@@ -21,6 +22,7 @@ import { loneDiff, planDiff } from './plan_diff.mjs';
  * @property {number} number @property {string} name
  * @property {'base'|'journal'|'end'|''} file @property {number} line of that file, or 0
  * @property {string} text the line itself
+ * @property {import('../core/items.mjs').Explained} [explained] its digits up to the fault, where they are refused
  * @typedef {{turn: number, path: string, name: string, k: number, value: number, opaque: boolean}} Review
  * @typedef {object} Update what the page is told after a run that is kept
  * @property {true} kept
@@ -35,6 +37,11 @@ import { loneDiff, planDiff } from './plan_diff.mjs';
 
 /** More entries than these are shown by their lines only. */
 export const MOST_IN_WORDS = 20000;
+
+/** Of a refused line this much is shown: the digits of the longest telegram. */
+const MOST_SHOWN = 208;
+/** Of more refused commands it isn't said where in their digits the fault is. */
+const MOST_EXPLAINED = 20;
 
 /** A run that gave no plan. */
 export class Refused extends Error {
@@ -72,10 +79,40 @@ export class Session {
     const { status, output, ms } = this.engine.run(inputOf(base, journal, commands), FLAG.journal);
     const text = textOf(output);
     if (status !== STATUS.accepted
-      && status !== STATUS.refused) throw new Refused(failureOf(status, text, base, journal));
+      && status !== STATUS.refused) throw new Refused(this.#failureOf(status, text, base, journal));
     const parts = splitOutput(text);
     if (!parts) throw new Error('an output without a plan');
     return { parts, replies: repliesOf(parts.replies), ms };
+  }
+
+  /**
+   * @param {number} status @param {string} text @param {Uint8Array} base @param {Uint8Array} journal @returns {Failure}
+   */
+  #failureOf(status, text, base, journal) {
+    const bad = badOf(text);
+    if (!bad) return { number: status, name: '', file: '', line: 0, text: '' };
+    const { file, line } = placeOfLine(bad.line, base, journal);
+    const lines = file === 'end' ? '' : textOf(file === 'base' ? base : journal);
+    const whole = lines.split('\n')[line - 1] ?? '';
+    const explained = file === 'base' ? explainRefused(this.engine, bad.number, whole) : undefined;
+    return { number: bad.number, name: bad.name, file, line, text: whole.slice(0, MOST_SHOWN), explained };
+  }
+
+  /**
+   * Where the digits of refused commands have their faults: the first ones, since each takes runs of its own.
+   * @param {string[]} commands @param {Reply[]} replies
+   */
+  #explain(commands, replies) {
+    const versionOf = (/** @type {string} */ id, /** @type {number} */ pig) => {
+      const text = this.groups[this.overview.ids.indexOf(id)];
+      return text === undefined ? undefined : this.decoder.views([text])[0].telegrams[pig]?.m_version;
+    };
+    let left = MOST_EXPLAINED;
+    for (const [i, reply] of replies.entries()) {
+      if (left === 0) return;
+      reply.explained = explainCommand(this.engine, reply.number, commands[i], versionOf);
+      if (reply.explained) left -= 1;
+    }
   }
 
   /**
@@ -102,6 +139,7 @@ export class Session {
   run(commands, keepAccepted = false) {
     const whole = this.trial(commands);
     const refused = whole.replies.filter(({ kind }) => kind === 'refused').length;
+    if (refused > 0) this.#explain(commands, whole.replies);
     if (refused > 0
       && (!keepAccepted || refused === commands.length)) return { kept: false, replies: whole.replies, ms: whole.ms };
     const pieces = splitAtTurns(commands);
@@ -122,6 +160,7 @@ export class Session {
    */
   try(commands, most = 100) {
     const { parts, replies, ms } = this.trial(commands);
+    this.#explain(commands, replies);
     const [old, now] = [this.groups, groupTexts(parts.plan)];
     if (old.length !== now.length) {
       const diffs = planDiff(this.decoder, old, now);
@@ -286,13 +325,3 @@ export class Session {
   }
 }
 
-/**
- * @param {number} status @param {string} text @param {Uint8Array} base @param {Uint8Array} journal @returns {Failure}
- */
-function failureOf(status, text, base, journal) {
-  const bad = badOf(text);
-  if (!bad) return { number: status, name: '', file: '', line: 0, text: '' };
-  const { file, line } = placeOfLine(bad.line, base, journal);
-  const lines = file === 'end' ? '' : textOf(file === 'base' ? base : journal);
-  return { number: bad.number, name: bad.name, file, line, text: (lines.split('\n')[line - 1] ?? '').slice(0, 200) };
-}

@@ -6,6 +6,7 @@ import { Engine } from '../core/engine.mjs';
 import { Checker } from './checker.mjs';
 import { packSplices } from './overview.mjs';
 import { Refused, Session } from './session.mjs';
+import { explain, packetDigits, spell } from './speller.mjs';
 
 /** @type {Engine} */ let engine;
 /** @type {Session} */ let session;
@@ -69,6 +70,9 @@ const CALLS = {
   chain: ({ serial, most }) => session.chain(serial, most),
   find: ({ paths }) => session.find(paths),
   plan: () => session.plan,
+  spell: ({ items }) => spell(engine, items),
+  explain: ({ line }) => explain(engine, line),
+  packets: ({ digits }) => packetDigits(engine, digits),
   fits: ({ base, journal }) => fits(base, journal),
   check: ({ base, journal, delivered }) => (checker = new Checker(engine, { base, journal, delivered })).check(),
   checkLinks: () => checker?.links(),

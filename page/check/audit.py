@@ -95,6 +95,13 @@ class Audit:
             self.look(page, f"{where} {key}")
             self.names(page, f"{where} {key}")
             page.call("document.querySelector('dialog').close()")
+        page.drop(("wrong.plan", BASE.replace(b"5023a0", b"502320")))
+        page.button("Open anyway", "dialog").click()
+        page.wait(lambda: page.all("dialog .fault-view"))
+        page.css(".fault-view summary").click()
+        self.look(page, f"{where} bad plan")
+        self.names(page, f"{where} bad plan")
+        page.call("document.querySelector('dialog').close()")
         page.call("document.querySelector('[data-at=\"1 0 V_TSR 0\"]').click()")
         self.look(page, f"{where} editor")
         for form in ("Picture", "Text"):

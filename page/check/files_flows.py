@@ -6,7 +6,7 @@ from pathlib import Path
 
 from browser import Page
 from edit_flows import empty_box, go_to, set_value
-from runner import BASE, native
+from runner import BASE, fields_reference, native
 from selenium.webdriver.common.keys import Keys
 
 STUB = """window.written = {}; window.failing = '';
@@ -160,6 +160,24 @@ def hostile_names_are_text(page: Page) -> None:
     page.button("Close", "dialog").click()
 
 
+def a_bad_plan(page: Page) -> None:
+    """Where its digits are refused is shown as the engine has it: the fields, and the bit where something else was due."""
+    wrong = BASE.replace(b"5023a0", b"502320")
+    page.drop(("wrong.plan", wrong))
+    text = page.wait(lambda: page.text("dialog[open]"))
+    assert "Line 6 of the plan: the fields of a known packet don’t end at its L_PACKET" in text, text
+    assert "In packet 0, at bit 114, V_TSR is due, and too few bits are left for it." in text, text
+    page.shot("bad-plan")
+    page.css(".fault-view summary").click()
+    rows = [each.text.split(" ")[:3] for each in page.all(".fault-view tbody tr")]
+    due = [line.split(" ") for line in fields_reference([wrong.decode().split("\n")[5]])]
+    own = [[words[0], words[2], words[4]] for words in due[12:-1]]
+    header = [[words[0], words[2], words[4]] for words in due[1:11]]
+    assert rows == [*own, ["114", "V_TSR", "refused"], *header], rows
+    assert page.all(".fault-view tr")[-len(header) - 2].get_attribute("class") == "fault"
+    page.button("Close", "dialog").click()
+
+
 def a_journal_of_another_plan(page: Page) -> None:
     _, journal = native(BASE, commands=b"set 5.200 1 0 V_TSR 0 6\n")
     page.drop(("base.plan", BASE.replace(b"0960064", b"0960074")), ("journal", journal))
@@ -196,5 +214,5 @@ def no_network(page: Page) -> None:
 FLOWS = [
     opened, saved_by_downloads, saved_in_place, a_full_disk, never_onto_the_base_plan, leaving_warns, resumed_after_a_crash,
     another_plan_loses_nothing, a_full_store_is_said, the_engine_stops, a_file_from_windows, hostile_names_are_text,
-    a_journal_of_another_plan, unknown_files, no_network,
+    a_bad_plan, a_journal_of_another_plan, unknown_files, no_network,
 ]  # fmt: skip

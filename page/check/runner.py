@@ -2,6 +2,7 @@
 
 import os
 import subprocess
+import sys
 import time
 import traceback
 from collections.abc import Callable
@@ -19,6 +20,18 @@ def native(base: bytes, journal: bytes = b"", commands: bytes = b"", most: int =
     assert run.returncode <= most, run.stdout[:200]
     plan, rest = run.stdout.split(b"journal ", 1)
     return plan[plan.index(b"plan 1") :], b"journal " + rest
+
+
+def fields_reference(lines: list[str], *flags: str) -> list[str]:
+    """What the reference for fields prints."""
+    words = [sys.executable, str(TOP / "reference/balisefields.py"), *flags]
+    return subprocess.run(words, input="\n".join(lines) + "\n", capture_output=True, text=True).stdout.splitlines()
+
+
+def digits_of(*lines: str) -> str:
+    """The digits of an item, by the reference."""
+    (line,) = fields_reference(list(lines), "--spell")
+    return line.split(" ")[-1]
 
 
 def line_of(count: int) -> bytes:

@@ -2,6 +2,7 @@
 """Compares the engine in Chromium and in Firefox with the program: worked rows and examples with every set of flags.
 
 usage: engine_in_browsers.py PROGRAM
+Random fields and digits are compared with the reference.
 In Firefox the page also opens the worked line, edits it and checks a delivery.
 """
 
@@ -21,6 +22,12 @@ for (const flags of args[1]) {
   let text = '';
   for (let i = 0; i < output.length; i += 32768) text += String.fromCharCode(...output.subarray(i, i + 32768));
   found.push([status, btoa(text)]);
+}
+return found;"""
+FIELDS = """const found = [];
+for (const [way, input] of args[0]) {
+  const { status, output } = await baliseplan.fields(way, Uint8Array.from(atob(input), (c) => c.charCodeAt(0)));
+  found.push([status, btoa(String.fromCharCode(...output))]);
 }
 return found;"""
 SESSION = """const app = baliseplan.app, text = document.getElementById('example-plan').textContent, bytes = new TextEncoder().encode(text);
@@ -74,16 +81,28 @@ def compare(browser: Any, words: str, expected: dict[tuple[str, int], tuple[int,
     return differ + (runs < 1000)
 
 
+def compare_fields(browser: Any, words: str) -> int:
+    """Random items both ways, beside what the reference answers."""
+    script = Path(__file__).with_name("print_random_fields.py")
+    lines = subprocess.run([sys.executable, script, "100"], capture_output=True, text=True, check=True).stdout.splitlines()
+    due = [line.split(" ") for line in lines]
+    answers = browser.call(FIELDS, [[way, given] for way, _, given, _ in due])
+    found = [(3 if status >= 29 else status, output) for status, output in answers]
+    differ = sum(one != (int(status), output) for one, (_, status, _, output) in zip(found, due, strict=True))
+    print(f"{words}: {len(due)} inputs of fields and digits, {differ} differ", flush=True)
+    return differ
+
+
 def main() -> int:
     program = str(Path(sys.argv[1]).resolve())
     expected = natives(program)
     page = Page()
     version = page.driver.capabilities["browserVersion"]
-    failed = compare(page, f"Chromium {version}", expected)
+    failed = compare(page, f"Chromium {version}", expected) + compare_fields(page, f"Chromium {version}")
     page.quit()
     firefox = Firefox()
     try:
-        failed += compare(firefox, f"Firefox {firefox.version}", expected)
+        failed += compare(firefox, f"Firefox {firefox.version}", expected) + compare_fields(firefox, f"Firefox {firefox.version}")
         session = firefox.call(SESSION)
         wanted = {"replies": ["ok 1", "ok 2", "ok 3", "struck 1"], "nodes": 6, "verdict": "yes", "reviews": 6, "kept": "kept"}
         tiles = session.pop("tiles")

@@ -168,13 +168,13 @@ def a_bad_plan(page: Page) -> None:
     assert "Line 6 of the plan: the fields of a known packet don’t end at its L_PACKET" in text, text
     assert "In packet 0, at bit 114, V_TSR is due, and too few bits are left for it." in text, text
     page.shot("bad-plan")
-    page.css(".fault-view summary").click()
-    rows = [each.text.split(" ")[:3] for each in page.all(".fault-view tbody tr")]
+    page.css(".fields-view summary").click()
+    rows = [each.text.split(" ")[:3] for each in page.all(".fields-view tbody tr")]
     due = [line.split(" ") for line in fields_reference([wrong.decode().split("\n")[5]])]
     own = [[words[0], words[2], words[4]] for words in due[12:-1]]
     header = [[words[0], words[2], words[4]] for words in due[1:11]]
     assert rows == [*own, ["114", "V_TSR", "refused"], *header], rows
-    assert page.all(".fault-view tr")[-len(header) - 2].get_attribute("class") == "fault"
+    assert page.all(".fields-view tr")[-len(header) - 2].get_attribute("class") == "fault"
     page.button("Close", "dialog").click()
 
 

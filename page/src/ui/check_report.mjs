@@ -6,7 +6,7 @@ import { metresText } from '../core/variables.mjs';
 import { failureText } from './app.mjs';
 import { groupDiff } from './diff_view.mjs';
 import { button, h, icon, plural, put } from './dom.mjs';
-import { faultView } from './fault_view.mjs';
+import { fieldsView } from './fields_view.mjs';
 import { ROLES } from './roles.mjs';
 import { builtWith } from './worker_calls.mjs';
 
@@ -66,7 +66,7 @@ function fact(good, text, ...more) {
 function failureLines(failure) {
   const { name, title, usually, line } = failureText(failure);
   return [h('p.muted', null, h('code', null, name), ' ', title, '. ', usually, line && h('code.entry', null, line)),
-    faultView(failure.explained)];
+    fieldsView(failure.explained)];
 }
 
 /** @param {Checked} answer @param {Given} given */

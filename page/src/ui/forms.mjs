@@ -7,6 +7,7 @@ import { unknownPackets } from '../core/links.mjs';
 import { VARIABLES, namesGroups, packetName } from '../core/variables.mjs';
 import { dialog } from './dialogs.mjs';
 import { button, h, plural, put } from './dom.mjs';
+import { fieldsView } from './fields_view.mjs';
 import { PacketForm } from './packet_form.mjs';
 import { trialView } from './trial_view.mjs';
 
@@ -131,6 +132,31 @@ const kindChoice = (packets) => h('select', { 'aria-label': 'Packet' },
     packets.map(({ fields: [[, number]] }, i) => h('option', { value: `copy ${i}` }, `packet ${i}: ${number} · ${packetName(number)}`))),
   h('optgroup', { label: 'Other' }, h('option', { value: 'hex' }, 'digits of your own')));
 
+/** @param {number} count packets that are there */
+const placeChoice = (count) => select(
+  Array.from({ length: count + 1 },
+    (_, i) => [i, i === 0 ? '0 · first' : i === count ? `${i} · last` : `${i} · before packet ${i}`]),
+  String(count));
+
+/**
+ * An input for the digits of a packet. Below it stands what the engine reads in them.
+ * @param {App} app @param {number} version of the telegram
+ */
+function digitsInput(app, version) {
+  const below = h('div');
+  let latest = '';
+  const read = async () => {
+    const digits = latest = input.value.trim();
+    const line = `packet ${version} ${digits}`;
+    const explained = digits && !digits.includes(' ') && (await app.worker.call('explain', { line }).catch(() => undefined));
+    if (digits === latest) put(below, explained && fieldsView(explained));
+  };
+  const input = h('input.mono', {
+    value: '', placeholder: '41408e000000000000', spellcheck: 'false', autocomplete: 'off', oninput: read,
+  });
+  return { input, below, read };
+}
+
 /** @param {App} app @param {Place} place */
 export function insertDialog(app, { id, pig, telegram, digits }) {
   const { packets, m_version: version } = telegram;
@@ -139,33 +165,31 @@ export function insertDialog(app, { id, pig, telegram, digits }) {
   let form = null;
   const fields = h('div');
   const kind = kindChoice(packets);
-  const at = select(
-    Array.from({ length: packets.length + 1 },
-      (_, i) => [i, i === 0 ? '0 · first' : i === packets.length ? `${i} · last` : `${i} · before packet ${i}`]),
-    String(packets.length));
-  const own = h('input.mono',
-    { value: '', placeholder: '41408e000000000000', spellcheck: 'false', autocomplete: 'off' });
+  const at = placeChoice(packets.length);
+  const own = digitsInput(app, version);
   const choose = () => {
     const copied = kind.value.startsWith('copy') ? Number(kind.value.slice(5)) : -1;
     const changed = () => update();
     form = packets[copied]?.known ? formFor(packets[copied], changed)
       : LAYOUTS[Number(kind.value)] ? PacketForm.blank(Number(kind.value), changed) : null;
-    put(fields,
-      form ? form.element : row('Digits', own, 'NID_PACKET, Q_DIR, L_PACKET and what follows, filled up by zeros to whole bytes'));
+    put(fields, form ? form.element
+      : [row('Digits', own.input, 'NID_PACKET, Q_DIR, L_PACKET and what follows, filled up by zeros to whole bytes'), own.below]);
     if (!form && copied >= 0) copyDigits(copied);
   };
   /** @param {number} copied a packet that the engine keeps bit for bit */
   const copyDigits = async (copied) => {
     const all = await app.worker.call('packets', { digits });
     if (kind.value !== `copy ${copied}`) return;
-    own.value = all[copied];
+    own.input.value = all[copied];
+    own.read();
     update();
   };
   kind.addEventListener('change', choose);
   choose();
   const make = async () => {
     if (form?.error) return { error: form.error };
-    const hex = form ? await spelled(app, [packetItem(version, form.fields)]) : own.value.trim() ? [own.value.trim()] : { error: 'no digits yet' };
+    const typed = own.input.value.trim();
+    const hex = form ? await spelled(app, [packetItem(version, form.fields)]) : typed ? [typed] : { error: 'no digits yet' };
     return 'error' in hex ? hex : [`insert ${id} ${pig} ${at.value} ${hex[0]}`];
   };
   update = commandForm(app, `Put a packet into balise ${pig} of ${id}`, [row('Packet', kind), row('Place', at),

@@ -35,6 +35,7 @@ function start() {
   Object.assign(window, { baliseplan: {
     app, ready,
     run: (/** @type {Uint8Array} */ input, /** @type {number} */ flags) => worker.call('raw', { input, flags }),
+    fields: (/** @type {string} */ way, /** @type {Uint8Array} */ input) => worker.call('rawFields', { way, input }),
     open: (/** @type {{name: string, bytes: Uint8Array}[]} */ files) => openFiles(app, files.map((file) => ({ handle: null, ...file }))),
   } });
 }

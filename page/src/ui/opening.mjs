@@ -8,7 +8,7 @@ import { textOf } from '../core/texts.mjs';
 import { failureText } from './app.mjs';
 import { ask } from './dialogs.mjs';
 import { h, plural } from './dom.mjs';
-import { faultView } from './fault_view.mjs';
+import { fieldsView } from './fields_view.mjs';
 
 /**
  * @typedef {import('./app.mjs').App} App
@@ -101,7 +101,7 @@ function showRefusal(app, error, files) {
   ask('The engine refuses this', [
     h('p', null, h('b', null, title), '. ', h('code', null, name)),
     line && h('code.entry', null, line),
-    faultView(error.failure.explained),
+    fieldsView(error.failure.explained),
     usually && h('p.muted', null, usually),
     h('p.muted.small', null, files.map((file) => file.name).join(', ')),
   ], ['Close']);

@@ -76,8 +76,9 @@ const CALLS = {
   fits: ({ base, journal }) => fits(base, journal),
   check: ({ base, journal, delivered }) => (checker = new Checker(engine, { base, journal, delivered })).check(),
   checkLinks: () => checker?.links(),
-  /** The engine alone, for comparisons with the program. */
+  /** The engine alone, for comparisons with the program and the reference. */
   raw: ({ input, flags }) => engine.run(input, flags),
+  rawFields: ({ way, input }) => (way === 'spell' ? engine.spell(input) : engine.explain(input)),
 };
 
 self.onmessage = async ({ data }) => {

@@ -14,7 +14,7 @@ import { blankFields } from '../src/core/layouts.mjs';
 import { bytesOf, textOf } from '../src/core/texts.mjs';
 import { Refused, Session } from '../src/worker/session.mjs';
 import { explain, explainRefused, packetDigits, spell } from '../src/worker/speller.mjs';
-import { TOP, base, engine, none, opened, packetOf } from './setup.mjs';
+import { TOP, base, engine, none, opened, packetOf, telegramsOf } from './setup.mjs';
 
 /** The digits of a plan that the engine refuses: one bit of the first L_PACKET of 5.200 is another (docs/GUIDE.md). */
 const WRONG = textOf(base).replace('5023a0', '502320');
@@ -155,11 +155,14 @@ test('a bad plan is shown by the fields of its line', () => {
 test('a refused insert or add is shown by the fields of its digits', () => {
   const session = opened();
   const wrong = '41408e0000000000';
-  const commands = [`insert 5.200 0 0 ${wrong}`, `add 0 ${WRONG.split('\n')[5]}`, 'drop 9.9', `insert 9.9 0 0 ${wrong}`];
+  const [, , , , , telegram] = WRONG.split('\n');
+  const commands = [`insert 5.200 0 0 ${wrong}`, `add 0 ${telegram}`, 'drop 9.9', `insert 9.9 0 0 ${wrong}`,
+    `add 0 ${telegramsOf({ country: 5, number: 9, balises: 2, version: 33, long: false })[0]} ${telegram}`];
   for (const { replies } of [session.run(commands), session.try(commands)]) {
     const words = replies.map(({ explained }) => explained && faultWords(explained));
     assert.match(words[0] ?? '', /^In the packet, at bit 23, L_PACKET 71 leads past the end/);
     assert.match(words[1] ?? '', /^In packet 0, at bit 114, V_TSR is due/);
-    assert.deepEqual(words.slice(2), [undefined, undefined]);
+    assert.deepEqual(words.slice(2, 4), [undefined, undefined]);
+    assert.match(words[4] ?? '', /^Balise 1: In packet 0, at bit 114/);
   }
 });

@@ -69,9 +69,11 @@ const DUE = {
  * @param {Explained} explained
  */
 export function faultWords(explained) {
-  const { fault, alone } = explained;
+  const { fault, balise } = explained;
   if (!fault) return '';
   const { number, packet, bit, due } = fault;
-  if (number === 6) return `Packet 255 is due at bit ${bit}, after ${packet} packet${packet === 1 ? '' : 's'}, and too few bits are left.`;
-  return DUE[due]?.(bit, explained) ?? `${placeWords(explained)}, ${due} is due, and too few bits are left for it.`;
+  const words = number === 6
+    ? `Packet 255 is due at bit ${bit}, after ${packet} packet${packet === 1 ? '' : 's'}, and too few bits are left.`
+    : DUE[due]?.(bit, explained) ?? `${placeWords(explained)}, ${due} is due, and too few bits are left for it.`;
+  return balise === undefined ? words : `Balise ${balise}: ${words}`;
 }

@@ -12,8 +12,11 @@ import { linesOf } from './texts.mjs';
  * @typedef {{at: number, width: number, name: string, k: number, value: number}} Shown a field that the engine read
  * @typedef {{number: number, name: string, packet: number | null, bit: number, due: string}} Fault where digits are refused
  * @typedef {{fields: Shown[], rest: string}} Part a packet; `rest` is BITS HEX, or empty
- * @typedef {{alone: boolean, digits: number, header: Shown[], packets: Part[], fault: Fault | null}} Explained
- * alone: a packet by itself; digits: how many there are
+ * @typedef {object} Explained
+ * @property {boolean} alone a packet by itself
+ * @property {number} digits how many there are
+ * @property {Shown[]} header @property {Part[]} packets @property {Fault | null} fault
+ * @property {number} [balise] where the command has several telegrams
  */
 
 /** @param {Field[]} fields */

@@ -13,7 +13,7 @@ import { inWords } from '../core/words.mjs';
 import { Decoder, balisesOf, idOf } from './decoder.mjs';
 import { Overview } from './overview.mjs';
 import { loneDiff, planDiff } from './plan_diff.mjs';
-import { explainCommand, explainRefused } from './speller.mjs';
+import { explainCommand, explainRefused, isOfDigits } from './speller.mjs';
 
 /**
  * @typedef {import('../core/bits.mjs').Group} Group
@@ -107,12 +107,8 @@ export class Session {
       const text = this.groups[this.overview.ids.indexOf(id)];
       return text === undefined ? undefined : this.decoder.views([text])[0].telegrams[pig]?.m_version;
     };
-    let left = MOST_EXPLAINED;
-    for (const [i, reply] of replies.entries()) {
-      if (left === 0) return;
-      reply.explained = explainCommand(this.engine, reply.number, commands[i], versionOf);
-      if (reply.explained) left -= 1;
-    }
+    const refused = [...replies.keys()].filter((i) => isOfDigits(replies[i].number)).slice(0, MOST_EXPLAINED);
+    for (const i of refused) replies[i].explained = explainCommand(this.engine, replies[i].number, commands[i], versionOf);
   }
 
   /**
@@ -139,13 +135,14 @@ export class Session {
   run(commands, keepAccepted = false) {
     const whole = this.trial(commands);
     const refused = whole.replies.filter(({ kind }) => kind === 'refused').length;
-    if (refused > 0) this.#explain(commands, whole.replies);
+    this.#explain(commands, whole.replies);
     if (refused > 0
       && (!keepAccepted || refused === commands.length)) return { kept: false, replies: whole.replies, ms: whole.ms };
     const pieces = splitAtTurns(commands);
     if (pieces.length === 1) return this.#take(whole.parts, whole.replies, whole.ms);
     return pieces.map((piece) => {
       const { parts, replies, ms } = this.trial(piece);
+      this.#explain(piece, replies);
       return this.#take(parts, replies, ms);
     }).reduce((all, update) => ({
       ...update,

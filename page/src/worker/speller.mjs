@@ -6,10 +6,11 @@ import { bytesOf, textOf } from '../core/texts.mjs';
 
 /** @typedef {import('../core/engine.mjs').Engine} Engine */
 
-/** Refusals of digits: the engine says where they are refused. */
-const OF_DIGITS = { first: 2, last: 9 };
-/** @param {number} number */
-const isOfDigits = (number) => number >= OF_DIGITS.first && number <= OF_DIGITS.last;
+/**
+ * Whether a refusal is of digits: then the engine says where they are refused.
+ * @param {number} number
+ */
+export const isOfDigits = (number) => number >= 2 && number <= 9;
 
 /** @param {import('../core/engine.mjs').Run} run */
 function printed({ status, output }) {
@@ -57,13 +58,11 @@ export function explainRefused(engine, number, line) {
  */
 export function explainCommand(engine, number, command, versionOf) {
   const [kind, id, ...words] = command.split(' ');
-  if (!isOfDigits(number)) return undefined;
-  if (kind === 'add') {
-    for (const digits of words) {
-      const explained = explainRefused(engine, number, digits);
-      if (explained) return explained;
-    }
-  }
   const version = kind === 'insert' ? versionOf(id, Number(words[0])) : undefined;
-  return version === undefined ? undefined : explainRefused(engine, number, `packet ${version} ${words[2]}`);
+  const lines = kind === 'add' ? words : version === undefined ? [] : [`packet ${version} ${words[2]}`];
+  for (const [i, line] of lines.entries()) {
+    const explained = explainRefused(engine, number, line);
+    if (explained) return lines.length > 1 ? { ...explained, balise: i } : explained;
+  }
+  return undefined;
 }

@@ -98,8 +98,10 @@ function commandForm(app, title, rows, { make, verb, done }) {
     const commands = await asked(make);
     if (!('error' in commands)) put(tried, await trialView(app, commands));
   };
+  // Each change once: what is typed by `input`, what is chosen by `change`.
+  const changed = (/** @type {any} */ { type, target }) => { if (target.matches('select') === (type === 'change')) update(); };
   const form = h('form', {
-    oninput: update, onchange: update, onsubmit: (/** @type {Event} */ event) => { event.preventDefault(); run(); },
+    oninput: changed, onchange: changed, onsubmit: (/** @type {Event} */ event) => { event.preventDefault(); run(); },
   },
     rows, h('div.runs', null, h('span.muted', { 'aria-hidden': 'true' }, '›'), preview), refusal, tried,
     h('div.buttons', null,

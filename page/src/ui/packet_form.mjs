@@ -17,7 +17,10 @@ import { button, h, put } from './dom.mjs';
 const MOST_PARTS = 31;
 
 export class PacketForm {
-  /** @param {number} number @param {number} direction @param {Node[]} nodes @param {() => void} changed */
+  /**
+   * What is typed tells the form around it by its own event; `changed` tells of parts that are added or taken out.
+   * @param {number} number @param {number} direction @param {Node[]} nodes @param {() => void} changed
+   */
   constructor(number, direction, nodes, changed) {
     this.number = number;
     this.direction = direction;
@@ -80,7 +83,7 @@ export class PacketForm {
     const input = valueInput(name, leaf.value);
     const sense = h('small.sense');
     this.inputs.set(leaf, { input, sense });
-    input.addEventListener('input', () => {
+    input.addEventListener(input.matches('select') ? 'change' : 'input', () => {
       const raw = rawValue(name, input.value, this.#scale);
       const error = 'error' in raw ? raw.error : raw.value > mostOf(name) ? `at most ${mostOf(name)}` : '';
       if (error) this.errors.set(leaf, error);
@@ -88,7 +91,6 @@ export class PacketForm {
       if (!error && 'value' in raw) set(leaf.value = raw.value);
       if (VARIABLES[name].steering) this.#repaintAt(leaf);
       this.#senses();
-      this.changed();
     });
     return h('label.field-row', null,
       h('span', null, h('b.mono', null, name), ' ', h('small.muted', null, VARIABLES[name].what)), input, sense);

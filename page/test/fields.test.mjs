@@ -166,3 +166,10 @@ test('a refused insert or add is shown by the fields of its digits', () => {
     assert.match(words[4] ?? '', /^Balise 1: In packet 0, at bit 114/);
   }
 });
+
+test('bits become digits for showing alone', () => {
+  const source = path.join(TOP, 'page/src');
+  const users = ['core', 'ui', 'worker'].flatMap((folder) => fs.readdirSync(path.join(source, folder)).map((/** @type {string} */ name) => `${folder}/${name}`))
+    .filter((/** @type {string} */ name) => /\bdigitsOf\b/.test(fs.readFileSync(path.join(source, name), 'utf8')));
+  assert.deepEqual(users, ['core/bits.mjs', 'ui/packet_card.mjs']);
+});

@@ -32,8 +32,7 @@ function randomPacket(random, number) {
   /** @param {import('../src/core/layouts.mjs').Node[]} nodes */
   const fill = (nodes) => {
     for (const node of nodes) {
-      if ('name' in node) node.value = node.name === 'Q_DIFF' ? random(3)
-        : random(node.name.startsWith('Q_NEW') ? 2 : 1) + random(2);
+      if ('name' in node) node.value = random(node.name === 'Q_DIFF' ? 3 : 2);
       else if ('when' in node) fill(node.nodes);
       else {
         for (let more = random(3); more > 0; more -= 1) node.list.push(formOf(number, []).flatMap((each) => ('part' in each && each.part === node.part ? each.list[0] ?? [] : [])));

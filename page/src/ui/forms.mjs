@@ -26,7 +26,7 @@ const numberInput = (value, most, least = 0) => h('input',
 const select = (options, chosen) => h('select', null,
   options.map(([value, text]) => h('option', { value, selected: String(value) === chosen }, text)));
 
-/** @typedef {string[] | {error: string}} Made commands, or why there are none yet */
+/** @typedef {string[] | {error: string, again?: boolean}} Made commands, or why there are none yet; again: it may be asked again */
 
 /**
  * Has the engine make the digits of items.
@@ -39,14 +39,14 @@ async function spelled(app, items) {
 }
 
 /**
- * What a form makes now; a call that fails is a reason too.
+ * What a form makes now. A call that fails, as where the engine stopped, is a reason too.
  * @param {() => Made | Promise<Made>} make @returns {Promise<Made>}
  */
 async function asked(make) {
   try {
     return await make();
   } catch (error) {
-    return { error: /** @type {any} */ (error).message };
+    return { error: /** @type {any} */ (error).message, again: true };
   }
 }
 
@@ -65,7 +65,7 @@ function previewed(make, preview, submit, clear) {
     const made = await asked(make);
     clearTimeout(slow);
     if (mine !== latest) return;
-    submit.disabled = 'error' in made;
+    submit.disabled = 'error' in made && !made.again;
     put(preview, 'error' in made ? made.error : made.join('\n'));
   };
 }
@@ -86,7 +86,8 @@ function commandForm(app, title, rows, { make, verb, done }) {
     if (running) return;
     running = true;
     const commands = await asked(make);
-    if (!('error' in commands)) {
+    if ('error' in commands) put(refusal, commands.error);
+    else {
       const { kept, replies } = await app.run(commands);
       if (kept) element.close();
       if (kept) done?.();

@@ -5,8 +5,8 @@ import time
 from pathlib import Path
 
 from browser import Page
-from edit_flows import empty_box, go_to, set_value
-from runner import BASE, fields_reference, native
+from edit_flows import empty_box, fill, form_of, go_to, set_value, shows
+from runner import BASE, digits_of, fields_reference, native
 from selenium.webdriver.common.keys import Keys
 
 STUB = """window.written = {}; window.failing = '';
@@ -138,6 +138,19 @@ def the_engine_stops(page: Page) -> None:
     page.said("ok")
 
 
+def the_engine_stops_under_a_form(page: Page) -> None:
+    """What was filled in stays, and the engine that was started again makes its digits."""
+    go_to(page, "100", "5.100")
+    form_of(page, 0, 66)
+    fill(page, "NID_TSR", "7")
+    page.call("baliseplan.app.worker.worker.onerror({message: 'made to stop'})")
+    page.wait(lambda: "5 groups" in page.text(".state") and page.call("await baliseplan.app.worker.call('plan'); return true"))
+    assert page.css("dialog .field-row input").get_attribute("value") == "7"
+    fill(page, "NID_TSR", "8")
+    shows(page, f"insert 5.100 0 1 {digits_of('packet 33', 'NID_PACKET 66', 'Q_DIR 1', 'NID_TSR 8')}")
+    page.button("Cancel", "dialog").click()
+
+
 def a_file_from_windows(page: Page) -> None:
     page.call("baliseplan.app.savedJournal = baliseplan.app.journal")
     page.drop(("windows.plan", b"\xef\xbb\xbf" + BASE.replace(b"\n", b"\r\n")))
@@ -213,6 +226,6 @@ def no_network(page: Page) -> None:
 
 FLOWS = [
     opened, saved_by_downloads, saved_in_place, a_full_disk, never_onto_the_base_plan, leaving_warns, resumed_after_a_crash,
-    another_plan_loses_nothing, a_full_store_is_said, the_engine_stops, a_file_from_windows, hostile_names_are_text,
-    a_bad_plan, a_journal_of_another_plan, unknown_files, no_network,
+    another_plan_loses_nothing, a_full_store_is_said, the_engine_stops, the_engine_stops_under_a_form,
+    a_file_from_windows, hostile_names_are_text, a_bad_plan, a_journal_of_another_plan, unknown_files, no_network,
 ]  # fmt: skip

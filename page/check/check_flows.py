@@ -81,7 +81,7 @@ def a_byte_order_mark(page: Page) -> None:
 def a_cut(page: Page) -> None:
     assert check(page, PLAN[:-20]) == "delivered"
     assert "may be cut off" in page.text(".facts") and "Line 13 of the plan" in page.text(".facts")
-    assert "A telegram takes 54 digits for its 210 bits, or 208 for 830." in page.text(".fields-view")
+    assert "There are 35 digits, an odd number: one is missing at the end." in page.text(".fields-view")
 
 
 def the_request(page: Page) -> None:

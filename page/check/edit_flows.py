@@ -85,6 +85,10 @@ def command_with_completion(page: Page) -> None:
     assert "set 5.200 1 0 L_TSR 0 450" in page.said("ok 2")
 
 
+CONTROL = """const rows = [...document.querySelectorAll('dialog .field-row')].filter((row) => row.querySelector('b').textContent === arguments[0]);
+return rows[arguments[1]].querySelector('input, select')"""
+
+
 def form_of(page: Page, balise: int, number: int) -> None:
     """The form of a new packet."""
     page.button(f"Put a packet into balise {balise}").click()
@@ -94,8 +98,7 @@ def form_of(page: Page, balise: int, number: int) -> None:
 
 def fill(page: Page, name: str, value: str, k: int = 0) -> None:
     """Types a value into a form; a choice is taken by its number."""
-    rows = [each for each in page.all("dialog .field-row") if each.find_element(By.CSS_SELECTOR, "b").text == name]
-    control = rows[k].find_element(By.CSS_SELECTOR, "input, select")
+    control = page.driver.execute_script(CONTROL, name, k)
     if control.tag_name == "select":
         control.find_element(By.CSS_SELECTOR, f'option[value="{value}"]').click()
     else:

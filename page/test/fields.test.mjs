@@ -127,7 +127,7 @@ test('digits that are refused: where, and what was due, in words', () => {
     [digitsOf(noEnd), 6, 'Packet 255 is due at bit 207, after 1 packet, and too few bits are left.'],
     ['packet 33 42403e01', 4, 'Bit 31 isn’t zero, and stands after the last one.'],
     ['packet 33 42403e0000', 3, 'There are 40 bits. L_PACKET says how many a packet takes, filled up to a whole byte.'],
-    ['packet 33 42403e0', 2, 'The number of digits is odd: one is missing after 7.'],
+    ['packet 33 42403e0', 2, 'There are 7 digits, an odd number: one is missing at the end.'],
     [telegram.replace('f', 'g'), 2, `Character ${telegram.indexOf('f') + 1} isn’t a hexadecimal digit.`],
     [telegram.slice(2), 3, 'There are 208 bits. A telegram takes 54 digits for its 210 bits, or 208 for 830.'],
     ['2' + telegram.slice(1), 5, 'Bit 0, Q_UPDOWN, has to be 1.'],

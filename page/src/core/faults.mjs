@@ -54,7 +54,7 @@ function valueWords({ packets }) {
 /** @type {Record<string, (bit: number, explained: Explained) => string>} by what was due, where it is no variable */
 const DUE = {
   digit: (bit, { digits }) => (bit / 4 < digits ? `Character ${bit / 4 + 1} isn’t a hexadecimal digit.`
-    : `The number of digits is odd: one is missing after ${digits}.`),
+    : `There are ${digits} digits, an odd number: one is missing at the end.`),
   length: (bit, { alone }) => `There are ${bit} bits. ${alone ? 'L_PACKET says how many a packet takes, filled up to a whole byte.'
     : 'A telegram takes 54 digits for its 210 bits, or 208 for 830.'}`,
   zero: (bit) => `Bit ${bit} isn’t zero, and stands after the last one.`,

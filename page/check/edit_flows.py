@@ -213,6 +213,8 @@ def refused_digits(page: Page) -> None:
     page.button("Insert", "dialog").click()
     page.wait(lambda: "In the packet, at bit 33, D_TSR is due, and too few bits are left for it." in page.text("dialog .refusal"))
     page.shot("refused-digits")
+    wide = "return [...document.querySelectorAll('#app, .command-bar, main')].filter((e) => e.getBoundingClientRect().width > innerWidth).length"
+    assert page.call(wide) == 0, "a long reason makes the page wider than the window"
     page.button("Cancel", "dialog").click()
 
 

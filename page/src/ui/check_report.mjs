@@ -65,7 +65,7 @@ function fact(good, text, ...more) {
 /** @param {import('../worker/session.mjs').Failure} failure */
 function failureLines(failure) {
   const { name, title, usually, line } = failureText(failure);
-  return [h('p.muted', null, h('code', null, name), ' ', title, '. ', usually, line && h('code.entry', null, line)),
+  return [h('p.muted', null, h('code', null, name), ' ', title, '. ', !failure.explained && usually, line && h('code.entry', null, line)),
     fieldsView(failure.explained)];
 }
 

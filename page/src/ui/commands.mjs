@@ -125,6 +125,7 @@ function logDrawer(app) {
     const line = app.log[app.log.length - 1];
     const ms = line?.ms ? `${line.ms < 10 ? line.ms.toFixed(1) : Math.round(line.ms)} ms` : '';
     put(last, line && [answer(app, line), h('span.muted.small.ms', null, ms), h('code.muted', null, line.command)]);
+    last.title = last.textContent;
     if (!open) return;
     put(log,
       app.log.slice(-MOST_IN_LOG).map((each) => h('li', null, h('code', null, each.command), h('span', null, answer(app, each)), button({ icon: 'copy', title: 'Copy ' + each.command, class: 'quiet', onclick: () => copy(each.command) }))));

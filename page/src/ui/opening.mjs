@@ -102,7 +102,7 @@ function showRefusal(app, error, files) {
     h('p', null, h('b', null, title), '. ', h('code', null, name)),
     line && h('code.entry', null, line),
     fieldsView(error.failure.explained),
-    usually && h('p.muted', null, usually),
+    usually && !error.failure.explained && h('p.muted', null, usually),
     h('p.muted.small', null, files.map((file) => file.name).join(', ')),
   ], ['Close']);
 }

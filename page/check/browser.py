@@ -22,6 +22,8 @@ PAGE = Path(os.environ.get("PAGE", TOP / "page/baliseplan.html")).resolve()
 SHOTS = Path(os.environ.get("SHOTS", TOP / "page/out/shots"))
 
 READY = "while (!window.baliseplan) await new Promise((r) => setTimeout(r, 10)); await baliseplan.ready; return true"
+BUTTON = """return [...document.querySelectorAll(arguments[0])].find((each) => each.checkVisibility({visibilityProperty: true}) && each.getClientRects().length > 0
+  && (each.innerText.trim() === arguments[1] || each.title.startsWith(arguments[1]) || each.getAttribute('aria-label') === arguments[1])) ?? null"""
 WRAP = (
     "const done = arguments[arguments.length - 1], args = [...arguments].slice(0, -1);"
     "(async () => {BODY})().then((v) => done({v}), (e) => done({e: String(e && e.stack || e)}))"
@@ -90,15 +92,7 @@ class Page:
 
     def button(self, words: str, within: str = "body") -> Any:
         """A button by its text, its name, or how its title begins."""
-
-        def find() -> Any:
-            for each in self.all(within + " button"):
-                title = each.get_attribute("title") or ""
-                if each.is_displayed() and (each.text.strip() == words or title.startswith(words) or each.get_attribute("aria-label") == words):
-                    return each
-            return None
-
-        return self.wait(find)
+        return self.wait(lambda: self.driver.execute_script(BUTTON, within + " button", words))
 
     def click_row(self, listed: str, start: str) -> None:
         """Clicks the row of a list that begins so, also where the list is just drawn anew."""

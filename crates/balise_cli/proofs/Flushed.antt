@@ -1,8 +1,7 @@
 -- What a run wrote is still there once it is flushed.
-use Rattle.std.proofs.Common.{◌≡◌, ℕ, Bool, true, List, ◌++◌, OnOk, Option, Result, Ok, Err, is_ok, subst, sym, ◌∙◌}
+use Rattle.std.proofs.Common.{ℕ, List, ◌++◌, Option, Result, Ok, Err}
 use Rattle.std.specs.Io.KnownBytes.{Keeps}
 use Rattle.std.proofs.KnownBytes.{Appends-kept}
-use Rattle.balise_lines.specs.Counts.{Counts}
 use Rattle.balise_lines.specs.Lines.{Line}
 use Rattle.balise_arguments.specs.declared.options.Flags.{Flags}
 use Rattle.balise_text.specs.Texts.{Text}

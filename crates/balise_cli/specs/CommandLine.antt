@@ -1,9 +1,7 @@
 -- What the program does with the command line as the system hands it over.
-use Rattle.std.specs.Prelude.{◌≡◌, ◌⊎◌, List, Option, None, codes}
+use Rattle.std.specs.Prelude.{◌≡◌, ◌⊎◌, List, Option}
 use Rattle.std.specs.declared.io.buffered.BufWriter.{BufWriter}
-use Rattle.balise_lines.specs.Writing.{LastFailed, WritesAll, WritesSome}
 use Rattle.balise_lines.specs.declared.counted.Counted.{Counted}
-use Rattle.balise_arguments.specs.declared.fault.ArgsFault.TheVariants.{Memory}
 use Rattle.balise_text.specs.Texts.{Text}
 use Rattle.balise_program.specs.Reporting.{StopsWithoutMemory}
 use Rattle.balise_cli.specs.Program.{Starts}

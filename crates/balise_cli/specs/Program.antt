@@ -1,17 +1,12 @@
 -- What the program does with its words and its three streams.
-use Rattle.std.specs.Prelude.{◌≡◌, ◌⊎◌, ◌↔◌, ℕ, Bool, true, false, IsTrue, IfErr, IfOk, IsErrOf, List, [], OnErr, OnOk, Option, Some, None, Result, Ok, Err, codes}
+use Rattle.std.specs.Prelude.{◌≡◌, ◌↔◌, ℕ, Bool, true, IsTrue, IfErr, IfOk, IsErrOf, List, [], OnErr, OnOk, Option, Result, Ok, Err, codes}
 use Rattle.std.specs.Io.Buffered.{writer_buffer, writer_contents}
 use Rattle.std.specs.declared.io.buffered.BufWriter.{BufWriter}
-use Rattle.balise_rules.specs.declared.refusal.Refusal.{Refusal}
-use Rattle.balise_lines.specs.Counts.{one_more}
-use Rattle.balise_lines.specs.Writing.{LastFailed, WritesAll, WritesSome}
 use Rattle.balise_lines.specs.declared.counted.Counted.{Counted}
 use Rattle.balise_arguments.specs.Arguments.{AreAccepted, IsUsed}
 use Rattle.balise_arguments.specs.Faults.{IsFaultOf}
 use Rattle.balise_arguments.specs.declared.fault.ArgsFault.{ArgsFault}
-use Rattle.balise_arguments.specs.declared.fault.ArgsFault.TheVariants.{Help, Memory, Other}
 use Rattle.balise_arguments.specs.declared.options.Flags.{Flags}
-use Rattle.balise_text.specs.Replies.{fault_line}
 use Rattle.balise_text.specs.Texts.{Text}
 use Rattle.balise_cli.specs.Ends as ends
 use Rattle.balise_program.specs.Exits.{exit_after_arguments}

@@ -1,14 +1,9 @@
 -- What the program does with its words and its three streams.
-use Rattle.std.specs.Prelude.{◌≡◌, ◌⊎◌, ℕ, Bool, true, false, List, [], Option, Some, None, Result, Ok, Err}
+use Rattle.std.specs.Prelude.{◌≡◌, ℕ, Bool, true, List, [], Option, Result, Ok, Err}
 use Rattle.std.specs.Io.Buffered.{writer_buffer, writer_contents}
 use Rattle.std.specs.declared.io.buffered.BufWriter.{BufWriter}
-use Rattle.balise_rules.specs.declared.refusal.Refusal.{Refusal}
-use Rattle.balise_lines.specs.Counts.{one_more}
-use Rattle.balise_lines.specs.Writing.{LastFailed, WritesAll, WritesSome}
 use Rattle.balise_lines.specs.declared.counted.Counted.{Counted}
 use Rattle.balise_arguments.specs.declared.fault.ArgsFault.{ArgsFault}
-use Rattle.balise_arguments.specs.declared.fault.ArgsFault.TheVariants.{Help, Memory, Other}
-use Rattle.balise_text.specs.Replies.{fault_line}
 use Rattle.balise_text.specs.Texts.{Text}
 use Rattle.balise_fields_run.specs.Ways.{RanBy}
 use Rattle.balise_text.specs.declared.run_fault.RunFault.{RunFault}

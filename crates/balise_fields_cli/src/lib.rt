@@ -8,6 +8,6 @@ mod on_system;
 mod program;
 
 pub use balise_lines::Counted;
-pub use balise_rules::Refusal;
 pub use balise_program::{Exit, stop_without_memory};
+pub use balise_rules::Refusal;
 pub use command_line::launch;

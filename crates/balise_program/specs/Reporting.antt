@@ -1,5 +1,5 @@
 -- What a program says of its end and of its arguments.
-use Rattle.std.specs.Prelude.{◌≡◌, ◌⊎◌, ℕ, Bool, true, false, [], List, Option, Some, None, codes}
+use Rattle.std.specs.Prelude.{◌≡◌, ◌⊎◌, ℕ, Bool, true, false, [], Option, Some, None, codes}
 use Rattle.balise_rules.specs.declared.refusal.Refusal.{Refusal}
 use Rattle.balise_lines.specs.Counts.{one_more}
 use Rattle.balise_lines.specs.Writing.{LastFailed, WritesAll, WritesSome}

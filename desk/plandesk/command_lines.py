@@ -21,7 +21,7 @@ FORMS = {
     "strike": "strike S",
 }
 """The engine's commands."""
-KINDS = frozenset({*FORMS, "put"})
+KINDS = frozenset({*FORMS, "put", "replace"})
 BYTE_ORDER_MARK = "\xef\xbb\xbf"
 
 

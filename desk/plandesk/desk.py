@@ -27,6 +27,8 @@ class Outcome:
     run: Run
     kept: bool
     new_reviews: Reviews
+    halved: bool = False
+    """Whether of the commands of one line some were accepted and some refused. Such are never kept."""
 
     @property
     def pairs(self) -> list[tuple[str, Reply]]:
@@ -145,18 +147,35 @@ def load(folder: Folder, engine: Engine, *, strict: bool = True) -> State:
     return state
 
 
-def do(state: State, commands: Sequence[str], *, keep_accepted: bool = False, dry_run: bool = False) -> Outcome:
-    """Does commands after the journal. Keeps all or nothing, or with `keep_accepted` what was accepted."""
+def do(
+    state: State,
+    commands: Sequence[str],
+    *,
+    keep_accepted: bool = False,
+    dry_run: bool = False,
+    origins: Sequence[int] = (),
+) -> Outcome:
+    """Does commands after the journal. Keeps all or nothing, or with `keep_accepted` what was accepted.
+
+    `origins` has the line that each command comes from: the commands of one line are never kept in part.
+    """
     run = state.engine.run(state.base, state.journal_text, commands)
     check_again(state, run)
     found = new_reviews(state.engine, state.base, state.journal_text, commands, run, state.reviews)
-    kept = not dry_run and bool(commands) and (keep_accepted or not run.refused)
+    half = halved(run, origins)
+    kept = not dry_run and bool(commands) and (keep_accepted and not half or not run.refused)
     if kept:
         texts = {files.JOURNAL: run.journal, files.LINE: run.plan}
         if found.items:
             texts[files.REVIEWS] = state.reviews.plus(found).text()
         state.folder.write(texts)
-    return Outcome(tuple(commands), run, kept, found)
+    return Outcome(tuple(commands), run, kept, found, half)
+
+
+def halved(run: Run, origins: Sequence[int]) -> bool:
+    """Whether of the commands of one line some were accepted and some refused."""
+    answers = {(origin, reply.refused) for origin, reply in zip(origins, run.replies, strict=False)}
+    return any((origin, not refused) in answers for origin, refused in answers)
 
 
 def check_again(state: State, run: Run) -> None:

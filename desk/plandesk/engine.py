@@ -5,16 +5,16 @@ from __future__ import annotations
 import os
 import shlex
 import shutil
-import subprocess
 from collections.abc import Iterable, Sequence
 from dataclasses import dataclass, field
 from functools import cached_property
 from hashlib import sha256
 from pathlib import Path
 
+from plandesk.bad_input import bad_input
 from plandesk.damage import damage_of
 from plandesk.errors import BadInput, Fault, Usage
-from plandesk.refusals import text_of
+from plandesk.process import run_program
 from plandesk.view import Groups
 
 REVIEW = "review "
@@ -106,7 +106,7 @@ class Engine:
         flags = ["--journal", "--json"] if view else ["--journal"]
         status, output, error = self.raw(text, flags, seconds)
         if status == 2:
-            raise self._bad_input(output, base, journal, name)
+            raise bad_input(self.words[-1], output, base, journal, name)
         if status not in (0, 1):
             raise Fault(f"{self.words[-1]} ended with status {status}: {error.strip() or 'no message'}")
         run = self._parts(output, len(lines), view)
@@ -128,33 +128,7 @@ class Engine:
 
     def raw(self, text: str, flags: Sequence[str], seconds: float | None = None) -> tuple[int, str, str]:
         """Status, output and standard error of a run."""
-        try:
-            done = subprocess.run(
-                [*self.words, *flags], input=text.encode("latin-1"), capture_output=True, timeout=seconds
-            )
-        except OSError as error:
-            raise Fault(f"{self.name} can't be run: {error.strerror}", "set BALISEPLAN to the engine") from None
-        except subprocess.TimeoutExpired:
-            raise Fault(f"{self.words[-1]} took more than {seconds:g} s") from None
-        return done.returncode, done.stdout.decode("latin-1"), done.stderr.decode("latin-1")
-
-    def _bad_input(self, output: str, base: str, journal: str, name: str) -> BadInput:
-        words = output.split()
-        if len(words) != 4 or not words[1].isdigit() or not words[2].isdigit():
-            return BadInput(f"{self.words[-1]} refused its input: {output.strip()}")
-        line, number = int(words[1]), int(words[2])
-        lines_of_base = base.count("\n")
-        text, what, at = base + "edits\n", name, line
-        if journal and line > lines_of_base:
-            text, what, at = journal + "edits\n", "the journal", line - lines_of_base
-        shown = text.split("\n")[at - 1] if at <= text.count("\n") else ""
-        if shown == "edits":
-            return BadInput(f"{what} ends too early: {text_of(number)} ({number} {words[3]})")
-        return BadInput(f"{what}, line {at}, `{shortened(shown)}`: {text_of(number)} ({number} {words[3]})")
-
-
-def shortened(line: str, most: int = 60) -> str:
-    return line if len(line) <= most else f"{line[: most - 3]} .."
+        return run_program(self.words, flags, text, seconds, "set BALISEPLAN to the engine")
 
 
 def check_text(text: str, what: str) -> None:

@@ -17,6 +17,10 @@ class BadInput(DeskError):
     """A plan or a journal was refused."""
 
 
+class BadDigits(BadInput):
+    """One was refused for digits in it. The hint says where they are wrong."""
+
+
 class Refusal(DeskError):
     """A command was refused, and nothing was kept."""
 

@@ -7,9 +7,13 @@ from collections.abc import Callable
 
 from plandesk.command_lines import FORMS
 from plandesk.engine import Reply
+from plandesk.faults import OF_DIGITS, packet_fault, telegrams_fault
 from plandesk.refusals import text_of
 from plandesk.view import Group, Groups, Packet, links_of
 from plandesk.vocabulary import HEADER_SET, is_steering, packet_name, variable, variables
+
+ANY_VERSION = 33
+"""For digits that are refused before their telegram is looked for."""
 
 
 def explain(command: str, reply: Reply, groups: Groups) -> str:
@@ -19,8 +23,27 @@ def explain(command: str, reply: Reply, groups: Groups) -> str:
     words = command.split(" ")
     if reply.number == 1:
         return _form(words, groups)
+    if reply.number in OF_DIGITS and words[0] in ("insert", "add"):
+        return f"{text_of(reply.number)}; {_wrong_digits(words, reply.number, groups)}"
     special = SPECIAL.get(reply.number)
     return special(words, groups) if special else text_of(reply.number)
+
+
+def _wrong_digits(words: list[str], number: int, groups: Groups) -> str:
+    """Where the digits of an insert or add are wrong."""
+    if words[0] == "insert":
+        version = version_of(words, groups)
+        return packet_fault(ANY_VERSION if version is None else version, words[4], number)
+    return telegrams_fault(words[2:], number)
+
+
+def version_of(words: list[str], groups: Groups) -> int | None:
+    """M_VERSION of the telegram that an insert names. None where the plan hasn't it."""
+    group = groups.named(words[1])
+    try:
+        return dict(group.telegrams[int(words[2])].header)["M_VERSION"] if group else None
+    except (IndexError, ValueError):
+        return None
 
 
 def _form(words: list[str], groups: Groups) -> str:

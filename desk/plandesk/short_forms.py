@@ -3,6 +3,8 @@
 - `set 5.200 1 0 V_TSR 0 30km/h` and `.. L_TSR 0 450m`: a value with its unit, by Q_SCALE of the packet at that moment.
 - `add after 5.200 HEX ..`: the place by the group before it.
 - `put 65 5.200 1 1 NID_TSR=6 D_TSR=700m V_TSR=60km/h`: one insert; the engine makes the digits.
+- `insert .. @FILE` and `add .. @FILE`: the digits as fields in a file (spelled.py).
+- `replace 5.200 1 0 @FILE`: a delete and an insert at the same place, which are kept together or not at all.
 
 What was written out is shown, and only that is run and kept.
 """
@@ -15,7 +17,9 @@ from dataclasses import dataclass
 from plandesk.amounts import NoAmount, has_unit, raw_value
 from plandesk.engine import Engine, Reply
 from plandesk.errors import Refusal
-from plandesk.explain import explain
+from plandesk.explain import explain, version_of
+from plandesk.spare import SPARE, spare_plan
+from plandesk.spelled import MARK, packet_digits, telegram_digits
 from plandesk.view import Groups, bits_of, digits_of, telegrams_of
 from plandesk.vocabulary import is_distance, is_steering, packet_name, variable
 
@@ -30,9 +34,7 @@ EMPTY = {
 }
 """The shortest form of each known packet with all values 0 (docs/FORMATS.md, Packets)."""
 PUT = "put PACKET C.N PIG AT VAR=VALUE .."
-SPARE = "5.100 0"
-SPARE_PLAN = f"plan 1\ngroup\na1007f80a0327f{'f' * 193}c\n"
-"""A telegram of version 2.1 with nothing in it."""
+REPLACE = "replace C.N PIG PKT HEX"
 
 
 @dataclass(frozen=True)
@@ -52,26 +54,56 @@ class Writer:
         self._met: Groups | None = None
 
     def write_out(self, lines: Sequence[str]) -> Written:
-        for line in lines:
-            command = self._command(line)
-            if not _keeps_places(command):
+        origins: list[int] = []
+        for at, line in enumerate(lines):
+            commands = self._commands(line)
+            if not all(map(_keeps_places, commands)):
                 self._met = None
-            self.done.append(command)
-        return Written(tuple(self.done), tuple(range(len(lines))))
+            self.done += commands
+            origins += [at] * len(commands)
+        return Written(tuple(self.done), tuple(origins))
 
-    def _command(self, line: str) -> str:
+    def _commands(self, line: str) -> list[str]:
         words = line.split(" ")
+        if words[0] == "replace":
+            if len(words) != 5:
+                raise Refusal(f"`{line}`: the form is `{REPLACE}`")
+            return [f"delete {' '.join(words[1:4])}", self._insert(words)]
         if words[0] == "put":
-            return _put(self.engine, words)
-        if words[:2] == ["add", "after"] and len(words) > 3:
-            place = self.met.places.get(words[2])
-            if place is None:
-                raise Refusal(f"`{line[:60]} ..`: the plan has no group {words[2]} then")
-            return " ".join(["add", str(place + 1), *words[3:]])
+            return [_put(self.engine, words)]
+        if words[0] == "insert" and len(words) == 5:
+            return [self._insert(words)]
+        if words[0] == "add":
+            return [self._add(words)]
         if words[0] == "set" and len(words) == 7 and variable(words[4]) and has_unit(words[6]):
             scale = _scale(self.met, words) if is_distance(words[4]) else None
-            return " ".join([*words[:6], str(_raw(words[4], words[6], scale, line))])
-        return line
+            return [" ".join([*words[:6], str(_raw(words[4], words[6], scale, line))])]
+        return [line]
+
+    def _insert(self, words: list[str]) -> str:
+        """An insert, its digits by the fields of a file where they are given so."""
+        digits = words[4]
+        if digits.startswith(MARK):
+            version = version_of(words, self.met)
+            if version is None:
+                number = 15 if words[1] in self.met.places else 14
+                raise Refusal(f"`{' '.join(words)}`: {explain(' '.join(words), Reply(f'refused {number}'), self.met)}")
+            digits = packet_digits(self.engine, digits.removeprefix(MARK), version)
+        return " ".join(["insert", *words[1:4], digits])
+
+    def _add(self, words: list[str]) -> str:
+        """An add, its place by the group before it, its digits by the fields of a file, where they are given so."""
+        if words[1:2] == ["after"] and len(words) > 3:
+            place = self.met.places.get(words[2])
+            if place is None:
+                raise Refusal(f"`{' '.join(words)[:60]} ..`: the plan has no group {words[2]} then")
+            words = ["add", str(place + 1), *words[3:]]
+        digits = [
+            each
+            for word in words[2:]
+            for each in (telegram_digits(self.engine, word.removeprefix(MARK)) if word.startswith(MARK) else [word])
+        ]
+        return " ".join([*words[:2], *digits])
 
     @property
     def met(self) -> Groups:
@@ -115,7 +147,7 @@ def _put(engine: Engine, words: list[str]) -> str:
         name = packet_name(number)
         raise Refusal(f"`{line}`: `put` writes {known}. Packet {number} ({name}) takes an insert with its digits")
     commands = [f"insert {SPARE} 0 {EMPTY[number]}", *_sets(_values(words[5:], line), line)]
-    run = engine.run(SPARE_PLAN, "", commands)
+    run = engine.run(spare_plan(), "", commands)
     for command, reply in zip(commands, run.replies, strict=True):
         if reply.refused:
             raise Refusal(f"`{line}`: {_why(number, command, reply, run.groups)}")

@@ -12,7 +12,7 @@ from plandesk import folder as files
 from plandesk.compare import Plan, compare
 from plandesk.damage import clean, damage_of
 from plandesk.engine import Engine, Run
-from plandesk.errors import DeskError, Fault
+from plandesk.errors import BadDigits, DeskError, Fault
 from plandesk.journal import read_journal
 from plandesk.matching import by_content
 from plandesk.rows import brief
@@ -94,7 +94,8 @@ def verify(delivery: Delivery, engine: Engine, reference: Engine | None, limit: 
         verdict = Verdict(delivery.name, UNKNOWN, findings=(fault.message,))
     except DeskError as error:
         result = UNKNOWN if "can't be read" in error.message else REFUSED
-        verdict = Verdict(delivery.name, result, findings=(error.message,))
+        more = (error.hint,) if isinstance(error, BadDigits) else ()
+        verdict = Verdict(delivery.name, result, findings=(error.message, *more))
     except Exception as error:  # a damaged output of a program that isn't the engine
         verdict = Verdict(delivery.name, UNKNOWN, findings=(f"the programs' output can't be read: {error!r}",))
     return replace(verdict, seconds=round(time.monotonic() - start, 3))

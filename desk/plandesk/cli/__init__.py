@@ -1,6 +1,6 @@
 """The commands. Each reads its arguments, calls the modules below, and prints."""
 
-from plandesk.cli import begin, deliver, diffs, look, reviewing, strikes, work
+from plandesk.cli import begin, deliver, diffs, fielding, look, reviewing, strikes, work
 from plandesk.cli.base import main
 
-__all__ = ["begin", "deliver", "diffs", "look", "main", "reviewing", "strikes", "work"]
+__all__ = ["begin", "deliver", "diffs", "fielding", "look", "main", "reviewing", "strikes", "work"]

@@ -26,6 +26,7 @@ bad, 3 a fault (disk, memory, no engine), 64 wrong arguments, 130 stopped by han
 
 \b
 BALISEPLAN            the engine, where it isn't `baliseplan` on the path
+BALISEFIELDS          balisefields, where it isn't beside the engine or on the path
 BALISEPLAN_REFERENCE  the reference program, for verify and report
 PLANDESK_WAIT         seconds to wait for another plandesk in the folder (10)"""
 
@@ -35,7 +36,7 @@ class Desk(click.Group):
 
     SECTIONS = {
         "Work on a line": ["init", "do", "undo", "redo", "strike", "reviews"],
-        "Look at it": ["status", "log", "show", "links", "diff"],
+        "Look at it": ["status", "log", "show", "fields", "links", "diff"],
         "Deliver and check": ["verify", "report", "restore"],
     }
 

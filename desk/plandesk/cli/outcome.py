@@ -106,6 +106,7 @@ def tell_end(after: State, outcome: Outcome, dry_run: bool) -> None:
     else:
         verb = "was" if refused == 1 else "were"
         hint = " --keep-accepted would keep the others." if refused < total else ""
+        hint = " A replace is done as a whole or not at all." if outcome.halved else hint
         out.line(
             Text("Nothing was kept", "bold red"),
             f": {refused} of {out.count(total, 'command')} {verb} refused.",

@@ -33,22 +33,26 @@ def do(
     \b
     plandesk do set 5.200 1 0 V_TSR 0 30km/h turn 5.300
     plandesk do put 65 5.200 1 1 NID_TSR=6 D_TSR=700m L_TSR=100m V_TSR=60km/h
+    plandesk do replace 5.100 0 0 @links               from a file of fields
     plandesk do -f monday
     plandesk do -                                      from standard input
 
     The commands are the engine's: set, seth, insert, delete, move, add, drop, renumber, turn, undo, redo,
-    strike. A value may have its unit, `put` writes a new packet, and `add after C.N` takes the place of a
-    number. In a file, # begins a comment.
+    strike. A value may have its unit, `put` writes a new packet, `add after C.N` takes the place of a
+    number, and `replace` a packet's. Digits may be given as fields in a file, @FILE: `plandesk fields`
+    prints such. In a file, # begins a comment.
     """
     lines, where = given_lines(words, source)
     state = load(folder)
     written = Writer(state.engine, state.base, state.journal_text).write_out(lines)
-    outcome = desk.do(state, written.commands, keep_accepted=keep_accepted, dry_run=dry_run)
+    outcome = desk.do(
+        state, written.commands, keep_accepted=keep_accepted, dry_run=dry_run, origins=written.origins
+    )
     after = desk.after_of(state, outcome)
     if as_json:
         out.dump(outcome_data(state, after, outcome))
     else:
-        tell(state, after, outcome, where, dry_run)
+        tell(state, after, outcome, [where[at] for at in written.origins] if where else [], dry_run)
     return REFUSED if outcome.run.refused else OK
 
 

@@ -1,0 +1,152 @@
+"""Where digits are wrong, in words: what balisefields says of a telegram or a packet that the engine refuses."""
+
+from __future__ import annotations
+
+from collections.abc import Sequence
+from dataclasses import dataclass
+
+from plandesk.errors import Fault
+from plandesk.fields import find_fields
+from plandesk.vocabulary import packet_name
+
+OF_DIGITS = range(2, 10)
+"""The refusals of digits: BadHex to PacketZero."""
+MOST_BEFORE = 3
+SECONDS = 60.0
+PACKET, TELEGRAM = "packet", "telegram"
+ANOTHER = "another"
+"""What is due where a field has a value that no packet has."""
+UNKNOWN = "where they are wrong isn't known"
+
+
+@dataclass(frozen=True)
+class Found:
+    """A fault as balisefields prints it, with the fields before it in the same packet or header."""
+
+    number: int
+    packet: int | None
+    bit: int
+    due: str
+    fields: tuple[tuple[str, int], ...]
+    alone: bool
+    """Whether the digits are a packet by itself."""
+
+    @property
+    def what(self) -> str:
+        return PACKET if self.alone else TELEGRAM
+
+    @property
+    def last(self) -> str:
+        return " ".join(map(str, self.fields[-1])) if self.fields else ""
+
+
+def telegram_fault(digits: str, number: int) -> str:
+    """Where a telegram's digits are wrong, which the engine refused with this number."""
+    return _looked([digits], number)[1]
+
+
+def packet_fault(version: int, digits: str, number: int) -> str:
+    """The same for a packet in a telegram of this M_VERSION."""
+    return _looked([f"{PACKET} {version} {digits}"], number)[1]
+
+
+def telegrams_fault(digits: Sequence[str], number: int) -> str:
+    """The same for the telegrams of a group, of which one is refused."""
+    at, words = _looked(digits, number)
+    return words if at is None or len(digits) == 1 else f"telegram {at}: {words}"
+
+
+def any_fault(lines: Sequence[str]) -> str:
+    """Where some digits are wrong, if they are. Empty too where there is no program to ask."""
+    try:
+        found = first_fault(lines)
+    except Fault:
+        return ""
+    at, fault = found if found is not None else (0, None)
+    words = words_of(fault, lines[at]) if fault is not None else ""
+    return f"telegram {at}: {words}" if words and len(lines) > 1 else words
+
+
+def first_fault(lines: Sequence[str]) -> tuple[int, Found] | None:
+    """The first of some lines of digits in which balisefields finds a fault, and this."""
+    program = find_fields()
+    try:
+        found = [found_in(item, line) for item, line in zip(program.explain(lines, SECONDS), lines, strict=True)]
+    except ValueError:
+        raise Fault(f"{program.name} isn't balisefields") from None
+    return next(((at, each) for at, each in enumerate(found) if each is not None), None)
+
+
+def _looked(lines: Sequence[str], number: int) -> tuple[int | None, str]:
+    """Which of the lines the engine refused with this number, and where it is wrong. No line where that isn't known."""
+    try:
+        found = first_fault(lines)
+    except Fault as fault:
+        return None, f"{UNKNOWN}: {fault.message}"
+    if found is None or found[1].number != number:
+        return None, f"{UNKNOWN}: {find_fields().name} doesn't find this fault, so it doesn't belong to the engine"
+    return found[0], words_of(found[1], lines[found[0]])
+
+
+def found_in(item: Sequence[str], line: str) -> Found | None:
+    """The fault of an item that was printed. ValueError where the item isn't balisefields'."""
+    if not item[-1].startswith("fault "):
+        return None
+    words = item[-1].split(" ")
+    if len(words) != 6:
+        raise ValueError(item[-1])
+    fields: list[tuple[str, int]] = []
+    for each in item[:-1]:
+        parts = each.split(" ")
+        if parts[0] == PACKET:
+            fields = []
+        elif len(parts) == 5:
+            fields.append((parts[2], int(parts[4])))
+    packet = None if words[3] == "-" else int(words[3])
+    return Found(int(words[1]), packet, int(words[4]), words[5], tuple(fields), line.startswith(f"{PACKET} "))
+
+
+def words_of(found: Found, line: str) -> str:
+    """A fault in a sentence."""
+    digits = line.split(" ")[-1]
+    if found.number < 5:
+        return _of_the_whole(found, digits)
+    if found.number == 5:
+        return f"{found.due}, bit {found.bit} of the telegram, has to be {1 if found.due == 'Q_UPDOWN' else 0}"
+    if found.number == 6:
+        count = f"{found.packet} packet{'' if found.packet == 1 else 's'}"
+        return f"packet 255 is due at bit {found.bit} of the telegram, after {count}, and isn't there"
+    fields = found.fields[:-1] if found.due == ANOTHER else found.fields
+    before = ", ".join(f"{name} {value}" for name, value in fields[-MOST_BEFORE:])
+    return f"{_which(found)}: {_in_packet(found)}" + (f"; before it: {before}" if before else "")
+
+
+def _of_the_whole(found: Found, digits: str) -> str:
+    """A fault of the digits as a whole."""
+    if found.number == 2:
+        at = found.bit // 4
+        if at >= len(digits):
+            return f"a digit is missing at the end: there are {len(digits)}"
+        return f"character {at + 1} of the digits, `{digits[at]}`, isn't one"
+    if found.number == 3:
+        due = "L_PACKET says another number" if found.alone else "a telegram has 210 bits in 54 digits, or 830 in 208"
+        return f"there are {found.bit} bits in {len(digits)} digits, and {due}"
+    return f"bit {found.bit}, after the last one of the {found.what}, has to be 0"
+
+
+def _which(found: Found) -> str:
+    """The packet, with its number where that was read."""
+    number = next((value for name, value in found.fields if name == "NID_PACKET"), None)
+    name = "" if number is None else f"{number} {packet_name(number)}"
+    if found.alone:
+        return f"the packet, {name}" if name else "the packet"
+    return f"packet {found.packet} of the telegram" + (f", {name}" if name else "")
+
+
+def _in_packet(found: Found) -> str:
+    place = f"bit {found.bit}" + (" of the packet" if found.alone else "")
+    if found.due == "end":
+        return f"its fields end at {place}, and L_PACKET leaves more bits"
+    if found.due == ANOTHER:
+        return f"{found.last}, which ends before {place}, is a value that it can't have"
+    return f"{found.due} is due at {place}, and too few bits are left for it"

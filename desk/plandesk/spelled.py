@@ -131,7 +131,7 @@ def _reason(name: str, due: str, text: str) -> str:
     if name == "TooWide":
         return REASONS[name] + _most(variable_name)
     if name == "Missing":
-        return f"{due} is due {'before it' if text else 'there'}"
+        return f"{due.replace('end', '`end`')} is due {'before it' if text else 'there'}"
     return REASONS.get(name, "it is refused").format(due=due)
 
 

@@ -16,10 +16,13 @@ sys.path[:0] = [str(TOP / "desk"), str(REFERENCE)]
 sys.dont_write_bytecode = True
 
 from plandesk.cli import main  # noqa: E402
+from plandesk import fields  # noqa: E402
 from plandesk.engine import PROGRAM, Engine, find_engine  # noqa: E402
 
 if not os.environ.get("BALISEPLAN") and not PROGRAM.exists():
     os.environ["BALISEPLAN"] = f"/usr/bin/python3 -B {REFERENCE / 'baliseplan.py'}"
+if not os.environ.get("BALISEFIELDS") and not fields.PROGRAM.exists():
+    os.environ["BALISEFIELDS"] = f"/usr/bin/python3 -B {REFERENCE / 'balisefields.py'}"
 os.environ["PLANDESK_WAIT"] = "20"
 
 Desk = Callable[..., Result]

@@ -69,6 +69,8 @@ elif [ $needed = 0 ]; then
     check "killed in a loop" tests tests/test_kill.py
     check "deliveries" tests tests/test_verify.py
     check "wrong engines are found" tests tests/test_wrong_engine.py
+    check "fields and faults of digits" tests tests/test_fields.py tests/test_faults.py
+    check "a wrong or missing balisefields" tests tests/test_wrong_fields.py
     check "random sessions and pairs" tests tests/test_random.py
     browsers=1
     for each in chromium chromedriver; do

@@ -1,0 +1,99 @@
+"""Where digits are wrong: what balisefields says of them, in the messages over a bad file and a refused command."""
+
+from __future__ import annotations
+
+from pathlib import Path
+
+import pytest
+from conftest import TOP, Desk, call
+
+TELEGRAMS = [
+    ("a1127f80a06450502320a0320096047fffffffffffffffffffffc0", "packet 0 of the telegram, 65 temporary speed restriction: V_TSR is due at bit 114, and too few bits are left for it; before it: D_TSR 200, L_TSR 300, Q_FRONT 0"),
+    ("a1127f80a0645050xx", "character 17 of the digits, `x`, isn't one"),
+    ("a1127f8", "a digit is missing at the end: there are 7"),
+    ("a1127f80", "there are 32 bits in 8 digits, and a telegram has 210 bits in 54 digits, or 830 in 208"),
+    ("a1127f80a064505023a0a0320096047fffffffffffffffffffffc1", "bit 215, after the last one of the telegram, has to be 0"),
+    ("21127f80a064505023a0a0320096047fffffffffffffffffffffc0", "Q_UPDOWN, bit 0 of the telegram, has to be 1"),
+    ("a1927f80a064505023a0a0320096047fffffffffffffffffffffc0", "Q_MEDIA, bit 8 of the telegram, has to be 0"),
+    ("a1127f80a064505025" + "0" * 36, "packet 0 of the telegram, 65 temporary speed restriction: its fields end at bit 121, and L_PACKET leaves more bits"),
+    ("a1127f80a0640000" + "0" * 38, "packet 0 of the telegram, 0 unknown packet: NID_PACKET 0, which ends before bit 58, is a value that it can't have"),
+    ("a1127f80a0644b008" + "0" * 37, "packet 0 of the telegram, 44 data of applications outside ETCS: L_PACKET 256, which ends before bit 73"),
+]  # fmt: skip
+"""Digits of the second telegram of 5.200, and what is said of them."""
+PACKETS = [
+    ("42403c00", "the packet, 66 temporary speed restriction revocation: NID_TSR is due at bit 23 of the packet, and too few bits are left for it; before it: NID_PACKET 66, Q_DIR 1, L_PACKET 30"),
+    ("42404000", "the packet, 66 temporary speed restriction revocation: its fields end at bit 31 of the packet, and L_PACKET leaves more bits"),
+    ("424040", "L_PACKET 32, which ends before bit 23 of the packet, is a value that it can't have; before it: NID_PACKET 66, Q_DIR 1"),
+    ("4240", "L_PACKET is due at bit 10 of the packet"),
+    ("00", "the packet, 0 unknown packet: NID_PACKET 0, which ends before bit 8 of the packet"),
+    ("ff", "NID_PACKET 255, which ends before bit 8 of the packet, is a value that it can't have"),
+    ("42403e01", "bit 31, after the last one of the packet, has to be 0"),
+    ("42403e0000", "there are 40 bits in 10 digits, and L_PACKET says another number"),
+    ("42403e0", "a digit is missing at the end: there are 7"),
+    ("4z403e00", "character 2 of the digits, `z`, isn't one"),
+]  # fmt: skip
+
+
+@pytest.mark.parametrize(("digits", "text"), TELEGRAMS)
+def test_a_bad_plan(digits: str, text: str, base: str, tmp_path: Path, desk: Desk, line: Path) -> None:
+    bad = tmp_path / "bad.plan"
+    lines = base.splitlines()
+    bad.write_text("\n".join([*lines[:5], digits, *lines[6:], ""]))
+    for words in (["init", bad, tmp_path / "new"], ["show", "--plan", bad], ["verify", line / "base.plan", line / "journal", bad]):
+        result = call(*words)
+        if words[0] != "verify":
+            assert (result.exit_code, text in result.output) == (2, True), result.output
+            assert "bad.plan, line 6, `" in result.output
+    result = call("verify", bad, line / "journal", line / "line.plan", "--engine-only")
+    assert (result.exit_code, text in result.output) == (2, True), result.output
+    assert not (tmp_path / "new").exists()
+    added = desk("do", f"add 0 {lines[4]} {digits}")
+    assert (added.exit_code, f"telegram 1: {text}" in added.output) == (1, True), added.output
+
+
+@pytest.mark.parametrize(("digits", "text"), PACKETS)
+def test_a_refused_insert_and_a_bad_journal(digits: str, text: str, desk: Desk, line: Path) -> None:
+    result = desk("do", f"insert 5.200 1 0 {digits}")
+    assert (result.exit_code, text in result.output) == (1, True), result.output
+    (line / "journal").write_text(f"journal 2 2\n1 insert b1/1 ^ {digits}\n")
+    result = desk("status")
+    assert (result.exit_code, text in result.output) == (2, True), result.output
+    assert "the journal, line 2, `1 insert b1/1 ^" in result.output
+
+
+def test_a_bad_journal_over_what_it_added(desk: Desk, line: Path, base: str) -> None:
+    """The version of a telegram that the journal adds is that of its digits."""
+    first = base.splitlines()[2].replace("a1007f80a032", "a1007f80a0c9", 1)
+    old = "90" + first[2:]
+    assert desk("do", f"add 0 {old}").exit_code == 0
+    good = (line / "journal").read_text()
+    for entry, text in (
+        ("2 insert n1/0 ^ 29403201", "bit 31, after the last one of the packet, has to be 0"),
+        (f"2 add ^ {old} {old[:-1]}1", "telegram 1: bit 215, after the last one of the telegram, has to be 0"),
+    ):
+        (line / "journal").write_text(good.replace("journal 2 2", "journal 2 3") + f"{entry}\n")
+        result = desk("log")
+        assert (result.exit_code, text in result.output) == (2, True), result.output
+    for entry in ("2 insert n9/0 ^ 29407e00", "2 insert b0/7 ^ 29407e00", "2 insert nothing ^ 2", "2 turn b0/0", "2 add b9 " + first):
+        (line / "journal").write_text(good.replace("journal 2 2", "journal 2 3") + f"{entry}\n")
+        result = desk("log")
+        assert (result.exit_code, "the journal, line 3" in result.output) == (2, True), result.output
+
+
+def test_no_end(tmp_path: Path) -> None:
+    full = "a1007f80a032516043" + "0" * 36
+    plan = tmp_path / "bad.plan"
+    plan.write_text(f"plan 1\ngroup\n{full}\n")
+    result = call("init", plan, tmp_path / "new")
+    assert result.exit_code == 2
+    assert "of the telegram" in result.output, result.output
+
+
+def test_each_fault_of_the_page(desk: Desk) -> None:
+    """The runs of docs/FIELDS.md: each fault of a packet there is said of an insert too."""
+    page = (TOP / "docs" / "FIELDS.md").read_text()
+    runs = [line.split(" => ") for line in page.splitlines() if line.startswith("packet 33 ") and "=> packet 33 |" in line]
+    runs = [(given, printed.split(" | ")[-1].split(" ")) for given, printed in runs if "fault " in printed and " | " not in given]
+    assert len(runs) > 3
+    for given, fault in runs:
+        assert f"bit {fault[4]} of the packet" in desk("do", f"insert 5.200 1 0 {given.split(' ')[2]}").output

@@ -132,7 +132,8 @@ def _steering(words: list[str], groups: Groups) -> str:
     if words[0] == "seth":
         return _no_variable(words, groups)
     name = next((word for word in words if is_steering(word)), "the variable")
-    return f"{name} says what follows it, so it isn't set in place: delete the packet, and insert one with other digits"
+    ways = f"`plandesk fields {' '.join(words[1:4])}` prints the packet's fields, and `replace` takes them changed"
+    return f"{name} says what follows it, so it isn't set in place: {ways}"
 
 
 def _too_wide(words: list[str], groups: Groups) -> str:

@@ -34,6 +34,8 @@ EMPTY = {
 }
 """The shortest form of each known packet with all values 0 (docs/FORMATS.md, Packets)."""
 PUT = "put PACKET C.N PIG AT VAR=VALUE .."
+KEEPS_TELEGRAMS = frozenset({"set", "seth", "insert", "delete", "move"})
+"""Commands after which each telegram stands where it was, with the M_VERSION that it had."""
 REPLACE = "replace C.N PIG PKT HEX"
 
 
@@ -52,6 +54,7 @@ class Writer:
         self.engine, self.base, self.journal = engine, base, journal
         self.done: list[str] = []
         self._met: Groups | None = None
+        self._telegrams: Groups | None = None
 
     def write_out(self, lines: Sequence[str]) -> Written:
         origins: list[int] = []
@@ -59,6 +62,8 @@ class Writer:
             commands = self._commands(line)
             if not all(map(_keeps_places, commands)):
                 self._met = None
+            if not all(command.split(" ")[0] in KEEPS_TELEGRAMS for command in commands):
+                self._telegrams = None
             self.done += commands
             origins += [at] * len(commands)
         return Written(tuple(self.done), tuple(origins))
@@ -84,10 +89,10 @@ class Writer:
         """An insert, its digits by the fields of a file where they are given so."""
         digits = words[4]
         if digits.startswith(MARK):
-            version = version_of(words, self.met)
+            version = version_of(words, self.telegrams)
             if version is None:
-                number = 15 if words[1] in self.met.places else 14
-                raise Refusal(f"`{' '.join(words)}`: {explain(' '.join(words), Reply(f'refused {number}'), self.met)}")
+                reply = Reply(f"refused {15 if words[1] in self.telegrams.places else 14}")
+                raise Refusal(f"`{' '.join(words)}`: {explain(' '.join(words), reply, self.telegrams)}")
             digits = packet_digits(self.engine, digits.removeprefix(MARK), version)
         return " ".join(["insert", *words[1:4], digits])
 
@@ -111,6 +116,13 @@ class Writer:
         if self._met is None:
             self._met = self.engine.run(self.base, self.journal, self.done).groups
         return self._met
+
+    @property
+    def telegrams(self) -> Groups:
+        """The same, but for the packets of its telegrams and their values."""
+        if self._telegrams is None:
+            self._telegrams = self.met
+        return self._telegrams
 
 
 def _keeps_places(command: str) -> bool:
@@ -145,7 +157,7 @@ def _put(engine: Engine, words: list[str]) -> str:
     if number not in EMPTY:
         known = ", ".join(map(str, EMPTY))
         name = packet_name(number)
-        raise Refusal(f"`{line}`: `put` writes {known}. Packet {number} ({name}) takes an insert with its digits")
+        raise Refusal(f"`{line}`: `put` writes {known}. Packet {number} ({name}) takes an insert with its digits, or with a file of its fields (@FILE)")
     commands = [f"insert {SPARE} 0 {EMPTY[number]}", *_sets(_values(words[5:], line), line)]
     run = engine.run(spare_plan(), "", commands)
     for command, reply in zip(commands, run.replies, strict=True):
@@ -160,7 +172,7 @@ def _why(number: int, command: str, reply: Reply, groups: Groups) -> str:
     """Why a value of a `put` was refused."""
     name = command.split(" ")[4:5]
     if name and is_steering(name[0]):
-        return f"{name[0]} says what follows it, and `put` writes the shortest packet {number}: insert the digits of another"
+        return f"{name[0]} says what follows it, and `put` writes the shortest packet {number}: insert another by a file of its fields (@FILE)"
     return explain(command, reply, groups)
 
 

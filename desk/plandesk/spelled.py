@@ -1,6 +1,7 @@
 """Digits given as fields: `@FILE` in an insert or an add. balisefields makes the digits, and the engine reads them again.
 
-FILE has items of docs/FIELDS.md: one packet, or a telegram for each balise. `#` begins a comment. It is only read here.
+FILE has items of docs/FIELDS.md: one packet, or a telegram for each balise. A value may have its unit, and `#` begins a
+comment. The file is only read here.
 """
 
 from __future__ import annotations
@@ -10,6 +11,7 @@ from collections.abc import Sequence
 from dataclasses import dataclass
 from pathlib import Path
 
+from plandesk.amounts import NoAmount, has_unit, raw_value
 from plandesk.bad_input import shortened
 from plandesk.command_lines import Line, split_lines
 from plandesk.engine import Engine
@@ -47,10 +49,35 @@ def read_fields(name: str) -> FieldFile:
     return FieldFile(name, lines)
 
 
+def raw_texts(file: FieldFile) -> list[str]:
+    """The lines, a value with its unit as its number: a distance by Q_SCALE before it."""
+    texts: list[str] = []
+    scale: int | None = None
+    for at, line in enumerate(file.lines):
+        words = line.text.split(" ")
+        variable_name = named(words)
+        if words[0] in ("packet", "telegram"):
+            scale = None
+        elif variable_name == "Q_SCALE" and words[-1].isdigit():
+            scale = int(words[-1])
+        elif variable(variable_name) and has_unit(words[-1]):
+            try:
+                words[-1] = str(raw_value(variable_name, words[-1], scale))
+            except NoAmount as reason:
+                raise file.refused(at, str(reason)) from None
+        texts.append(" ".join(words))
+    return texts
+
+
+def named(words: Sequence[str]) -> str:
+    """The variable of a line that is a field."""
+    return words[2] if len(words) == 5 else words[0]
+
+
 def packet_digits(engine: Engine, name: str, version: int) -> str:
     """The digits of the one packet of a file, for a telegram of this M_VERSION."""
     file = read_fields(name)
-    texts = [line.text for line in file.lines]
+    texts = raw_texts(file)
     head = f"packet {version}"
     first = texts[0].split(" ")
     if first[0] == "telegram":
@@ -68,7 +95,7 @@ def packet_digits(engine: Engine, name: str, version: int) -> str:
 def telegram_digits(engine: Engine, name: str) -> list[str]:
     """The digits of the telegrams of a file."""
     file = read_fields(name)
-    texts = [line.text for line in file.lines]
+    texts = raw_texts(file)
     if texts[0].split(" ")[0] != "telegram":
         raise file.refused(0, "a telegram is due here: `telegram 210` or `telegram 830`, and then its fields")
     found = spelled(file, texts, "", 0)
@@ -124,8 +151,7 @@ def _bad(file: FieldFile, words: list[str], texts: Sequence[str], added: int, pr
 
 
 def _reason(name: str, due: str, text: str) -> str:
-    words = text.split(" ")
-    variable_name = words[2] if len(words) == 5 else words[0]
+    variable_name = named(text.split(" "))
     if name == "UnknownName":
         return REASONS[name] + _or(variable_name)
     if name == "TooWide":

@@ -93,7 +93,7 @@ def test_each_fault_of_the_page(desk: Desk) -> None:
     """The runs of docs/FIELDS.md: each fault of a packet there is said of an insert too."""
     page = (TOP / "docs" / "FIELDS.md").read_text()
     runs = [line.split(" => ") for line in page.splitlines() if line.startswith("packet 33 ") and "=> packet 33 |" in line]
-    runs = [(given, printed.split(" | ")[-1].split(" ")) for given, printed in runs if "fault " in printed and " | " not in given]
-    assert len(runs) > 3
-    for given, fault in runs:
+    faults = [(given, printed.split(" | ")[-1].split(" ")) for given, printed in runs if "fault " in printed and " | " not in given]
+    assert len(faults) > 3
+    for given, fault in faults:
         assert f"bit {fault[4]} of the packet" in desk("do", f"insert 5.200 1 0 {given.split(' ')[2]}").output

@@ -13,7 +13,6 @@ from plandesk.fields import find_fields
 from plandesk.spelled import packet_digits, telegram_digits
 from plandesk.view import bits_of, digits_of, telegrams_of
 
-import random_inputs
 import random_plans
 
 LINK = ["D_LINK 700", "Q_NEWCOUNTRY 0", "NID_BG 400", "Q_LINKORIENTATION 1", "Q_LINKREACTION 1", "Q_LOCACC 5"]
@@ -63,8 +62,8 @@ def test_fields_of_another_plan_and_all_that_is_printed(week: Desk, line: Path, 
 def test_no_such_place(desk: Desk) -> None:
     for words, text in (
         (["5.201"], "the plan has no group 5.201; did you mean 5.200"),
-        (["5.200", 2], "5.200 has no telegram 2: 0 to 1"),
-        (["5.200", 1, 4], "5.200 1 has no packet 4: 0 to 0"),
+        (["5.200", "2"], "5.200 has no telegram 2: 0 to 1"),
+        (["5.200", "1", "4"], "5.200 1 has no packet 4: 0 to 0"),
     ):
         result = desk("fields", *words)
         assert (result.exit_code, text in result.output) == (1, True), result.output
@@ -230,7 +229,7 @@ def test_a_replace_is_kept_as_a_whole_or_not_at_all(desk: Desk, line: Path) -> N
 @pytest.mark.parametrize("seed", range(PLANS))
 def test_random_telegrams_and_packets(seed: int, engine: Engine) -> None:
     """What is printed of a group and of a packet gives their digits again, whatever stands in them."""
-    maker = random_plans.PlanMaker(random.Random(seed).randrange(1 << 30), random_inputs.SIZES["medium"])
+    maker = random_plans.PlanMaker(random.Random(seed).randrange(1 << 30), random_plans.SIZES["medium"])
     plan = "\n".join(["plan 1", "group", *maker.group((5, 100)), ""])
     run = engine.run(plan)
     (digits,), program = telegrams_of(run.plan), find_fields()

@@ -2,6 +2,8 @@
 
 from __future__ import annotations
 
+import os
+import shlex
 import sys
 from pathlib import Path
 
@@ -67,6 +69,7 @@ def wrong(request: pytest.FixtureRequest, tmp_path: Path, monkeypatch: pytest.Mo
     words = list(fields.find_fields().words)
     path.write_text(WRONG.format(python=sys.executable, words=words, before=before, after=after))
     path.chmod(0o755)
+    monkeypatch.setenv("RIGHT_FIELDS", shlex.join(words))
     monkeypatch.setenv("BALISEFIELDS", str(path))
     monkeypatch.chdir(tmp_path)
     Path("packet").write_text(REVOKED)
@@ -78,8 +81,8 @@ def test_nothing_wrong_is_kept(desk: Desk, line: Path, wrong: str) -> None:
     before, texts = files(line), [Path(name).read_bytes() for name in ("packet", "group")]
     right = 0
     for command in ("insert 5.200 1 0 @packet", "add 0 @group", "replace 5.200 1 0 @packet"):
-        for more in ([], ["--keep-accepted"]):
-            result = desk("do", *more, command)
+        for words in (["do"], ["do", "--keep-accepted"]):
+            result = desk(*words, command)
             assert result.exit_code in (0, 1, 3), (wrong, result.output)
             if result.exit_code == 0:
                 right += 1
@@ -100,9 +103,10 @@ def test_digits_that_are_kept_are_right(desk: Desk, line: Path, wrong: str) -> N
 
 
 def test_nothing_wrong_is_shown(desk: Desk, wrong: str, monkeypatch: pytest.MonkeyPatch) -> None:
-    shown = [desk("fields", *words) for words in (["5.200", 1, 0], ["5.300"])]
-    monkeypatch.delenv("BALISEFIELDS")
-    for words, result in zip((["5.200", 1, 0], ["5.300"]), shown, strict=True):
+    asked = [["5.200", "1", "0"], ["5.300"]]
+    shown = [desk("fields", *words) for words in asked]
+    monkeypatch.setenv("BALISEFIELDS", os.environ["RIGHT_FIELDS"])
+    for words, result in zip(asked, shown, strict=True):
         assert result.exit_code in (0, 3), (wrong, result.output)
         if result.exit_code == 0:
             assert result.output == desk("fields", *words).output, wrong

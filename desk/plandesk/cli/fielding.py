@@ -34,9 +34,9 @@ def fields_(where: Path | None, name: str, pig: int | None, pkt: int | None, who
 
     A line is NAME K VALUE. What balisefields works out is left out: L_PACKET, and padding of ones.
     """
-    for item in items(plan_run(where, file), name, pig, pkt):
-        for line in item if whole else to_edit(item):
-            print(line)
+    found = list(items(plan_run(where, file), name, pig, pkt))
+    for line in (line for item in found for line in (item if whole else to_edit(item))):
+        print(line)
     return OK
 
 

@@ -123,6 +123,38 @@ def test_a_new_group(desk: Desk, line: Path) -> None:
     assert "5.778 added a group of 2" in desk("do", "add 0 @two").output
 
 
+def test_values_with_units(desk: Desk) -> None:
+    """A distance goes by Q_SCALE before it in its packet."""
+    write("tsr", "NID_PACKET 65", "Q_DIR 1", "Q_SCALE 2", "NID_TSR 6", "D_TSR 0 1.2km", "0 15 L_TSR 0 300m", "Q_FRONT 0", "V_TSR 60km/h")
+    assert desk("do", "insert 5.200 1 0 @tsr").exit_code == 0
+    assert fields(desk, "5.200", 1, 0)[5:7] + fields(desk, "5.200", 1, 0)[8:] == ["D_TSR 0 120", "L_TSR 0 30", "V_TSR 0 12"]
+    for old, new, text in (
+        ("V_TSR 60km/h", "V_TSR 61km/h", "line 8, `V_TSR 61km/h`: no whole number of steps: 12 or 13"),
+        ("D_TSR 0 1.2km", "D_TSR 0 1205m", "line 5, `D_TSR 0 1205m`: no whole number of steps: 120 or 121"),
+        ("Q_SCALE 2", "Q_SCALE 3", "line 5, `D_TSR 0 1.2km`: Q_SCALE gives no unit: enter the raw number"),
+        ("Q_FRONT 0", "Q_FRONT 3m", "line 7, `Q_FRONT 3m`: Q_FRONT isn't in m"),
+        ("Q_FRONT 0", "WIDTH 3m", "line 7, `WIDTH 3m`: no line of this form may stand here"),
+    ):
+        Path("wrong").write_text(Path("tsr").read_text().replace(old, new))
+        result = desk("do", "insert 5.200 1 0 @wrong")
+        assert (result.exit_code, text in result.output) == (1, True), result.output
+
+
+def test_many_commands_with_files(desk: Desk, line: Path) -> None:
+    """Each file goes by the plan that its command meets: a telegram's M_VERSION after groups came and went."""
+    write("packet", *REVOKED)
+    write("other", "packet 16", "NID_PACKET 44", "Q_DIR 1", "rest 2 8")
+    write("first", *HEADER[:2], "M_VERSION 16", *HEADER[3:], "end")
+    write(
+        "commands", "insert 5.200 1 1 @packet", "add 0 @first", "insert 5.777 0 0 @other", "drop 5.777",
+        "replace 5.200 1 1 @packet", "renumber 5.200 777", "insert 5.777 1 0 @packet", "replace 5.777 1 0 @packet",
+    )  # fmt: skip
+    result = desk("do", "-f", "commands")
+    assert (result.exit_code, "Kept: 10 commands." in result.output) == (0, True), result.output
+    write("commands", "insert 5.777 1 0 @other")
+    assert "the telegram has M_VERSION 33" in desk("do", "-f", "commands").output
+
+
 def test_fields_go_by_the_version_of_the_telegram(desk: Desk) -> None:
     """Packet 41 is known in versions 2.Y alone. The line `packet` may name the version that the telegram has."""
     assert desk("do", "add 0 @first").exit_code == 2  # there is no such file

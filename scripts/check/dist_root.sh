@@ -39,6 +39,8 @@ delivery='
 rm -rf "$1" && mkdir "$1" && cd "$1"
 "$2" init "$3/line.base"
 "$2" do set 5.200 1 0 V_TSR 0 30km/h renumber 5.200 250 turn 5.300
+"$2" fields 5.100 0 0 > links
+"$2" do replace 5.100 0 0 @links
 "$2" verify base.plan journal line.plan | tee said
 grep -q "They belong together. Both programs make it." said
 sed "s/^a1007f80a0fa/a1007f00a0fa/" line.plan > changed.plan

@@ -26,7 +26,7 @@ from plandesk.view import Group, bits_of, digits_of, telegrams_of
 @click.option("--plan", "file", type=click.Path(path_type=Path), help="Look at this plan instead.")
 @click.pass_obj
 def fields_(where: Path | None, name: str, pig: int | None, pkt: int | None, whole: bool, file: Path | None) -> int:
-    """Print a packet, a telegram or a group as fields, to be edited and given back as @FILE.
+    """Print a packet, a telegram or a group as fields, to be edited and taken as @FILE.
 
     \b
     plandesk fields 5.100 0 0 > links        # then edit it, and

@@ -6,7 +6,7 @@ from collections.abc import Sequence
 from dataclasses import dataclass
 
 from plandesk.errors import Fault
-from plandesk.fields import find_fields
+from plandesk.fields import LINES_OF_A_PLAN, find_fields
 from plandesk.vocabulary import packet_name
 
 OF_DIGITS = range(2, 10)
@@ -41,8 +41,8 @@ class Found:
 
 
 def telegram_fault(digits: str, number: int) -> str:
-    """Where a telegram's digits are wrong, which the engine refused with this number."""
-    return _looked([digits], number)[1]
+    """Where a telegram's digits are wrong, which the engine refused with this number. Empty where a packet stands there."""
+    return "" if digits.startswith(f"{PACKET} ") else _looked([digits], number)[1]
 
 
 def packet_fault(version: int, digits: str, number: int) -> str:
@@ -79,6 +79,9 @@ def first_fault(lines: Sequence[str]) -> tuple[int, Found] | None:
 
 def _looked(lines: Sequence[str], number: int) -> tuple[int | None, str]:
     """Which of the lines the engine refused with this number, and where it is wrong. No line where that isn't known."""
+    for at, line in enumerate(lines):
+        if line in LINES_OF_A_PLAN:
+            return at, f"`{line}` stands where digits are due"
     try:
         found = first_fault(lines)
     except Fault as fault:

@@ -19,6 +19,8 @@ NAME = "balisefields"
 PROGRAM = Path(__file__).resolve().parents[2] / "crates" / NAME / "out" / NAME
 """Where the repository builds it."""
 HINT = "set BALISEFIELDS to the program"
+LINES_OF_A_PLAN = ("plan 1", "group")
+"""Lines that are printed as they are."""
 WHOLE_FAULTS = ("2", "3", "4")
 """Faults of the digits as a whole, whose line is the item."""
 

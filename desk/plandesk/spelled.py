@@ -16,7 +16,7 @@ from plandesk.bad_input import shortened
 from plandesk.command_lines import Line, split_lines
 from plandesk.engine import Engine
 from plandesk.errors import Fault, Refusal
-from plandesk.fields import FieldProgram, find_fields, split_items
+from plandesk.fields import LINES_OF_A_PLAN, FieldProgram, find_fields, split_items
 from plandesk.folder import read_text
 from plandesk.items import plain, same
 from plandesk.spare import read_packet, read_telegrams
@@ -24,7 +24,6 @@ from plandesk.vocabulary import variable, variables
 
 MARK = "@"
 DIGITS = frozenset("0123456789abcdef")
-LINES_OF_A_PLAN = ("plan 1", "group")
 
 
 @dataclass(frozen=True)

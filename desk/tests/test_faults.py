@@ -80,13 +80,31 @@ def test_a_bad_journal_over_what_it_added(desk: Desk, line: Path, base: str) -> 
         assert (result.exit_code, "the journal, line 3" in result.output) == (2, True), result.output
 
 
-def test_no_end(tmp_path: Path) -> None:
-    full = "a1007f80a032516043" + "0" * 36
+def test_no_end(tmp_path: Path, base: str) -> None:
+    """Packet 44 goes on to the last bit but seven: there is no room for packet 255."""
+    bits = f"{int(base.splitlines()[2], 16):0216b}"[:50] + f"{44:08b}01{153:013b}" + "0" * 130 + "1" * 7
     plan = tmp_path / "bad.plan"
-    plan.write_text(f"plan 1\ngroup\n{full}\n")
+    plan.write_text(f"plan 1\ngroup\n{int(bits + '0' * 6, 2):054x}\n")
     result = call("init", plan, tmp_path / "new")
-    assert result.exit_code == 2
-    assert "of the telegram" in result.output, result.output
+    assert (result.exit_code, "(6 NoEnd)" in result.output) == (2, True), result.output
+    assert "packet 255 is due at bit 203 of the telegram, after 1 packet, and isn't there" in result.output
+
+
+def test_lines_that_are_no_digits(tmp_path: Path, base: str, desk: Desk) -> None:
+    """What balisefields reads as something else than a telegram's digits."""
+    for other, text in (
+        ("packet 33 42403e00", "line 6, `packet 33 42403e00`: a digit isn't hexadecimal"),
+        ("plan 1", "line 6, `plan 1`: a digit isn't hexadecimal, or the number of digits is odd (2 BadHex)\n          `plan 1` stands where"),
+        ("telegram 210", "character 1 of the digits, `t`, isn't one"),
+        ("a1 \xff", "character 3 of the digits, ` `, isn't one"),
+    ):
+        bad = tmp_path / "bad.plan"
+        lines = base.splitlines()
+        bad.write_bytes("\n".join([*lines[:5], other, *lines[6:], ""]).encode("latin-1"))
+        result = call("init", bad, tmp_path / "new")
+        assert (result.exit_code, text in result.output, "isn't known" in result.output) == (2, True, False), result.output
+    assert "; `group` stands where digits are due" in desk("do", "add 0 group").output
+    assert "; telegram 1: `group` stands where digits are due" in desk("do", f"add 0 {base.splitlines()[2]} group").output
 
 
 def test_each_fault_of_the_page(desk: Desk) -> None:

@@ -6,7 +6,7 @@ import random
 from pathlib import Path
 
 import pytest
-from conftest import TOP, Desk, call, files
+from conftest import Desk, files
 from plandesk.engine import Engine
 from plandesk.items import to_edit
 from plandesk.fields import find_fields

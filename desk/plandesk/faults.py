@@ -2,7 +2,7 @@
 
 from __future__ import annotations
 
-from collections.abc import Sequence
+from collections.abc import Container, Sequence
 from dataclasses import dataclass
 
 from plandesk.errors import Fault
@@ -59,22 +59,23 @@ def telegrams_fault(digits: Sequence[str], number: int) -> str:
 def any_fault(lines: Sequence[str]) -> str:
     """Where some digits are wrong, if they are. Empty too where there is no program to ask."""
     try:
-        found = first_fault(lines)
+        found = first_fault(lines, OF_DIGITS)
     except Fault:
         return ""
-    at, fault = found if found is not None else (0, None)
-    words = words_of(fault, lines[at]) if fault is not None else ""
-    return f"telegram {at}: {words}" if words and len(lines) > 1 else words
+    if found is None:
+        return ""
+    words = words_of(found[1], lines[found[0]])
+    return f"telegram {found[0]}: {words}" if len(lines) > 1 else words
 
 
-def first_fault(lines: Sequence[str]) -> tuple[int, Found] | None:
-    """The first of some lines of digits in which balisefields finds a fault, and this."""
+def first_fault(lines: Sequence[str], numbers: Container[int]) -> tuple[int, Found] | None:
+    """The first of some lines of digits in which balisefields finds a fault of these numbers, and this."""
     program = find_fields()
     try:
         found = [found_in(item, line) for item, line in zip(program.explain(lines, SECONDS), lines, strict=True)]
     except ValueError:
         raise Fault(f"{program.name} isn't balisefields") from None
-    return next(((at, each) for at, each in enumerate(found) if each is not None), None)
+    return next(((at, each) for at, each in enumerate(found) if each is not None and each.number in numbers), None)
 
 
 def _looked(lines: Sequence[str], number: int) -> tuple[int | None, str]:
@@ -83,10 +84,10 @@ def _looked(lines: Sequence[str], number: int) -> tuple[int | None, str]:
         if line in LINES_OF_A_PLAN:
             return at, f"`{line}` stands where digits are due"
     try:
-        found = first_fault(lines)
+        found = first_fault(lines, (number,))
     except Fault as fault:
         return None, f"{UNKNOWN}: {fault.message}"
-    if found is None or found[1].number != number:
+    if found is None:
         return None, f"{UNKNOWN}: {find_fields().name} doesn't find this fault, so it doesn't belong to the engine"
     return found[0], words_of(found[1], lines[found[0]])
 
@@ -111,7 +112,7 @@ def found_in(item: Sequence[str], line: str) -> Found | None:
 
 def words_of(found: Found, line: str) -> str:
     """A fault in a sentence."""
-    digits = line.split(" ")[-1]
+    digits = line.split(" ", 2)[2] if found.alone else line
     if found.number < 5:
         return _of_the_whole(found, digits)
     if found.number == 5:

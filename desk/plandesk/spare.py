@@ -4,7 +4,8 @@ from __future__ import annotations
 
 from collections.abc import Sequence
 
-from plandesk.engine import Engine
+from plandesk.engine import Engine, Run
+from plandesk.errors import Fault
 from plandesk.view import HEADER_BITS, Group, Packet, Telegram, bits_of, telegrams_of
 
 SPARE = "5.100 0"
@@ -12,6 +13,8 @@ VERSION_2_1 = 33
 HEADER = ("Q_UPDOWN", "M_VERSION", "Q_MEDIA", "N_PIG", "N_TOTAL", "M_DUP", "M_MCOUNT", "NID_C", "NID_BG", "Q_LINK")
 """The fields of a header in their order (docs/FORMATS.md)."""
 OWN_LENGTH = "L_PACKET"
+REFUSED_EVERYWHERE = frozenset({*range(2, 13), 20})
+"""BadHex to NumberReserved, and NoRoom in a telegram that has as much room as any."""
 
 
 def spare_plan(version: int = VERSION_2_1) -> str:
@@ -21,8 +24,8 @@ def spare_plan(version: int = VERSION_2_1) -> str:
 
 def read_packet(engine: Engine, version: int, digits: str) -> list[str] | None:
     """The item that the engine reads in the digits of a packet (`packet_item`). None where it refuses them."""
-    run = engine.run(spare_plan(version), "", [f"insert {SPARE} 0 {digits}"])
-    if run.refused:
+    run = tried(engine, spare_plan(version), f"insert {SPARE} 0 {digits}")
+    if run is None:
         return None
     telegram = run.groups[0].telegrams[0]
     return packet_item(version, telegram.packets[0], bits_of(telegrams_of(run.plan)[0][0], telegram.bits)[HEADER_BITS:])
@@ -30,11 +33,20 @@ def read_packet(engine: Engine, version: int, digits: str) -> list[str] | None:
 
 def read_telegrams(engine: Engine, digits: Sequence[str]) -> list[list[str]] | None:
     """The item that the engine reads in each telegram of a group (`telegram_item`). None where it refuses them."""
-    run = engine.run("plan 1\n", "", [f"add 0 {' '.join(digits)}"])
-    if run.refused:
+    run = tried(engine, "plan 1\n", f"add 0 {' '.join(digits)}")
+    if run is None:
         return None
     (texts,) = telegrams_of(run.plan)
     return [telegram_item(run.groups[0], pig, text) for pig, text in enumerate(texts)]
+
+
+def tried(engine: Engine, plan: str, command: str) -> Run | None:
+    """A trial run. None where the engine refuses the digits, or the room for them: it refuses them in any other plan too."""
+    run = engine.run(plan, "", [command])
+    (reply,) = run.replies
+    if reply.refused and reply.number not in REFUSED_EVERYWHERE:
+        raise Fault(f"a trial run of the engine was refused: {reply.text}; nothing was changed")
+    return None if reply.refused else run
 
 
 def packet_item(version: int, packet: Packet, bits: str) -> list[str]:

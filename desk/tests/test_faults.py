@@ -6,7 +6,15 @@ from pathlib import Path
 
 import pytest
 from conftest import TOP, Desk, call
+from plandesk.engine import Engine
+from plandesk.errors import BadInput
+from plandesk.explain import explain
+from plandesk.faults import OF_DIGITS, UNKNOWN
+from plandesk.spare import SPARE, spare_plan
 
+import random_fields
+
+DAMAGED = 120
 TELEGRAMS = [
     ("a1127f80a06450502320a0320096047fffffffffffffffffffffc0", "packet 0 of the telegram, 65 temporary speed restriction: V_TSR is due at bit 114, and too few bits are left for it; before it: D_TSR 200, L_TSR 300, Q_FRONT 0"),
     ("a1127f80a0645050xx", "character 17 of the digits, `x`, isn't one"),
@@ -115,3 +123,23 @@ def test_each_fault_of_the_page(desk: Desk) -> None:
     assert len(faults) > 3
     for given, fault in faults:
         assert f"bit {fault[4]} of the packet" in desk("do", f"insert 5.200 1 0 {given.split(' ')[2]}").output
+
+
+@pytest.mark.parametrize("seed", range(DAMAGED))
+def test_random_damage(seed: int, engine: Engine) -> None:
+    """Each fault that the engine finds in digits is one that balisefields finds, and there are words for it."""
+    (line, *more) = random_fields.make_digits(seed, damaged=True).lines
+    first, *rest = line.split(" ")
+    if more or len(rest) > 2 or first == "packet" and (len(rest) < 2 or not rest[0].isdigit() or int(rest[0]) > 127):
+        return  # a plan, or a line that no insert has
+    if first != "packet":
+        try:
+            engine.run(f"plan 1\ngroup\n{line}\n")
+        except BadInput as bad:
+            is_of_digits = any(f"({number} " in bad.message for number in OF_DIGITS)
+            assert UNKNOWN not in bad.hint and (bool(bad.hint) or not is_of_digits), bad.message
+        return
+    run = engine.run(spare_plan(int(rest[0])), "", [command := f"insert {SPARE} 0 {rest[1]}"])
+    if run.replies[0].refused and run.replies[0].number in OF_DIGITS:
+        words = explain(command, run.replies[0], run.groups)
+        assert UNKNOWN not in words and ("bit" in words or "character" in words or "digit is missing" in words), words

@@ -13,7 +13,9 @@ OF_DIGITS = range(2, 10)
 """The refusals of digits: BadHex to PacketZero."""
 MOST_BEFORE = 3
 SECONDS = 60.0
-PACKET, TELEGRAM = "packet", "telegram"
+PACKET = "packet"
+LEAST_LENGTH = 23
+"""The least L_PACKET that a packet has."""
 ANOTHER = "another"
 """What is due where a field has a value that no packet has."""
 UNKNOWN = "where they are wrong isn't known"
@@ -32,12 +34,9 @@ class Found:
     """Whether the digits are a packet by itself."""
 
     @property
-    def what(self) -> str:
-        return PACKET if self.alone else TELEGRAM
-
-    @property
-    def last(self) -> str:
-        return " ".join(map(str, self.fields[-1])) if self.fields else ""
+    def before(self) -> tuple[tuple[str, int], ...]:
+        """The fields that are right."""
+        return self.fields[:-1] if self.due == ANOTHER else self.fields
 
 
 def telegram_fault(digits: str, number: int) -> str:
@@ -111,18 +110,17 @@ def found_in(item: Sequence[str], line: str) -> Found | None:
 
 
 def words_of(found: Found, line: str) -> str:
-    """A fault in a sentence."""
+    """A fault in a sentence, as the page has it, and then the fields before it."""
     digits = line.split(" ", 2)[2] if found.alone else line
     if found.number < 5:
         return _of_the_whole(found, digits)
     if found.number == 5:
-        return f"{found.due}, bit {found.bit} of the telegram, has to be {1 if found.due == 'Q_UPDOWN' else 0}"
+        return f"bit {found.bit}, {found.due}, has to be {1 if found.due == 'Q_UPDOWN' else 0}"
     if found.number == 6:
         count = f"{found.packet} packet{'' if found.packet == 1 else 's'}"
-        return f"packet 255 is due at bit {found.bit} of the telegram, after {count}, and isn't there"
-    fields = found.fields[:-1] if found.due == ANOTHER else found.fields
-    before = ", ".join(f"{name} {value}" for name, value in fields[-MOST_BEFORE:])
-    return f"{_which(found)}: {_in_packet(found)}" + (f"; before it: {before}" if before else "")
+        return f"packet 255 is due at bit {found.bit}, after {count}, and too few bits are left"
+    before = ", ".join(f"{name} {value}" for name, value in found.before[-MOST_BEFORE:])
+    return f"in {_which(found)}, at bit {found.bit}, {_in_packet(found)}" + (f"; before it: {before}" if before else "")
 
 
 def _of_the_whole(found: Found, digits: str) -> str:
@@ -130,27 +128,27 @@ def _of_the_whole(found: Found, digits: str) -> str:
     if found.number == 2:
         at = found.bit // 4
         if at >= len(digits):
-            return f"a digit is missing at the end: there are {len(digits)}"
-        return f"character {at + 1} of the digits, `{digits[at]}`, isn't one"
+            return f"there are {len(digits)} digits, an odd number: one is missing at the end"
+        return f"character {at + 1}, `{digits[at]}`, isn't a hexadecimal digit"
     if found.number == 3:
-        due = "L_PACKET says another number" if found.alone else "a telegram has 210 bits in 54 digits, or 830 in 208"
-        return f"there are {found.bit} bits in {len(digits)} digits, and {due}"
-    return f"bit {found.bit}, after the last one of the {found.what}, has to be 0"
+        packet = "L_PACKET says how many a packet takes, filled up to a whole byte"
+        telegram = "a telegram takes 54 digits for its 210 bits, or 208 for 830"
+        return f"there are {found.bit} bits in {len(digits)} digits; {packet if found.alone else telegram}"
+    return f"bit {found.bit} isn't zero, and stands after the last one"
 
 
 def _which(found: Found) -> str:
     """The packet, with its number where that was read."""
-    number = next((value for name, value in found.fields if name == "NID_PACKET"), None)
-    name = "" if number is None else f"{number} {packet_name(number)}"
-    if found.alone:
-        return f"the packet, {name}" if name else "the packet"
-    return f"packet {found.packet} of the telegram" + (f", {name}" if name else "")
+    number = next((value for name, value in found.before if name == "NID_PACKET"), None)
+    name = "" if number is None else f" ({number} {packet_name(number)})"
+    return f"the packet{name}" if found.alone else f"packet {found.packet} of the telegram{name}"
 
 
 def _in_packet(found: Found) -> str:
-    place = f"bit {found.bit}" + (" of the packet" if found.alone else "")
     if found.due == "end":
-        return f"its fields end at {place}, and L_PACKET leaves more bits"
+        return "the last field ends, and L_PACKET leaves more bits"
     if found.due == ANOTHER:
-        return f"{found.last}, which ends before {place}, is a value that it can't have"
-    return f"{found.due} is due at {place}, and too few bits are left for it"
+        name, value = found.fields[-1] if found.fields else ("", 0)
+        past = name == "L_PACKET" and value >= LEAST_LENGTH
+        return f"L_PACKET {value} leads past the end" if past else f"no packet has {name} {value}"
+    return f"{found.due} is due, and too few bits are left for it"

@@ -15,30 +15,33 @@ from plandesk.spare import SPARE, spare_plan
 import random_fields
 
 DAMAGED = 120
+TSR = "in packet 0 of the telegram (65 temporary speed restriction), at bit"
 TELEGRAMS = [
-    ("a1127f80a06450502320a0320096047fffffffffffffffffffffc0", "packet 0 of the telegram, 65 temporary speed restriction: V_TSR is due at bit 114, and too few bits are left for it; before it: D_TSR 200, L_TSR 300, Q_FRONT 0"),
-    ("a1127f80a0645050xx", "character 17 of the digits, `x`, isn't one"),
-    ("a1127f8", "a digit is missing at the end: there are 7"),
-    ("a1127f80", "there are 32 bits in 8 digits, and a telegram has 210 bits in 54 digits, or 830 in 208"),
-    ("a1127f80a064505023a0a0320096047fffffffffffffffffffffc1", "bit 215, after the last one of the telegram, has to be 0"),
-    ("21127f80a064505023a0a0320096047fffffffffffffffffffffc0", "Q_UPDOWN, bit 0 of the telegram, has to be 1"),
-    ("a1927f80a064505023a0a0320096047fffffffffffffffffffffc0", "Q_MEDIA, bit 8 of the telegram, has to be 0"),
-    ("a1127f80a064505025" + "0" * 36, "packet 0 of the telegram, 65 temporary speed restriction: its fields end at bit 121, and L_PACKET leaves more bits"),
-    ("a1127f80a0640000" + "0" * 38, "packet 0 of the telegram, 0 unknown packet: NID_PACKET 0, which ends before bit 58, is a value that it can't have"),
-    ("a1127f80a0644b008" + "0" * 37, "packet 0 of the telegram, 44 data of applications outside ETCS: L_PACKET 256, which ends before bit 73"),
+    ("a1127f80a06450502320a0320096047fffffffffffffffffffffc0", f"{TSR} 114, V_TSR is due, and too few bits are left for it; before it: D_TSR 200, L_TSR 300, Q_FRONT 0"),
+    ("a1127f80a0645050xx", "character 17, `x`, isn't a hexadecimal digit"),
+    ("a1127f8", "there are 7 digits, an odd number: one is missing at the end"),
+    ("a1127f80", "there are 32 bits in 8 digits; a telegram takes 54 digits for its 210 bits, or 208 for 830"),
+    ("a1127f80a064505023a0a0320096047fffffffffffffffffffffc1", "bit 215 isn't zero, and stands after the last one"),
+    ("21127f80a064505023a0a0320096047fffffffffffffffffffffc0", "bit 0, Q_UPDOWN, has to be 1"),
+    ("a1927f80a064505023a0a0320096047fffffffffffffffffffffc0", "bit 8, Q_MEDIA, has to be 0"),
+    ("a1127f80a064505025" + "0" * 36, f"{TSR} 121, the last field ends, and L_PACKET leaves more bits; before it: L_TSR 0, Q_FRONT 0, V_TSR 0"),
+    ("a1127f80a0640000" + "0" * 38, "in packet 0 of the telegram, at bit 58, no packet has NID_PACKET 0"),
+    ("a1127f80a0644b008" + "0" * 37, "in packet 0 of the telegram (44 data of applications outside ETCS), at bit 73, L_PACKET 256 leads past the end"),
 ]  # fmt: skip
 """Digits of the second telegram of 5.200, and what is said of them."""
+REVOKED = "in the packet (66 temporary speed restriction revocation), at bit"
 PACKETS = [
-    ("42403c00", "the packet, 66 temporary speed restriction revocation: NID_TSR is due at bit 23 of the packet, and too few bits are left for it; before it: NID_PACKET 66, Q_DIR 1, L_PACKET 30"),
-    ("42404000", "the packet, 66 temporary speed restriction revocation: its fields end at bit 31 of the packet, and L_PACKET leaves more bits"),
-    ("424040", "L_PACKET 32, which ends before bit 23 of the packet, is a value that it can't have; before it: NID_PACKET 66, Q_DIR 1"),
-    ("4240", "L_PACKET is due at bit 10 of the packet"),
-    ("00", "the packet, 0 unknown packet: NID_PACKET 0, which ends before bit 8 of the packet"),
-    ("ff", "NID_PACKET 255, which ends before bit 8 of the packet, is a value that it can't have"),
-    ("42403e01", "bit 31, after the last one of the packet, has to be 0"),
-    ("42403e0000", "there are 40 bits in 10 digits, and L_PACKET says another number"),
-    ("42403e0", "a digit is missing at the end: there are 7"),
-    ("4z403e00", "character 2 of the digits, `z`, isn't one"),
+    ("42403c00", f"{REVOKED} 23, NID_TSR is due, and too few bits are left for it; before it: NID_PACKET 66, Q_DIR 1, L_PACKET 30"),
+    ("42404000", f"{REVOKED} 31, the last field ends, and L_PACKET leaves more bits"),
+    ("424040", f"{REVOKED} 23, L_PACKET 32 leads past the end; before it: NID_PACKET 66, Q_DIR 1"),
+    ("424028", f"{REVOKED} 23, no packet has L_PACKET 20; before it: NID_PACKET 66, Q_DIR 1"),
+    ("4240", f"{REVOKED} 10, L_PACKET is due"),
+    ("00", "in the packet, at bit 8, no packet has NID_PACKET 0"),
+    ("ff", "in the packet, at bit 8, no packet has NID_PACKET 255"),
+    ("42403e01", "bit 31 isn't zero, and stands after the last one"),
+    ("42403e0000", "there are 40 bits in 10 digits; L_PACKET says how many a packet takes, filled up to a whole byte"),
+    ("42403e0", "there are 7 digits, an odd number: one is missing at the end"),
+    ("4z403e00", "character 2, `z`, isn't a hexadecimal digit"),
 ]  # fmt: skip
 
 
@@ -76,8 +79,8 @@ def test_a_bad_journal_over_what_it_added(desk: Desk, line: Path, base: str) -> 
     assert desk("do", f"add 0 {old}").exit_code == 0
     good = (line / "journal").read_text()
     for entry, text in (
-        ("2 insert n1/0 ^ 29403201", "bit 31, after the last one of the packet, has to be 0"),
-        (f"2 add ^ {old} {old[:-1]}1", "telegram 1: bit 215, after the last one of the telegram, has to be 0"),
+        ("2 insert n1/0 ^ 29403201", "bit 31 isn't zero, and stands after the last one"),
+        (f"2 add ^ {old} {old[:-1]}1", "telegram 1: bit 215 isn't zero, and stands after the last one"),
     ):
         (line / "journal").write_text(good.replace("journal 2 2", "journal 2 3") + f"{entry}\n")
         result = desk("log")
@@ -95,7 +98,7 @@ def test_no_end(tmp_path: Path, base: str) -> None:
     plan.write_text(f"plan 1\ngroup\n{int(bits + '0' * 6, 2):054x}\n")
     result = call("init", plan, tmp_path / "new")
     assert (result.exit_code, "(6 NoEnd)" in result.output) == (2, True), result.output
-    assert "packet 255 is due at bit 203 of the telegram, after 1 packet, and isn't there" in result.output
+    assert "packet 255 is due at bit 203, after 1 packet, and too few bits are left" in result.output
 
 
 def test_lines_that_are_no_digits(tmp_path: Path, base: str, desk: Desk) -> None:
@@ -103,8 +106,8 @@ def test_lines_that_are_no_digits(tmp_path: Path, base: str, desk: Desk) -> None
     for other, text in (
         ("packet 33 42403e00", "line 6, `packet 33 42403e00`: a digit isn't hexadecimal"),
         ("plan 1", "line 6, `plan 1`: a digit isn't hexadecimal, or the number of digits is odd (2 BadHex)\n          `plan 1` stands where"),
-        ("telegram 210", "character 1 of the digits, `t`, isn't one"),
-        ("a1 \xff", "character 3 of the digits, ` `, isn't one"),
+        ("telegram 210", "character 1, `t`, isn't a hexadecimal digit"),
+        ("a1 \xff", "character 3, ` `, isn't a hexadecimal digit"),
     ):
         bad = tmp_path / "bad.plan"
         lines = base.splitlines()
@@ -122,7 +125,7 @@ def test_each_fault_of_the_page(desk: Desk) -> None:
     faults = [(given, printed.split(" | ")[-1].split(" ")) for given, printed in runs if "fault " in printed and " | " not in given]
     assert len(faults) > 3
     for given, fault in faults:
-        assert f"bit {fault[4]} of the packet" in desk("do", f"insert 5.200 1 0 {given.split(' ')[2]}").output
+        assert f"at bit {fault[4]}, " in desk("do", f"insert 5.200 1 0 {given.split(' ')[2]}").output
 
 
 @pytest.mark.parametrize("seed", range(DAMAGED))
@@ -142,4 +145,4 @@ def test_random_damage(seed: int, engine: Engine) -> None:
     run = engine.run(spare_plan(int(rest[0])), "", [command := f"insert {SPARE} 0 {rest[1]}"])
     if run.replies[0].refused and run.replies[0].number in OF_DIGITS:
         words = explain(command, run.replies[0], run.groups)
-        assert UNKNOWN not in words and ("bit" in words or "character" in words or "digit is missing" in words), words
+        assert UNKNOWN not in words and ("bit" in words or "character" in words or "one is missing" in words), words

@@ -144,7 +144,7 @@ def the_engine_stops_under_a_form(page: Page) -> None:
     form_of(page, 0, 66)
     fill(page, "NID_TSR", "7")
     page.call("baliseplan.app.worker.worker.onerror({message: 'made to stop'})")
-    page.wait(lambda: "5 groups" in page.text(".state") and page.call("await baliseplan.app.worker.call('plan'); return true"))
+    page.wait(lambda: "5 groups" in page.text(".state") and page.call("return baliseplan.app.worker.call('plan').then(() => true, () => false)"))
     assert page.css("dialog .field-row input").get_attribute("value") == "7"
     fill(page, "NID_TSR", "8")
     shows(page, f"insert 5.100 0 1 {digits_of('packet 33', 'NID_PACKET 66', 'Q_DIR 1', 'NID_TSR 8')}")

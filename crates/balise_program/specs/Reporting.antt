@@ -1,4 +1,4 @@
--- What a program says of its end and of its arguments.
+-- What a program reports of its end and of its arguments.
 use Rattle.std.specs.Prelude.{◌≡◌, ◌⊎◌, ℕ, Bool, true, false, [], Option, Some, None, codes}
 use Rattle.balise_rules.specs.declared.refusal.Refusal.{Refusal}
 use Rattle.balise_lines.specs.Counts.{one_more}

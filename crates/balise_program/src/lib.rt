@@ -1,4 +1,4 @@
-//! What the programs share: the words of a command line, how a program ends, and what it says of that.
+//! What the programs share: the words of a command line, how a program ends, and what it reports.
 #![tactic(auto)]
 
 mod exit;

@@ -1,4 +1,4 @@
-//! What a program says of its end and of its arguments.
+//! What a program reports of its end and of its arguments.
 
 ghost use Rattle.balise_lines.specs.Writing.{Writes};
 ghost use Rattle.balise_program.specs.Reporting.{Shows, reported};

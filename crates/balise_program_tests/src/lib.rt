@@ -1,4 +1,4 @@
-//! Tests of balise_program: how a program ends, and what it says of that.
+//! Tests of balise_program: how a program ends, and what it reports.
 #![tactic(auto)]
 
 #[cfg(test)]

@@ -38,7 +38,10 @@ export function packetDigits(engine, telegram) {
   const { header, packets } = explain(engine, telegram);
   const version = header.find(({ name }) => name === 'M_VERSION')?.value ?? 0;
   const items = packets.map(({ fields, rest }) => packetItem(version, fields.map(({ name, value }) => [name, value]), rest));
-  return spell(engine, items).map(({ digits = '' }) => digits);
+  return spell(engine, items).map(({ digits, bad }) => {
+    if (bad) throw new Error(`the engine refuses its own fields: ${bad.name}`);
+    return digits;
+  });
 }
 
 /**

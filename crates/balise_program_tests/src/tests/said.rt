@@ -1,4 +1,4 @@
-//! What a program says of its end and of its arguments.
+//! What a program reports of its end and of its arguments.
 
 use balise_arguments::flags;
 use balise_program::{

@@ -31,7 +31,13 @@ fn each_item_is_spelt(rt: HostRuntime) {
         check(&rt, rt.alloc(), &SPELT, step, Status::SomeRefused);
     }
     check(&rt, rt.alloc(), &spelt("", ""), 1, Status::AllDone);
-    check(&rt, rt.alloc(), &spelt("group", "group\n"), 1, Status::AllDone);
+    check(
+        &rt,
+        rt.alloc(),
+        &spelt("group", "group\n"),
+        1,
+        Status::AllDone,
+    );
 }
 
 #[test]

@@ -1,5 +1,4 @@
 -- The lines after the first of a journal, as they are read. The digits are looked at where the line is of the grammar.
-use Rattle.balise_rules.specs.Edits as edits
 use Rattle.balise_rules.specs.declared.tagged_edit.TaggedEdit.TheVariants as variants
 use Rattle.std.specs.Prelude.{ℕ, ◌&&◌, if◌then◌else◌, is_some, Bool, false, drop, List, codes, bytes_eq, Option, Some, None, Result, Ok, Err, option_map}
 use Rattle.balise_rules.specs.declared.refusal.Refusal.{Refusal}

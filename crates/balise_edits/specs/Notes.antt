@@ -1,6 +1,7 @@
 -- The notes of this crate as those of the rules, and which edits have which.
-use Rattle.std.specs.Prelude.{◌≡◌, ℕ, Bool, true, false, List, [], Option}
+use Rattle.std.specs.Prelude.{◌≡◌, ℕ, Bool, true, false, List, [], Option, Some}
 use Rattle.balise_rules.specs.declared.identity.Id.{Id}
+use Rattle.balise_rules.specs.declared.tag.Tag.{Tag}
 use Rattle.balise_rules.specs.Packet.{Packet}
 use Rattle.balise_rules.specs.Plan.{Group}
 use Rattle.balise_rules.specs.Edits as rules
@@ -10,7 +11,7 @@ use Rattle.balise_rules.specs.Notes.{nothing}
 use Rattle.balise_edits.specs.declared.note.Names.{Names}
 use Rattle.balise_edits.specs.declared.note.Names.TheVariants.{Neither, One, Both}
 use Rattle.balise_edits.specs.declared.note.Note.{Note}
-use Rattle.balise_edits.specs.declared.note.Note.TheVariants.{Field, Linked, Relinked, Header, Inserted, InsertedLinks, Deleted, Moved, Added, Dropped, Own}
+use Rattle.balise_edits.specs.declared.note.Note.TheVariants.{Field, Linked, Relinked, Header, Inserted, InsertedLinks, Deleted, DeletedLinks, Moved, AddedLink, Added, DroppedLink, Dropped, Own}
 
 abbrev pub names_in : Names → List Id
 names_in Neither = []
@@ -26,6 +27,10 @@ are_two names = false
 abbrev pub of_group : Id → notes.Note
 of_group i = record nothing { old = i.number; own = i }
 
+-- of a group that goes in or out: the identity, and those that it names
+abbrev pub of_named : Id → List Id → notes.Note
+of_named i is = record nothing { own = i; names = is }
+
 -- what a note says; what its kind doesn't hold is nothing
 abbrev pub note_of : Note → notes.Note
 note_of (Field n) = record nothing { old = n }
@@ -34,9 +39,12 @@ note_of (Relinked n is) = record nothing { old = n; names = is.value }
 note_of (Header n) = record nothing { old = n }
 note_of Inserted = nothing
 note_of (InsertedLinks is) = record nothing { names = is.value.items }
-note_of (Deleted x) = record nothing { before = x.value.before; names = x.value.names.items; packet = x.value.packet }
+note_of (Deleted x) = record nothing { before = x.value.before; packet = x.value.packet }
+note_of (DeletedLinks x) = record nothing { before = x.value.before; names = x.value.names.items; packet = x.value.packet }
 note_of (Moved b) = record nothing { before = b }
-note_of (Added y) = record nothing { own = y.value.own; names = y.value.names.items }
+note_of (AddedLink y) = of_named y.value.own y.value.names
+note_of (Added y) = of_named y.value.own y.value.names.items
+note_of (DroppedLink y) = record nothing { before = y.value.before; own = y.value.own; names = y.value.names; group = y.value.group }
 note_of (Dropped y) = record nothing { before = y.value.before; own = y.value.own; names = y.value.names.items; group = y.value.group }
 note_of (Own i) = of_group i
 
@@ -72,8 +80,11 @@ kind_in (Header n) = OfHeader
 kind_in Inserted = OfInsertion
 kind_in (InsertedLinks is) = OfInsertion
 kind_in (Deleted x) = OfDeletion
+kind_in (DeletedLinks x) = OfDeletion
 kind_in (Moved b) = OfMove
+kind_in (AddedLink y) = OfAddition
 kind_in (Added y) = OfAddition
+kind_in (DroppedLink y) = OfRemoval
 kind_in (Dropped y) = OfRemoval
 kind_in (Own i) = OfGroup
 
@@ -94,6 +105,13 @@ with_packet x m = record m { packet = x }
 
 abbrev pub with_group : Option Group → notes.Note → notes.Note
 with_group ys m = record m { group = ys }
+
+-- a note with what was taken out, and its old next neighbour
+abbrev pub with_taken_packet : Packet → Option Tag → notes.Note → notes.Note
+with_taken_packet x b m = record m { before = b; packet = Some x }
+
+abbrev pub with_taken_group : Group → Option Tag → notes.Note → notes.Note
+with_taken_group ys b m = record m { before = b; group = Some ys }
 
 -- whether an edit takes something out of the plan
 abbrev pub takes_out : rules.Edit → Bool

@@ -16,6 +16,7 @@ mod naming;
 mod note;
 mod overlaps;
 mod path;
+mod taken;
 
 pub use applying::{again, apply, take_back};
 pub use balise_commands::{Command, Line, LineEdit, Noted};

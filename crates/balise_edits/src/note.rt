@@ -1,10 +1,13 @@
 //! What an edit notes of the plan before it is done.
 
-ghost use Rattle.std.specs.Prelude.{◌≡◌, false, IfOk, IsOk, IsOkUnless};
+ghost use Rattle.std.specs.Prelude.{◌≡◌, false, IfOk, IsOk, IsOkUnless, Some};
 ghost use Rattle.balise_rules.specs.Notes.{nothing};
-ghost use Rattle.balise_edits.specs.Notes.{are_two, kind_in, names_in, note_of, with_names, with_old, OfField, OfInsertion};
+ghost use Rattle.balise_edits.specs.Notes.{are_two, kind_in, names_in, note_of, of_named, with_group, with_names, with_old, with_packet, with_taken_group, with_taken_packet, OfAddition, OfDeletion, OfField, OfInsertion, OfRemoval};
 
-use crate::copying::{copy_names, copy_packet};
+use crate::copying::copy_names;
+use crate::taken::{
+    AddedGroup, TakenGroup, TakenPacket, copy_group_added, copy_group_taken, copy_packet_taken,
+};
 use balise_plan::{Group, Packet};
 use balise_rules::{Id, Refusal, Tag};
 use std::alloc::Global;
@@ -15,32 +18,6 @@ pub(crate) enum Names {
     Neither,
     One([Id; 1]),
     Both([Id; 2]),
-}
-
-/// A group that was put in: its identity, and those that it names.
-#[derive(Drop)]
-pub(crate) struct AddedGroup {
-    pub(crate) own: Id,
-    pub(crate) names: Vec<Id>,
-}
-
-/// A packet that was taken out of the plan, while it isn't there, the identities that it names, and its old next
-/// neighbour.
-#[derive(Drop)]
-pub(crate) struct TakenPacket {
-    pub(crate) before: Option<Tag>,
-    pub(crate) names: Vec<Id>,
-    pub(crate) packet: Option<Packet>,
-}
-
-/// A group that was taken out of the plan, while it isn't there, its identity, those that it names, and its old next
-/// neighbour.
-#[derive(Drop)]
-pub(crate) struct TakenGroup {
-    pub(crate) before: Option<Tag>,
-    pub(crate) own: Id,
-    pub(crate) names: Vec<Id>,
-    pub(crate) group: Option<Group>,
 }
 
 /// What an edit notes of the plan before it is done, by the kind of the edit. It takes 16 bytes: what is larger has a
@@ -60,14 +37,20 @@ pub(crate) enum Note {
     Inserted,
     /// A packet put in, and the identities that it names.
     InsertedLinks { names: Box<Vec<Id>> },
-    /// A packet taken out.
-    Deleted { taken: Box<TakenPacket> },
+    /// A packet taken out that names no identity.
+    Deleted { taken: Box<TakenPacket<()>> },
+    /// A packet taken out, and the identities that it names.
+    DeletedLinks { taken: Box<TakenPacket<Vec<Id>>> },
     /// A packet moved.
     Moved { before: Option<Tag> },
+    /// A group put in that names one identity, as most do.
+    AddedLink { added: Box<AddedGroup<[Id; 1]>> },
     /// A group put in.
-    Added { added: Box<AddedGroup> },
+    Added { added: Box<AddedGroup<Vec<Id>>> },
+    /// A group taken out that names one identity.
+    DroppedLink { taken: Box<TakenGroup<[Id; 1]>> },
     /// A group taken out.
-    Dropped { taken: Box<TakenGroup> },
+    Dropped { taken: Box<TakenGroup<Vec<Id>>> },
     /// A group renumbered or turned: its old identity.
     Own(Id),
 }
@@ -104,6 +87,103 @@ impl Note {
         Ok(Note::InsertedLinks { names })
     }
 
+    /// The note of a packet that will be taken out and names these identities, but for the packet and its old next
+    /// neighbour.
+    pub(crate) fn of_deletion(alloc: Global, names: Vec<Id>) -> Result<Note, Refusal>
+        ensures noted { IfOk result (λ note. note_of note ≡ with_names names.items nothing) }
+        ensures kind { IfOk result (λ note. kind_in note ≡ OfDeletion) }
+        ensures fault { IsOkUnless result Refusal.OutOfMemory }
+    {
+        if names.is_empty() {
+            let taken = Box::new(alloc, TakenPacket::awaited(()))?;
+            return Ok(Note::Deleted { taken });
+        }
+        let taken = Box::new(alloc, TakenPacket::awaited(names))?;
+        Ok(Note::DeletedLinks { taken })
+    }
+
+    /// The note of a group that will be put in, has this identity and names these.
+    pub(crate) fn of_addition(alloc: Global, own: Id, names: Vec<Id>) -> Result<Note, Refusal>
+        ensures noted { IfOk result (λ note. note_of note ≡ of_named own names.items) }
+        ensures kind { IfOk result (λ note. kind_in note ≡ OfAddition) }
+        ensures fault { IsOkUnless result Refusal.OutOfMemory }
+    {
+        if let [name] = &names[..] {
+            let names = [*name];
+            let added = Box::new(alloc, AddedGroup { own, names })?;
+            return Ok(Note::AddedLink { added });
+        }
+        let added = Box::new(alloc, AddedGroup { own, names })?;
+        Ok(Note::Added { added })
+    }
+
+    /// The note of a group that will be taken out, has this identity and names these, but for the group and its old next
+    /// neighbour.
+    pub(crate) fn of_removal(alloc: Global, own: Id, names: Vec<Id>) -> Result<Note, Refusal>
+        ensures noted { IfOk result (λ note. note_of note ≡ of_named own names.items) }
+        ensures kind { IfOk result (λ note. kind_in note ≡ OfRemoval) }
+        ensures fault { IsOkUnless result Refusal.OutOfMemory }
+    {
+        if let [name] = &names[..] {
+            let taken = Box::new(alloc, TakenGroup::awaited(own, [*name]))?;
+            return Ok(Note::DroppedLink { taken });
+        }
+        let taken = Box::new(alloc, TakenGroup::awaited(own, names))?;
+        Ok(Note::Dropped { taken })
+    }
+
+    /// Has the packet that was taken out, and its old next neighbour.
+    pub(crate) fn set_taken_packet(&mut self, packet: Packet, next: Option<Tag>)
+        requires { kind_in self.old ≡ OfDeletion }
+        ensures noted { note_of self.new ≡ with_taken_packet packet next (note_of self.old) }
+        ensures kind { kind_in self.new ≡ OfDeletion }
+    {
+        match self {
+            Note::Deleted { taken } => taken.keep(packet, next),
+            Note::DeletedLinks { taken } => taken.keep(packet, next),
+            _ => (),
+        }
+    }
+
+    /// Has the packet that was taken out.
+    pub(crate) fn keep_packet(&mut self, packet: Packet)
+        requires { kind_in self.old ≡ OfDeletion }
+        ensures noted { note_of self.new ≡ with_packet (Some packet) (note_of self.old) }
+        ensures kind { kind_in self.new ≡ OfDeletion }
+    {
+        match self {
+            Note::Deleted { taken } => taken.packet = Some(packet),
+            Note::DeletedLinks { taken } => taken.packet = Some(packet),
+            _ => (),
+        }
+    }
+
+    /// Has the group that was taken out, and its old next neighbour.
+    pub(crate) fn set_taken_group(&mut self, group: Group, next: Option<Tag>)
+        requires { kind_in self.old ≡ OfRemoval }
+        ensures noted { note_of self.new ≡ with_taken_group group next (note_of self.old) }
+        ensures kind { kind_in self.new ≡ OfRemoval }
+    {
+        match self {
+            Note::DroppedLink { taken } => taken.keep(group, next),
+            Note::Dropped { taken } => taken.keep(group, next),
+            _ => (),
+        }
+    }
+
+    /// Has the group that was taken out.
+    pub(crate) fn keep_group(&mut self, group: Group)
+        requires { kind_in self.old ≡ OfRemoval }
+        ensures noted { note_of self.new ≡ with_group (Some group) (note_of self.old) }
+        ensures kind { kind_in self.new ≡ OfRemoval }
+    {
+        match self {
+            Note::DroppedLink { taken } => taken.group = Some(group),
+            Note::Dropped { taken } => taken.group = Some(group),
+            _ => (),
+        }
+    }
+
     /// Has the old value of a field that was set.
     pub(crate) fn set_old(&mut self, value: u32)
         requires { kind_in self.old ≡ OfField }
@@ -137,14 +217,23 @@ impl Note {
                 names: copy_placed_names(names)?,
             }),
             Note::Deleted { ref taken } => Ok(Note::Deleted {
-                taken: copy_packet_taken(taken)?,
+                taken: copy_packet_taken(taken, ())?,
+            }),
+            Note::DeletedLinks { ref taken } => Ok(Note::DeletedLinks {
+                taken: copy_packet_taken(taken, copy_names(&taken.names)?)?,
             }),
             Note::Moved { before } => Ok(Note::Moved { before }),
+            Note::AddedLink { ref added } => Ok(Note::AddedLink {
+                added: copy_group_added(added, added.names)?,
+            }),
             Note::Added { ref added } => Ok(Note::Added {
-                added: copy_group_added(added)?,
+                added: copy_group_added(added, copy_names(&added.names)?)?,
+            }),
+            Note::DroppedLink { ref taken } => Ok(Note::DroppedLink {
+                taken: copy_group_taken(taken, taken.names)?,
             }),
             Note::Dropped { ref taken } => Ok(Note::Dropped {
-                taken: copy_group_taken(taken)?,
+                taken: copy_group_taken(taken, copy_names(&taken.names)?)?,
             }),
             Note::Own(own) => Ok(Note::Own(own)),
         }
@@ -170,7 +259,9 @@ impl Note {
     {
         match self {
             Note::Deleted { taken } => taken.before,
+            Note::DeletedLinks { taken } => taken.before,
             Note::Moved { before } => *before,
+            Note::DroppedLink { taken } => taken.before,
             Note::Dropped { taken } => taken.before,
             _ => None,
         }
@@ -181,7 +272,9 @@ impl Note {
         ensures { result ≡ (note_of self.now).own }
     {
         match self {
+            Note::AddedLink { added } => added.own,
             Note::Added { added } => added.own,
+            Note::DroppedLink { taken } => taken.own,
             Note::Dropped { taken } => taken.own,
             Note::Own(own) => *own,
             _ => Id {
@@ -199,8 +292,10 @@ impl Note {
             Note::Linked { names, .. } => names,
             Note::Relinked { names, .. } => &**names,
             Note::InsertedLinks { names } => names,
-            Note::Deleted { taken } => &taken.names,
+            Note::DeletedLinks { taken } => &taken.names,
+            Note::AddedLink { added } => &added.names,
             Note::Added { added } => &added.names,
+            Note::DroppedLink { taken } => &taken.names,
             Note::Dropped { taken } => &taken.names,
             _ => &[],
         }
@@ -222,75 +317,4 @@ fn copy_placed_names(names: &Box<Vec<Id>>) -> Result<Box<Vec<Id>>, Refusal>
 {
     let copied = copy_names(names)?;
     Ok(Box::new(*Box::allocator(names), copied)?)
-}
-
-// A group that was put in once more.
-fn copy_group_added(added: &Box<AddedGroup>) -> Result<Box<AddedGroup>, Refusal>
-    ensures own { IfOk result (λ copied. copied.value.own ≡ added.now.value.own) }
-    ensures names { IfOk result (λ copied. copied.value.names.items ≡ added.now.value.names.items) }
-    ensures fault { IsOkUnless result Refusal.OutOfMemory }
-{
-    let own = added.own;
-    let names = copy_names(&added.names)?;
-    Ok(Box::new(*Box::allocator(added), AddedGroup { own, names })?)
-}
-
-// A packet that was taken out once more.
-fn copy_packet_taken(taken: &Box<TakenPacket>) -> Result<Box<TakenPacket>, Refusal>
-    ensures before { IfOk result (λ copied. copied.value.before ≡ taken.now.value.before) }
-    ensures names { IfOk result (λ copied. copied.value.names.items ≡ taken.now.value.names.items) }
-    ensures packet { IfOk result (λ copied. copied.value.packet ≡ taken.now.value.packet) }
-    ensures fault { IsOkUnless result Refusal.OutOfMemory }
-{
-    let before = taken.before;
-    let names = copy_names(&taken.names)?;
-    let packet = copy_packet_or_none(&taken.packet)?;
-    let copied = TakenPacket {
-        before,
-        names,
-        packet,
-    };
-    Ok(Box::new(*Box::allocator(taken), copied)?)
-}
-
-// A group that was taken out once more.
-fn copy_group_taken(taken: &Box<TakenGroup>) -> Result<Box<TakenGroup>, Refusal>
-    ensures before { IfOk result (λ copied. copied.value.before ≡ taken.now.value.before) }
-    ensures own { IfOk result (λ copied. copied.value.own ≡ taken.now.value.own) }
-    ensures names { IfOk result (λ copied. copied.value.names.items ≡ taken.now.value.names.items) }
-    ensures group { IfOk result (λ copied. copied.value.group ≡ taken.now.value.group) }
-    ensures fault { IsOkUnless result Refusal.OutOfMemory }
-{
-    let (before, own) = (taken.before, taken.own);
-    let names = copy_names(&taken.names)?;
-    let group = copy_group_or_none(&taken.group)?;
-    let copied = TakenGroup {
-        before,
-        own,
-        names,
-        group,
-    };
-    Ok(Box::new(*Box::allocator(taken), copied)?)
-}
-
-// A packet once more, if there is one.
-fn copy_packet_or_none(packet: &Option<Packet>) -> Result<Option<Packet>, Refusal>
-    ensures ok { IfOk result (λ copied. copied ≡ packet.now) }
-    ensures fault { IsOkUnless result Refusal.OutOfMemory }
-{
-    let Some(packet) = packet else {
-        return Ok(None);
-    };
-    Ok(Some(copy_packet(packet)?))
-}
-
-// A group once more, if there is one.
-fn copy_group_or_none(group: &Option<Group>) -> Result<Option<Group>, Refusal>
-    ensures ok { IfOk result (λ copied. copied ≡ group.now) }
-    ensures fault { IsOkUnless result Refusal.OutOfMemory }
-{
-    let Some(group) = group else {
-        return Ok(None);
-    };
-    Ok(Some(group.copy()?))
 }

@@ -15,6 +15,7 @@ impl Entry {
     {
         match &mut self.done.note {
             Note::Deleted { taken } => taken.packet.take(),
+            Note::DeletedLinks { taken } => taken.packet.take(),
             _ => None,
         }
     }
@@ -24,9 +25,7 @@ impl Entry {
         requires { kind_of self.old.0.1 ≡ OfDeletion }
         ensures { self.new ≡ (self.old.0, with_packet (Some packet) self.old.1) }
     {
-        if let Note::Deleted { taken } = &mut self.done.note {
-            taken.packet = Some(packet);
-        }
+        self.done.note.keep_packet(packet);
     }
 
     /// The group that was taken out, if the entry has one; it has none then.
@@ -35,6 +34,7 @@ impl Entry {
         ensures left { self.new ≡ (self.old.0, with_group None self.old.1) }
     {
         match &mut self.done.note {
+            Note::DroppedLink { taken } => taken.group.take(),
             Note::Dropped { taken } => taken.group.take(),
             _ => None,
         }
@@ -45,8 +45,6 @@ impl Entry {
         requires { kind_of self.old.0.1 ≡ OfRemoval }
         ensures { self.new ≡ (self.old.0, with_group (Some group) self.old.1) }
     {
-        if let Note::Dropped { taken } = &mut self.done.note {
-            taken.group = Some(group);
-        }
+        self.done.note.keep_group(group);
     }
 }

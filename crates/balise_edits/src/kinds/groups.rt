@@ -14,9 +14,9 @@ use crate::copying::copy_telegrams;
 use crate::edit::Edit;
 use crate::entry::Entry;
 use crate::naming::names_of_group;
-use crate::note::{AddedGroup, Note, TakenGroup};
+use crate::note::Note;
 use balise_plan::{Bits, Group, Plan, Spot};
-use balise_rules::{Id, Refusal, Tag};
+use balise_rules::{Refusal, Tag};
 use std::alloc::Global;
 
 /// Puts the group of these telegrams in after an anchor, under the tag of a serial, and answers what that notes.
@@ -55,8 +55,8 @@ fn note_added(alloc: Global, group: &Group) -> Result<Note, Refusal>
 {
     let own = group.identity();
     let names = names_of_group(alloc, group)?;
-    let added = Box::new(alloc, AddedGroup { own, names })?;
-    Ok(Note::Added { added })
+    let note = Note::of_addition(alloc, own, names)?;
+    Ok(note)
 }
 
 // Puts this group in; where it is refused, it is dropped.
@@ -117,30 +117,14 @@ pub(crate) fn drop_group(alloc: Global, plan: &mut Plan, g: Tag) -> Result<Note,
         Some(group) => (group.identity(), names_of_group(alloc, group)?),
         None => return Err(Refusal::NoSuchGroup),
     };
-    let mut taken = place_for_group(alloc, own, names)?;
+    let mut note = Note::of_removal(alloc, own, names)?;
     match plan.take_group(g) {
         Ok((group, before)) => {
-            taken.before = before;
-            taken.group = Some(group);
-            Ok(Note::Dropped { taken })
+            note.set_taken_group(group, before);
+            Ok(note)
         }
         Err(fault) => Err(fault),
     }
-}
-
-// A place for a group that isn't taken out yet.
-fn place_for_group(alloc: Global, own: Id, names: Vec<Id>) -> Result<Box<TakenGroup>, Refusal>
-    ensures own { IfOk result (λ taken. taken.value.own ≡ own) }
-    ensures names { IfOk result (λ taken. taken.value.names.items ≡ names.items) }
-    ensures fault { IsOkUnless result Refusal.OutOfMemory }
-{
-    let taken = TakenGroup {
-        before: None,
-        own,
-        names,
-        group: None,
-    };
-    Ok(Box::new(alloc, taken)?)
 }
 
 /// Puts it back in front of its old next neighbour, and is refused only as out of memory.

@@ -14,9 +14,9 @@ use crate::copying::copy_packet;
 use crate::edit::Edit;
 use crate::entry::Entry;
 use crate::naming::add_packet;
-use crate::note::{Note, TakenPacket};
+use crate::note::Note;
 use balise_plan::{Packet, Plan, Spot};
-use balise_rules::{Id, Refusal, Tag};
+use balise_rules::{Refusal, Tag};
 use std::alloc::Global;
 
 /// Puts a packet in after an anchor, under the tag of a serial, and answers what that notes.
@@ -124,28 +124,14 @@ pub(crate) fn delete(
             add_packet(&mut names, &packet, telegram.identity().country)?;
         }
     }
-    let mut taken = place_for_packet(alloc, names)?;
+    let mut note = Note::of_deletion(alloc, names)?;
     match plan.take_packet(g, t, p) {
         Ok((packet, before)) => {
-            taken.before = before;
-            taken.packet = Some(packet);
-            Ok(Note::Deleted { taken })
+            note.set_taken_packet(packet, before);
+            Ok(note)
         }
         Err(fault) => Err(fault),
     }
-}
-
-// A place for a packet that isn't taken out yet.
-fn place_for_packet(alloc: Global, names: Vec<Id>) -> Result<Box<TakenPacket>, Refusal>
-    ensures names { IfOk result (λ taken. taken.value.names.items ≡ names.items) }
-    ensures fault { IsOkUnless result Refusal.OutOfMemory }
-{
-    let taken = TakenPacket {
-        before: None,
-        names,
-        packet: None,
-    };
-    Ok(Box::new(alloc, taken)?)
 }
 
 /// Puts it back in front of its old next neighbour, and is refused only as out of memory.

@@ -1,5 +1,5 @@
 -- What the codec's calls find, as what digits are explained as.
-use Rattle.std.proofs.Common.{◌≡◌, ◌∙◌, inl, inr, ℕ, ◌+◌, ◌==◌, ◌&&◌, ◌≤◌, Bool, true, List, [], ◌∷◌, ◌++◌, length, take, drop, Option, Some, None, Ok, Err, refl, sym, ap, subst, append_assoc, append-nil, length-append, arith}
+use Rattle.std.proofs.Common.{◌≡◌, ◌∙◌, inl, inr, ℕ, ◌+◌, ◌==◌, ◌&&◌, ◌≤◌, Bool, true, List, [], ◌∷◌, ◌++◌, length, take, drop, Option, IsSome, Some, None, Ok, Err, refl, sym, ap, subst, append_assoc, append-nil, length-append, arith}
 use Rattle.std.proofs.lemmas.List.{length-drop, length-take, take_all}
 use Rattle.std.proofs.lemmas.List.Elements.{All-push}
 use Rattle.balise_rules.specs.declared.refusal.Refusal.{Refusal}
@@ -27,6 +27,11 @@ Tagged = Tag × Packet
 
 front_within : (b x y : List Bool) → b ≡ x ++ y → length x ≤ length b
 front_within b x y e = omega (arith, ap length e, length-append x y)
+
+-- what isn't None is there
+pub some_of : {A : Type 0} → (o : Option A) → (o ≡ None → ⊥) → IsSome o
+some_of None f = absurd (f refl)
+some_of (Some x) f = refl
 
 -- the fields before a fault stand among the bits
 pub reach_fits : (version : ℕ) (b : List Bool) (at : ℕ) (r : Reach) → Tells version b at (Some r) → length (spelling (all_keyed r.fields.items)) ≤ length b

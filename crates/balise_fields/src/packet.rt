@@ -62,9 +62,7 @@ fn explain_fault(
     ensures { IfOk result (λ x. IsAloneBegun version bits.now refusal x) }
 {
     let _len = bits.len();
-    let Some(reach) = packet_fault(alloc, bits, 0, version)? else {
-        unreachable!()
-    };
+    let reach = packet_fault(alloc, bits, 0, version)?.unwrap();
     let (fields, _) = place_all(alloc, 0, &reach.fields)?;
     let fault = DigitFault {
         refusal,

@@ -84,12 +84,8 @@ fn explain_stop(alloc: Global, bits: &Bits, version: u32) -> Result<Explained, F
     let len = bits.len();
     let header = explain_header(alloc, bits)?;
     let (packets, stop) = explain_packets(alloc, bits, version)?;
-    let Some(reason) = stop.fault else {
-        unreachable!()
-    };
-    let Some(reach) = packet_fault(alloc, bits, stop.at, version)? else {
-        unreachable!()
-    };
+    let reason = stop.fault.unwrap();
+    let reach = packet_fault(alloc, bits, stop.at, version)?.unwrap();
     let (last, _) = place_all(alloc, stop.at, &reach.fields)?;
     Ok(Explained::Begun(Begun {
         len,

@@ -1,5 +1,7 @@
--- What is printed for a word, and the bytes of its digits.
-use Rattle.std.specs.Prelude.{ℕ, ◌++◌, List, [], ◌∷◌, Bool, true, false, Option, None, Some, length, decimal}
+-- What is printed for a word, and the bytes of its digits; and what a fault says of the writer of a text.
+use Rattle.std.specs.Prelude.{ℕ, ◌++◌, List, [], ◌∷◌, Bool, true, false, Option, None, Some, Result, MatchResult, length, decimal}
+use Rattle.balise_lines.specs.Writing.{CountsFor, LastFailed, Never, NoneFailed, Reason, WritesAll, WritesSome}
+use Rattle.balise_lines.specs.declared.counted.Counted.{Counted}
 use Rattle.balise_rules.specs.Bits.{num, part, zeros}
 use Rattle.balise_rules.specs.Digits.{fill, hex_of}
 use Rattle.balise_text.specs.Texts.{Text}
@@ -7,6 +9,8 @@ use Rattle.balise_text.specs.Places.{tag_text, anchor_text, neighbour_text, tele
 use Rattle.balise_text.specs.Reviews.{id_text}
 use Rattle.balise_text.specs.declared.printing.Word.{Word}
 use Rattle.balise_text.specs.declared.printing.Word.TheVariants.{Name, Number, LineNumber, Identity, GroupTag, Anchor, Neighbour, TelegramPath, PacketPath, Digits}
+use Rattle.balise_text.specs.declared.run_fault.RunFault.{RunFault}
+use Rattle.balise_text.specs.declared.run_fault.RunFault.TheVariants.{OutOfMemory, WriteFault}
 
 abbrev pub word_text : Word → Text
 word_text (Name t) = t.now
@@ -38,3 +42,17 @@ padded b = b ++ zeros (fill (length b))
 -- the value of the byte from a place on
 abbrev pub byte_at : ℕ → List Bool → ℕ
 byte_at at b = num (part at 8 (padded b))
+
+-- why a text wasn't written to its end, where the run ends with this fault
+abbrev pub reason_of : RunFault → Reason
+reason_of OutOfMemory = NoneFailed
+reason_of WriteFault = LastFailed
+reason_of e = Never
+
+-- the fault of a line that was done or printed: out of memory, or the writer's count went up
+abbrev pub IsCause : ℕ → ℕ → RunFault → Type 0
+IsCause old new e = CountsFor (reason_of e) old new
+
+-- all of the text was written and no call failed, or a beginning of it and then this fault; where the writer failed, not all of it
+abbrev pub Prints : {W A : Type 0} → (W → Option (List ℕ)) → Counted W → Counted W → Result A RunFault → List ℕ → Type 0
+Prints contents old new r text = MatchResult r (λ _. WritesAll contents old new text) (λ fault. WritesSome (reason_of fault) contents old new text)

@@ -10,12 +10,12 @@ use Rattle.balise_fields.proofs.packet.explain_fault.Goals as goal
 pub place_all-requires : goal.place_all-requires
 place_all-requires c =
     let b = c.args.bits.now in
-    let t : Tells c.args.version b 0 (Some c.in-Some.reach) = subst (Tells c.args.version b 0) c.in-Some.is c.in_ok-reach.ensures.tells in
-    let e : length (spelling (all_keyed c.deref.result.now)) ≤ length b = subst (λ fs. length (spelling (all_keyed fs)) ≤ length b) (sym c.deref.ensures.value) (reach_fits c.args.version b 0 c.in-Some.reach t) in
+    let t : Tells c.args.version b 0 (Some c.unwrap-reach.result) = subst (Tells c.args.version b 0) c.unwrap-reach.ensures c.in_ok-packet_fault.ensures.tells in
+    let e : length (spelling (all_keyed c.deref.result.now)) ≤ length b = subst (λ fs. length (spelling (all_keyed fs)) ≤ length b) (sym c.deref.ensures.value) (reach_fits c.args.version b 0 c.unwrap-reach.result t) in
     omega (arith, e, c.len-len.ensures, c.len-len.type_inv)
 
 pub returns : goal.returns
 returns c =
     let b = c.args.bits.now in
-    let t : Tells c.args.version b 0 (Some c.in-Some.reach) = subst (Tells c.args.version b 0) c.in-Some.is c.in_ok-reach.ensures.tells in
-    (refl, (c.in-Some.reach, t, c.in_ok-fields.ensures.ok.0 ∙ ap (λ fs. placed 0 (all_keyed fs)) c.deref.ensures.value, ap (λ d. fault c.args.refusal (Some 0) c.in-Some.reach.at d) c.due_of.ensures))
+    let t : Tells c.args.version b 0 (Some c.unwrap-reach.result) = subst (Tells c.args.version b 0) c.unwrap-reach.ensures c.in_ok-packet_fault.ensures.tells in
+    (refl, (c.unwrap-reach.result, t, c.in_ok-fields.ensures.ok.0 ∙ ap (λ fs. placed 0 (all_keyed fs)) c.deref.ensures.value, ap (λ d. fault c.args.refusal (Some 0) c.unwrap-reach.result.at d) c.due_of.ensures))

@@ -1,0 +1,3 @@
+pub mod PlaceTexts
+pub mod FactTexts
+pub mod TagTexts

@@ -1,0 +1,12 @@
+//! What is to be told of a session.
+
+/// What is to be told of a session.
+#[derive(Clone, Copy, Debug, PartialEq, Eq)]
+pub enum Facts {
+    /// Of each standing edit, by rising serial: what it changes, what it needs, and the later ones that depend on it.
+    Edits,
+    /// The same of the edit of this serial alone, if it stands.
+    Edit(u32),
+    /// The tags of the groups, telegrams and packets of the plan, in order.
+    Tags,
+}

@@ -1,0 +1,207 @@
+//! Writes the lines of places. No memory is taken.
+
+ghost use Rattle.std.specs.Prelude.{◌∷◌, map};
+ghost use Rattle.balise_edits.specs.Places.{in_group, in_packet, in_telegram, path_of};
+ghost use Rattle.balise_facts.specs.FactTexts.{place_line};
+ghost use Rattle.balise_lines.specs.Writing.{Writes};
+ghost use Rattle.balise_rules.specs.Paths.{At, Nth};
+ghost use Rattle.balise_text.specs.Texts.{text_of};
+
+use crate::tag_text::TagText;
+use balise_edits::{InGroup, InPacket, InTelegram, Path, Tag};
+use balise_lines::{Counted, WriteFault};
+use balise_text::put_texts;
+use itoa::Buffer;
+use std::io::Write;
+
+/// Writes the lines of a name and places.
+pub(crate) fn put_places<W: Write>(
+    writer: &mut Counted<W>,
+    name: &'static [u8],
+    places: &[Path],
+) -> Result<(), WriteFault>
+    ensures { Writes W.contents writer.old writer.new result (text_of (map (place_line name.now) (map path_of places.now))) }
+{
+    for place in places {
+        if let Err(fault) = put_place(writer, name, place) {
+            return Err(fault);
+        }
+    }
+    Ok(())
+}
+
+// Writes the line of a name and a place.
+fn put_place<W: Write>(
+    writer: &mut Counted<W>,
+    name: &'static [u8],
+    place: &Path,
+) -> Result<(), WriteFault>
+    ensures { Writes W.contents writer.old writer.new result (place_line name.now (path_of place.now)) }
+{
+    let mut country = Buffer::new();
+    let mut number = Buffer::new();
+    match place {
+        Path::Group(g, part) => put_in_group(writer, name, *g, part),
+        Path::First => put_texts(writer, &[name, b" ^.after\n"]),
+        Path::Last => put_texts(writer, &[name, b" $.front\n"]),
+        Path::Identity(id) => put_texts(
+            writer,
+            &[
+                name,
+                b" #",
+                country.format(id.country).as_bytes(),
+                b".",
+                number.format(id.number).as_bytes(),
+                b"\n",
+            ],
+        ),
+    }
+}
+
+// Writes the line of a name and a group or a part of it.
+fn put_in_group<W: Write>(
+    writer: &mut Counted<W>,
+    name: &'static [u8],
+    g: Tag,
+    part: &InGroup,
+) -> Result<(), WriteFault>
+    ensures { Writes W.contents writer.old writer.new result (place_line name.now (At g ∷ in_group part.now)) }
+{
+    let mut group = TagText::new();
+    let group = group.format(g);
+    match part {
+        InGroup::Whole => put_texts(writer, &[name, b" ", group, b"\n"]),
+        InGroup::After => put_texts(writer, &[name, b" ", group, b".after\n"]),
+        InGroup::Front => put_texts(writer, &[name, b" ", group, b".front\n"]),
+        InGroup::Turn => put_texts(writer, &[name, b" ", group, b".turn\n"]),
+        InGroup::Name => put_texts(writer, &[name, b" ", group, b".name\n"]),
+        InGroup::Telegram(t, part) => put_in_telegram(writer, name, g, *t, part),
+    }
+}
+
+// Writes the line of a name and a part of a telegram.
+fn put_in_telegram<W: Write>(
+    writer: &mut Counted<W>,
+    name: &'static [u8],
+    g: Tag,
+    t: u32,
+    part: &InTelegram,
+) -> Result<(), WriteFault>
+    ensures { Writes W.contents writer.old writer.new result (place_line name.now (At g ∷ Nth t ∷ in_telegram part.now)) }
+{
+    let mut group = TagText::new();
+    let mut telegram = Buffer::new();
+    match part {
+        InTelegram::Head(var) => put_texts(
+            writer,
+            &[
+                name,
+                b" ",
+                group.format(g),
+                b"/",
+                telegram.format(t).as_bytes(),
+                b"/head.",
+                var.name().as_bytes(),
+                b"\n",
+            ],
+        ),
+        InTelegram::First => put_texts(
+            writer,
+            &[
+                name,
+                b" ",
+                group.format(g),
+                b"/",
+                telegram.format(t).as_bytes(),
+                b"/^.after\n",
+            ],
+        ),
+        InTelegram::Last => put_texts(
+            writer,
+            &[
+                name,
+                b" ",
+                group.format(g),
+                b"/",
+                telegram.format(t).as_bytes(),
+                b"/$.front\n",
+            ],
+        ),
+        InTelegram::Packet(p, part) => put_in_packet(writer, name, g, t, *p, part),
+    }
+}
+
+// Writes the line of a name and a packet or a part of it.
+fn put_in_packet<W: Write>(
+    writer: &mut Counted<W>,
+    name: &'static [u8],
+    g: Tag,
+    t: u32,
+    p: Tag,
+    part: &InPacket,
+) -> Result<(), WriteFault>
+    ensures { Writes W.contents writer.old writer.new result (place_line name.now (At g ∷ Nth t ∷ At p ∷ in_packet part.now)) }
+{
+    let mut group = TagText::new();
+    let mut telegram = Buffer::new();
+    let mut packet = TagText::new();
+    let mut occurrence = Buffer::new();
+    match part {
+        InPacket::Whole => put_texts(
+            writer,
+            &[
+                name,
+                b" ",
+                group.format(g),
+                b"/",
+                telegram.format(t).as_bytes(),
+                b"/",
+                packet.format(p),
+                b"\n",
+            ],
+        ),
+        InPacket::After => put_texts(
+            writer,
+            &[
+                name,
+                b" ",
+                group.format(g),
+                b"/",
+                telegram.format(t).as_bytes(),
+                b"/",
+                packet.format(p),
+                b".after\n",
+            ],
+        ),
+        InPacket::Front => put_texts(
+            writer,
+            &[
+                name,
+                b" ",
+                group.format(g),
+                b"/",
+                telegram.format(t).as_bytes(),
+                b"/",
+                packet.format(p),
+                b".front\n",
+            ],
+        ),
+        InPacket::Field(var, k) => put_texts(
+            writer,
+            &[
+                name,
+                b" ",
+                group.format(g),
+                b"/",
+                telegram.format(t).as_bytes(),
+                b"/",
+                packet.format(p),
+                b".",
+                var.name().as_bytes(),
+                b".",
+                occurrence.format(*k).as_bytes(),
+                b"\n",
+            ],
+        ),
+    }
+}

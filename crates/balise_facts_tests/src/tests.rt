@@ -1,0 +1,5 @@
+//! The tests, by topic.
+
+mod largest;
+mod sessions;
+mod told;

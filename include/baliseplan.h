@@ -1,5 +1,5 @@
-/* baliseplan and balisefields in your own process: what these programs do from standard input to standard output, from
- * memory to memory.
+/* baliseplan, balisefacts and balisefields in your own process: what these programs do from standard input to standard
+ * output, from memory to memory.
  *
  * Link with what `pkg-config --cflags --libs baliseplan` prints. baliseplan(3) and LIBRARY.md have the whole interface,
  * FORMATS.md has what goes in and what comes out.
@@ -48,6 +48,11 @@ extern "C" {
 #define BALISEPLAN_JSON 8u    /* print a line of JSON for each group after that */
 #define BALISEPLAN_FLAGS 15u  /* all of them */
 
+/* What facts are asked for. Any other number is an error of the caller: BALISEPLAN_USAGE. */
+#define BALISEPLAN_ALL_EDITS 0u /* those of each edit that stands */
+#define BALISEPLAN_ONE_EDIT 1u  /* those of one edit, if it stands */
+#define BALISEPLAN_TAGS 2u      /* the tags of groups, telegrams and packets */
+
 /* Statuses: the run came to its end, and the output is whole. They are the exit statuses of the program. */
 #define BALISEPLAN_ACCEPTED 0     /* all commands were accepted */
 #define BALISEPLAN_SOME_REFUSED 1 /* at least one command was refused */
@@ -59,7 +64,7 @@ extern "C" {
 #define BALISEPLAN_READ_FAULT 31     /* never answered: reading memory doesn't fail */
 #define BALISEPLAN_OUTPUT_FULL 32    /* the output is too small, and full (the program's WriteFault) */
 
-/* An unknown flag: nothing was run or written, and the length is 0. */
+/* An unknown flag, or a number of facts that is none: nothing was run or written, and the length is 0. */
 #define BALISEPLAN_USAGE 64
 
 /* BALISEPLAN_ABI of the header that the library was built for. */
@@ -93,6 +98,18 @@ int32_t baliseplan_size(const uint8_t *input, size_t input_len, uint32_t flags, 
  * input may be null where its length is 0, and *output and *output_len needn't be initialized. */
 int32_t baliseplan_run_alloc(const uint8_t *input, size_t input_len, uint32_t flags, uint8_t **output,
                              size_t *output_len);
+
+/* Runs as baliseplan_run with BALISEPLAN_QUIET, and writes what the program balisefacts prints: facts of the session that
+ * stands after the last command in place of the plan (FORMATS.md). what is BALISEPLAN_ALL_EDITS, BALISEPLAN_ONE_EDIT or
+ * BALISEPLAN_TAGS; only BALISEPLAN_ONE_EDIT looks at serial.
+ * Returns a status, a fault or BALISEPLAN_USAGE, as baliseplan_run. */
+int32_t baliseplan_facts(const uint8_t *input, size_t input_len, uint32_t what, uint32_t serial, uint8_t *output,
+                         size_t output_len, size_t *written);
+
+/* The same with an output that it allocates, as baliseplan_run_alloc does. It begins with some room and runs again with
+ * more while it is too small, so it never returns BALISEPLAN_OUTPUT_FULL. */
+int32_t baliseplan_facts_alloc(const uint8_t *input, size_t input_len, uint32_t what, uint32_t serial,
+                               uint8_t **output, size_t *output_len);
 
 /* Writes what the program balisefields prints for input, a telegram or a packet a line: the fields of its digits, or why
  * and where they are refused (FIELDS.md). It goes to the front of output, and the number of bytes to *written; the bytes
@@ -135,6 +152,14 @@ static inline int32_t baliseplan_size_or_null(const uint8_t *input, size_t input
     return baliseplan_size(input_len ? input : &none, input_len, flags, size);
 }
 
+static inline int32_t baliseplan_facts_or_null(const uint8_t *input, size_t input_len, uint32_t what, uint32_t serial,
+                                               uint8_t *output, size_t output_len, size_t *written)
+{
+    uint8_t none = 0;
+    return baliseplan_facts(input_len ? input : &none, input_len, what, serial, output_len ? output : &none, output_len,
+                            written);
+}
+
 static inline int32_t baliseplan_explain_or_null(const uint8_t *input, size_t input_len, uint8_t *output,
                                                  size_t output_len, size_t *written)
 {
@@ -152,6 +177,8 @@ static inline int32_t baliseplan_spell_or_null(const uint8_t *input, size_t inpu
 #define baliseplan_run(input, input_len, flags, output, output_len, written) \
     baliseplan_run_or_null(input, input_len, flags, output, output_len, written)
 #define baliseplan_size(input, input_len, flags, size) baliseplan_size_or_null(input, input_len, flags, size)
+#define baliseplan_facts(input, input_len, what, serial, output, output_len, written) \
+    baliseplan_facts_or_null(input, input_len, what, serial, output, output_len, written)
 #define baliseplan_explain(input, input_len, output, output_len, written) \
     baliseplan_explain_or_null(input, input_len, output, output_len, written)
 #define baliseplan_spell(input, input_len, output, output_len, written) \

@@ -55,6 +55,25 @@ int32_t baliseplan_run_alloc(const uint8_t *input, size_t input_len, uint32_t fl
     return answer;
 }
 
+int32_t baliseplan_facts_alloc(const uint8_t *input, size_t input_len, uint32_t what, uint32_t serial,
+                               uint8_t **output, size_t *output_len)
+{
+    size_t room = first_room(input_len, 0);
+    int32_t answer;
+    *output = NULL;
+    *output_len = 0;
+    if (what > BALISEPLAN_TAGS)
+        return BALISEPLAN_USAGE;
+    do {
+        if (!renew(output, room))
+            return BALISEPLAN_OUT_OF_MEMORY;
+        answer = baliseplan_facts(input, input_len, what, serial, *output, room, output_len);
+        room *= 4;
+    } while (answer == BALISEPLAN_OUTPUT_FULL);
+    shrink(output, *output_len);
+    return answer;
+}
+
 /* A call over fields, in either direction. Digits are explained by some eight times as many bytes. */
 typedef int32_t fields_call(const uint8_t *, size_t, uint8_t *, size_t, size_t *);
 

@@ -24,7 +24,7 @@ const char *baliseplan_strerror(int32_t answer)
     case BALISEPLAN_OUTPUT_FULL:
         return "the output is too small";
     case BALISEPLAN_USAGE:
-        return "unknown flag";
+        return "unknown flag or number of facts";
     default:
         return "unknown answer";
     }

@@ -21,6 +21,15 @@ static const char OUTPUT[] = "ok 1\n"
                              "plan 1\n"
                              "group\n"
                              "a1007f80a03250900f84ffffffffffffffffffffffffffffffffc0\n";
+static const char FACTS_OUTPUT[] = "refused 19 ValueTooWide\n"
+                                   "facts 1\n"
+                                   "edit 1\n"
+                                   "changes b0/0/b0.NID_TSR.0\n";
+static const char TAGS_OUTPUT[] = "refused 19 ValueTooWide\n"
+                                  "facts 1\n"
+                                  "group 5.100 b0\n"
+                                  "telegram 5.100 0 0\n"
+                                  "packet 5.100 0 0 b0\n";
 static const char DIGITS[] = "packet 33 42403e08\n"
                              "packet 33 42403e09\n";
 static const char FIELDS[] = "packet 33\n"
@@ -55,6 +64,18 @@ static int32_t run(const uint8_t *input, size_t input_len, uint32_t flags, uint8
     return baliseplan_run(input, input_len, flags, output, output_len, written);
 }
 
+/* What is asked for stands in place of the flags, and the serial is that of the one edit that is done. */
+static int32_t facts(const uint8_t *input, size_t input_len, uint32_t what, uint8_t *output, size_t output_len,
+                     size_t *written)
+{
+    return baliseplan_facts(input, input_len, what, 1, output, output_len, written);
+}
+
+static int32_t facts_alloc(const uint8_t *input, size_t input_len, uint32_t what, uint8_t **output, size_t *output_len)
+{
+    return baliseplan_facts_alloc(input, input_len, what, 1, output, output_len);
+}
+
 /* The calls over fields have no flags. */
 static int32_t explain(const uint8_t *input, size_t input_len, uint32_t flags, uint8_t *output, size_t output_len,
                        size_t *written)
@@ -85,6 +106,7 @@ static int32_t spell_alloc(const uint8_t *input, size_t input_len, uint32_t flag
 }
 
 static const struct call RUN = {"run", run, baliseplan_run_alloc};
+static const struct call FACTS = {"facts", facts, facts_alloc};
 static const struct call EXPLAIN = {"explain", explain, explain_alloc};
 static const struct call SPELL = {"spell", spell, spell_alloc};
 
@@ -176,6 +198,25 @@ static void expect_long(void)
     baliseplan_free(output);
 }
 
+/* Of each edit the facts name every later one, so they are longer than the first room. */
+static void expect_long_facts(void)
+{
+    static uint8_t due[3000000];
+    static char edits[100000];
+    size_t len, written = 0, at = strlen(strcpy(edits, PLAN));
+    for (int i = 0; i < 400; i++)
+        at += (size_t)sprintf(edits + at, "set 5.100 0 0 NID_TSR 0 %d\n", i % 200);
+    uint8_t *output;
+    int32_t answer = baliseplan_facts_alloc((const uint8_t *)edits, at, BALISEPLAN_ALL_EDITS, 0, &output, &len);
+    int32_t once = baliseplan_facts((const uint8_t *)edits, at, BALISEPLAN_ALL_EDITS, 0, due, sizeof due, &written);
+    if (answer != once || answer != BALISEPLAN_SOME_REFUSED || len != written || len < 16 * at || output[len] ||
+        memcmp(output, due, len)) {
+        printf("facts longer than their input: answered %d and wrote %zu bytes\n", (int)answer, len);
+        failed = 1;
+    }
+    baliseplan_free(output);
+}
+
 /* Each empty line is refused by a line of 29 bytes. */
 static void expect_long_fields(void)
 {
@@ -229,6 +270,24 @@ static void expect_of_run(void)
     expect_long();
 }
 
+static void expect_of_facts(void)
+{
+    size_t whole = strlen(FACTS_OUTPUT);
+    expect_in_each_room(&FACTS, PLAN, BALISEPLAN_SOME_REFUSED, FACTS_OUTPUT);
+    expect(&FACTS, "one edit", PLAN, BALISEPLAN_ONE_EDIT, ROOM, BALISEPLAN_SOME_REFUSED, FACTS_OUTPUT, whole);
+    expect(&FACTS, "tags", PLAN, BALISEPLAN_TAGS, ROOM, BALISEPLAN_SOME_REFUSED, TAGS_OUTPUT, strlen(TAGS_OUTPUT));
+    expect(&FACTS, "no input", NULL, 0, ROOM, BALISEPLAN_BAD_INPUT, "bad 1 1 BadLine\n", 16);
+    expect(&FACTS, "no input and no room", NULL, 0, 0, BALISEPLAN_OUTPUT_FULL, "", 0);
+    expect(&FACTS, "an unknown number", PLAN, BALISEPLAN_TAGS + 1, ROOM, BALISEPLAN_USAGE, "", 0);
+    expect(&FACTS, "the largest number", PLAN, UINT32_MAX, ROOM, BALISEPLAN_USAGE, "", 0);
+    expect_alloc(&FACTS, "a whole run", PLAN, 0, BALISEPLAN_SOME_REFUSED, FACTS_OUTPUT);
+    expect_alloc(&FACTS, "tags", PLAN, BALISEPLAN_TAGS, BALISEPLAN_SOME_REFUSED, TAGS_OUTPUT);
+    expect_alloc(&FACTS, "no input", NULL, 0, BALISEPLAN_BAD_INPUT, "bad 1 1 BadLine\n");
+    expect_alloc(&FACTS, "an unknown number", PLAN, BALISEPLAN_TAGS + 1, BALISEPLAN_USAGE, NULL);
+    expect_too_long(&FACTS, PLAN, "refused 19 ValueTooWide\n");
+    expect_long_facts();
+}
+
 /* Either way over fields: an input of which something is refused, its output, and an input of which nothing is. */
 static void expect_of_fields(const struct call *call, const char *input, const char *text, const char *sound,
                              const char *sound_text)
@@ -254,6 +313,7 @@ static void expect_again(const struct call *call, long count, const char *input,
 int main(int argc, char **argv)
 {
     expect_of_run();
+    expect_of_facts();
     expect_of_fields(&EXPLAIN, DIGITS, FIELDS, "group\npacket 33 2c803960", GROUP_EXPLAINED);
     expect_of_fields(&SPELL, FIELDS, SPELLED, GROUP_EXPLAINED, "group\npacket 33 2c803960\n");
     expect_too_long(&EXPLAIN, DIGITS, FIELDS);
@@ -263,6 +323,7 @@ int main(int argc, char **argv)
     baliseplan_free(NULL);
     for (long count = argc > 1 ? atol(argv[1]) : 0; count > 0; count--) {
         expect_again(&RUN, count, PLAN, OUTPUT);
+        expect_again(&FACTS, count, PLAN, FACTS_OUTPUT);
         expect_again(&EXPLAIN, count, DIGITS, FIELDS);
         expect_again(&SPELL, count, FIELDS, SPELLED);
     }

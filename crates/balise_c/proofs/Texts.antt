@@ -3,7 +3,7 @@ use Rattle.std.proofs.Common.{◌∙◌, ◌≡◌, ◌<◌, ℕ, true, [], ◌+
 use Rattle.std.proofs.Math.Seq.{take-length}
 use Rattle.std.proofs.lemmas.List.{length-take-le}
 use Rattle.balise_lines.specs.Lines.{lines_of}
-use Rattle.balise_arguments.specs.declared.options.Flags.{Flags}
+use Rattle.balise_cli.specs.declared.asked.Asked.{Asked}
 use Rattle.balise_text.specs.Texts.{Text}
 use Rattle.balise_cli.specs.Ends.{IsOutputOf}
 use Rattle.balise_cli.specs.Output.{Ended, Ending, Header, TooLong}
@@ -14,25 +14,25 @@ use Rattle.balise_cli.proofs.Outputs.{some_output}
 use Rattle.balise_c.specs.HandedOver.{count_within, ends_within}
 use Rattle.balise_c.specs.Outcome.{BeginsLonger, BeginsOutput, IsPrinted, Ran}
 
-pub nothing : (flags : Flags) (input : Text) → BeginsOutput flags input []
-nothing flags input = let o = some_output flags true Header 1 0 (lines_of input) in record { output = o.0; ending = o.1.0; is_output = o.1.1; begins = (o.0, refl) }
+pub nothing : (asked : Asked) (input : Text) → BeginsOutput asked input []
+nothing asked input = let o = some_output asked true Header 1 0 (lines_of input) in record { output = o.0; ending = o.1.0; is_output = o.1.1; begins = (o.0, refl) }
 
 -- an output begins with itself
-itself : (flags : Flags) (input text : Text) (e : Ending) → IsOutputOf flags input text e → BeginsOutput flags input text
-itself flags input text e o = record { output = text; ending = e; is_output = o; begins = ([], append-nil text) }
+itself : (asked : Asked) (input text : Text) (e : Ending) → IsOutputOf asked input text e → BeginsOutput asked input text
+itself asked input text e o = record { output = text; ending = e; is_output = o; begins = ([], append-nil text) }
 
 -- however the run ended, its text begins one
-begun : (flags : Flags) (input text : Text) (r : Result Status RunFault) → Ran flags input text r → BeginsOutput flags input text
-begun flags input text (Ok status) p = itself flags input text (Ended status) p.0
-begun flags input text (Err InputTooLong) o = itself flags input text TooLong o
-begun flags input text (Err OutOfMemory) b = b.0
-begun flags input text (Err ReadFault) b = b
-begun flags input text (Err WriteFault) b = b.0
+begun : (asked : Asked) (input text : Text) (r : Result Status RunFault) → Ran asked input text r → BeginsOutput asked input text
+begun asked input text (Ok status) p = itself asked input text (Ended status) p.0
+begun asked input text (Err InputTooLong) o = itself asked input text TooLong o
+begun asked input text (Err OutOfMemory) b = b.0
+begun asked input text (Err ReadFault) b = b
+begun asked input text (Err WriteFault) b = b.0
 
 -- and where it is cut, that output is longer
-pub cut : (flags : Flags) (input text : Text) (r : Result Status RunFault) (n : ℕ) → n < length text → Ran flags input text r → BeginsLonger flags input (take n text)
-cut flags input text r n less p =
-    let b = begun flags input text r p in
+pub cut : (asked : Asked) (input text : Text) (r : Result Status RunFault) (n : ℕ) → n < length text → Ran asked input text r → BeginsLonger asked input (take n text)
+cut asked input text r n less p =
+    let b = begun asked input text r p in
     let size : length (take n text) ≡ n = length-take-le n text (omega (arith, less)) in
     let whole = ap length b.begins.1 in
     let parts = length-append text b.begins.0 in (
@@ -46,9 +46,9 @@ cut flags input text r n less p =
     )
 
 -- all that was written is printed, where it fits
-pub printed : (flags : Flags) (input text : Text) (r : Result Status RunFault) → Ran flags input text r → IsPrinted flags input (take (count_within r (length text)) text) (ends_within r)
-printed flags input text (Ok status) p = subst (λ (t : Text). IsPrinted flags input t (Ok status)) (sym (take-length text)) p
-printed flags input text (Err InputTooLong) p = subst (λ (t : Text). IsPrinted flags input t (Err InputTooLong)) (sym (take-length text)) p
-printed flags input text (Err OutOfMemory) p = subst (λ (t : Text). IsPrinted flags input t (Err OutOfMemory)) (sym (take-length text)) (p.0, inr p.1)
-printed flags input text (Err ReadFault) p = (nothing flags input, inl refl)
-printed flags input text (Err WriteFault) p = (nothing flags input, inl refl)
+pub printed : (asked : Asked) (input text : Text) (r : Result Status RunFault) → Ran asked input text r → IsPrinted asked input (take (count_within r (length text)) text) (ends_within r)
+printed asked input text (Ok status) p = subst (λ (t : Text). IsPrinted asked input t (Ok status)) (sym (take-length text)) p
+printed asked input text (Err InputTooLong) p = subst (λ (t : Text). IsPrinted asked input t (Err InputTooLong)) (sym (take-length text)) p
+printed asked input text (Err OutOfMemory) p = subst (λ (t : Text). IsPrinted asked input t (Err OutOfMemory)) (sym (take-length text)) (p.0, inr p.1)
+printed asked input text (Err ReadFault) p = (nothing asked input, inl refl)
+printed asked input text (Err WriteFault) p = (nothing asked input, inl refl)

@@ -2,7 +2,7 @@
 use Rattle.std.specs.Prelude.{◌≡◌, ◌⊎◌, ◌<◌, ◌≤◌, ℕ, ℤ, pos, true, List, [], length, take, drop, Option, Some, Result, Ok, Err}
 use Rattle.balise_lines.specs.Lines.{Line}
 use Rattle.balise_lines.specs.Writing.{IsPrefixOf}
-use Rattle.balise_arguments.specs.declared.options.Flags.{Flags}
+use Rattle.balise_cli.specs.declared.asked.Asked.{Asked}
 use Rattle.balise_text.specs.Texts.{Text}
 use Rattle.balise_cli.specs.Ends.{DidLines, FailsToWrite, IsOutputOf, RunsOutOfMemory}
 use Rattle.balise_cli.specs.Laws.{PrintsStanding}
@@ -13,51 +13,51 @@ use Rattle.balise_text.specs.declared.run_fault.RunFault.TheVariants.{InputTooLo
 use Rattle.balise_cli.specs.declared.status.Status.{Status}
 
 -- this text begins an output of the input
-pub record BeginsOutput (flags : Flags) (input text : Text) : Type 0 where
+pub record BeginsOutput (asked : Asked) (input text : Text) : Type 0 where
   pub output : Text
   pub ending : Ending
-  pub is_output : IsOutputOf flags input output ending
+  pub is_output : IsOutputOf asked input output ending
   pub begins : IsPrefixOf text output
 
 -- and that output is longer
-abbrev pub BeginsLonger : Flags → Text → Text → Type 0
-BeginsLonger flags input text = (b : BeginsOutput flags input text) × (length text < length b.output)
+abbrev pub BeginsLonger : Asked → Text → Text → Type 0
+BeginsLonger asked input text = (b : BeginsOutput asked input text) × (length text < length b.output)
 
 -- The first lines of the input were done, and the text is what they print, and then a last text. P says how the run ended there, as in `run`.
-abbrev pub DidLinesOf : Flags → Text → Text → (Option Text → Phase → ℕ → List Line → Text → Type 0) → Type 0
-DidLinesOf flags input text P = (has : Option Text) × DidLines flags (Some input) has (Some []) (Some text) (P has)
+abbrev pub DidLinesOf : Asked → Text → Text → (Option Text → Phase → ℕ → List Line → Text → Type 0) → Type 0
+DidLinesOf asked input text P = (has : Option Text) × DidLines asked (Some input) has (Some []) (Some text) (P has)
 
 -- memory ran out in a group or in the journal, or as the end was printed
-abbrev pub RanOut : Flags → Text → Text → Type 0
-RanOut flags input text = DidLinesOf flags input text (RunsOutOfMemory flags)
+abbrev pub RanOut : Asked → Text → Text → Type 0
+RanOut asked input text = DidLinesOf asked input text (RunsOutOfMemory asked)
 
 -- a write failed, in what a line or the end prints
-abbrev pub StoppedIn : Flags → Text → Text → Type 0
-StoppedIn flags input text = DidLinesOf flags input text (FailsToWrite flags)
+abbrev pub StoppedIn : Asked → Text → Text → Type 0
+StoppedIn asked input text = DidLinesOf asked input text (FailsToWrite asked)
 
 -- A run over the whole input that wrote this text ended so.
-abbrev pub Ran : Flags → Text → Text → Result Status RunFault → Type 0
-Ran flags input text (Ok status) = IsOutputOf flags input text (Ended status) × PrintsStanding flags true input text status
-Ran flags input text (Err InputTooLong) = IsOutputOf flags input text TooLong
-Ran flags input text (Err OutOfMemory) = BeginsOutput flags input text × RanOut flags input text
-Ran flags input text (Err ReadFault) = BeginsOutput flags input text
-Ran flags input text (Err WriteFault) = BeginsOutput flags input text × StoppedIn flags input text
+abbrev pub Ran : Asked → Text → Text → Result Status RunFault → Type 0
+Ran asked input text (Ok status) = IsOutputOf asked input text (Ended status) × PrintsStanding asked true input text status
+Ran asked input text (Err InputTooLong) = IsOutputOf asked input text TooLong
+Ran asked input text (Err OutOfMemory) = BeginsOutput asked input text × RanOut asked input text
+Ran asked input text (Err ReadFault) = BeginsOutput asked input text
+Ran asked input text (Err WriteFault) = BeginsOutput asked input text × StoppedIn asked input text
 
 -- The text is what the program prints for the whole input, and the headline holds of it. Out of memory, it begins such a text: nothing, or what was printed until memory ran out as it may in the program. Where the output is full, what is printed is longer. No reading fails.
-abbrev pub IsPrinted : Flags → Text → Text → Result Status RunFault → Type 0
-IsPrinted flags input text (Ok status) = IsOutputOf flags input text (Ended status) × PrintsStanding flags true input text status
-IsPrinted flags input text (Err InputTooLong) = IsOutputOf flags input text TooLong
-IsPrinted flags input text (Err OutOfMemory) = BeginsOutput flags input text × ((text ≡ []) ⊎ RanOut flags input text)
-IsPrinted flags input text (Err ReadFault) = ⊥
-IsPrinted flags input text (Err WriteFault) = BeginsLonger flags input text
+abbrev pub IsPrinted : Asked → Text → Text → Result Status RunFault → Type 0
+IsPrinted asked input text (Ok status) = IsOutputOf asked input text (Ended status) × PrintsStanding asked true input text status
+IsPrinted asked input text (Err InputTooLong) = IsOutputOf asked input text TooLong
+IsPrinted asked input text (Err OutOfMemory) = BeginsOutput asked input text × ((text ≡ []) ⊎ RanOut asked input text)
+IsPrinted asked input text (Err ReadFault) = ⊥
+IsPrinted asked input text (Err WriteFault) = BeginsLonger asked input text
 
 -- The same of a text that grows as far as memory goes: it is never full, and memory may also run out for what a line or the end prints.
-abbrev pub IsGrown : Flags → Text → Text → Result Status RunFault → Type 0
-IsGrown flags input text (Ok status) = IsOutputOf flags input text (Ended status) × PrintsStanding flags true input text status
-IsGrown flags input text (Err InputTooLong) = IsOutputOf flags input text TooLong
-IsGrown flags input text (Err OutOfMemory) = BeginsOutput flags input text × ((text ≡ []) ⊎ RanOut flags input text ⊎ StoppedIn flags input text)
-IsGrown flags input text (Err ReadFault) = ⊥
-IsGrown flags input text (Err WriteFault) = ⊥
+abbrev pub IsGrown : Asked → Text → Text → Result Status RunFault → Type 0
+IsGrown asked input text (Ok status) = IsOutputOf asked input text (Ended status) × PrintsStanding asked true input text status
+IsGrown asked input text (Err InputTooLong) = IsOutputOf asked input text TooLong
+IsGrown asked input text (Err OutOfMemory) = BeginsOutput asked input text × ((text ≡ []) ⊎ RanOut asked input text ⊎ StoppedIn asked input text)
+IsGrown asked input text (Err ReadFault) = ⊥
+IsGrown asked input text (Err WriteFault) = ⊥
 
 -- the number of a fault
 abbrev pub fault_number : RunFault → ℕ
@@ -72,22 +72,22 @@ number_of (Ok status) = code_of status
 number_of (Err fault) = fault_number fault
 
 -- What a run leaves in the output: the text at the front, and all after it as it was. Only a full output is the fault of the writer.
-pub record Fills (flags : Flags) (input old new : Text) (written : ℕ) (answer : ℤ) : Type 0 where
+pub record Fills (asked : Asked) (input old new : Text) (written : ℕ) (answer : ℤ) : Type 0 where
   pub within : written ≤ length old
   pub kept : drop written new ≡ drop written old
   pub ended : Result Status RunFault
-  pub is_printed : IsPrinted flags input (take written new) ended
+  pub is_printed : IsPrinted asked input (take written new) ended
   pub is_full : ended ≡ Err WriteFault → written ≡ length old
   pub is_number : answer ≡ pos (number_of ended)
 
 -- a run that ended so printed a text of this size
-pub record HasSize (flags : Flags) (input : Text) (size : ℕ) (ended : Result Status RunFault) : Type 0 where
+pub record HasSize (asked : Asked) (input : Text) (size : ℕ) (ended : Result Status RunFault) : Type 0 where
   pub text : Text
-  pub is_printed : IsGrown flags input text ended
+  pub is_printed : IsGrown asked input text ended
   pub is_size : size ≡ length text
 
 -- the size of what a run prints, and how that run ended
-pub record Measures (flags : Flags) (input : Text) (size : ℕ) (answer : ℤ) : Type 0 where
+pub record Measures (asked : Asked) (input : Text) (size : ℕ) (answer : ℤ) : Type 0 where
   pub ended : Result Status RunFault
-  pub has_size : HasSize flags input size ended
+  pub has_size : HasSize asked input size ended
   pub is_number : answer ≡ pos (number_of ended)

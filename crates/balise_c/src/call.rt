@@ -2,6 +2,7 @@
 
 ghost use Rattle.std.specs.Prelude.{◌≡◌, ◌≤◌, [], length, take, drop, IsErrOf};
 ghost use Rattle.balise_c.specs.Outcome.{HasSize, IsPrinted, Ran};
+ghost use Rattle.balise_cli.specs.Asking.{asked_by};
 
 use crate::handing_over::hand_over;
 use crate::output_text::OutputText;
@@ -16,7 +17,7 @@ fn run_into(
     writer: &mut Counted<OutputText>,
 ) -> Result<Status, RunFault>
     requires { writer.old.inner.bytes.items ≡ [] }
-    ensures { Ran flags input.now writer.new.inner.bytes.items result }
+    ensures { Ran (asked_by flags) input.now writer.new.inner.bytes.items result }
 {
     let mut reader = Counted::new(input);
     run(alloc, &mut reader, writer, flags)
@@ -32,7 +33,7 @@ pub(crate) fn fill(
 ) -> Result<Status, RunFault>
     ensures within { written.new ≤ length output.old }
     ensures kept { drop written.new output.new ≡ drop written.new output.old }
-    ensures text { IsPrinted flags input.now (take written.new output.new) result }
+    ensures text { IsPrinted (asked_by flags) input.now (take written.new output.new) result }
     ensures full { IsErrOf result RunFault.WriteFault → written.new ≡ length output.old }
 {
     *written = 0;
@@ -52,7 +53,7 @@ pub(crate) fn measure(
     flags: Flags,
     size: &mut usize,
 ) -> Result<Status, RunFault>
-    ensures { HasSize flags input.now size.new result }
+    ensures { HasSize (asked_by flags) input.now size.new result }
 {
     let mut writer = Counted::new(OutputText::growing(alloc));
     let ended = run_into(alloc, input, flags, &mut writer);

@@ -2,12 +2,15 @@
 #![tactic(auto)]
 
 ghost use Rattle.std.specs.Prelude.{◌≡◌, ◌≢◌, ◌<◌, ◌≤◌, pos};
+ghost use Rattle.balise_c.specs.FactNumbers.{facts_of};
 ghost use Rattle.balise_c.specs.FieldsOutcome.{FillsBy};
 ghost use Rattle.balise_c.specs.FlagBits.{flags_of};
 ghost use Rattle.balise_c.specs.Outcome.{Fills, Measures};
+ghost use Rattle.balise_cli.specs.Asking.{asked_by, facts_asked};
 ghost use Rattle.balise_fields_run.specs.declared.way.Way.TheVariants.{Explain, Spell};
 
 // From the parameters of a call to a run.
+mod fact_numbers;
 mod flag_bits;
 mod output_text;
 
@@ -15,6 +18,7 @@ mod output_text;
 mod answer;
 mod call;
 mod copying;
+mod facts;
 mod fields;
 mod handing_over;
 #[cfg(test)]
@@ -22,12 +26,14 @@ mod tests;
 
 use crate::answer::{fields_number, number_of};
 use crate::call::{fill, measure};
+use crate::fact_numbers::{FIRST_OTHER, facts_of};
+use crate::facts::fill_with_facts;
 use crate::fields::fill_with_fields;
 use crate::flag_bits::{FIRST_UNKNOWN, flags_of};
 use balise_fields_run::Way;
 use std::alloc::Global;
 
-/// The answer where a bit is set that is no flag.
+/// The answer where a bit is set that is no flag, or a number of facts is none.
 const USAGE: i32 = 64;
 
 /// The number that `BALISEPLAN_ABI` of the header has to have.
@@ -53,7 +59,7 @@ pub extern "C" fn baliseplan_run(
     output: &mut [u8],
     written: &mut usize,
 ) -> i32
-    ensures known { flags < 16 → Fills (flags_of flags) input.now output.old output.new written.new result }
+    ensures known { flags < 16 → Fills (asked_by (flags_of flags)) input.now output.old output.new written.new result }
     ensures never { result ≢ pos 31 }
     ensures other { 16 ≤ flags → (result ≡ pos 64) × (written.new ≡ 0) × (output.new ≡ output.old) }
 {
@@ -69,7 +75,7 @@ pub extern "C" fn baliseplan_run(
 /// It is a whole run, whose output it keeps in memory until it returns.
 #[unsafe(no_mangle)]
 pub extern "C" fn baliseplan_size(alloc: Global, input: &[u8], flags: u32, size: &mut usize) -> i32
-    ensures known { flags < 16 → Measures (flags_of flags) input.now size.new result }
+    ensures known { flags < 16 → Measures (asked_by (flags_of flags)) input.now size.new result }
     ensures never { (result ≢ pos 31) × (result ≢ pos 32) }
     ensures other { 16 ≤ flags → (result ≡ pos 64) × (size.new ≡ 0) }
 {
@@ -78,6 +84,32 @@ pub extern "C" fn baliseplan_size(alloc: Global, input: &[u8], flags: u32, size:
         return USAGE;
     }
     number_of(measure(alloc, input, flags_of(flags), size))
+}
+
+/// Does what the program `balisefacts` does, from memory to memory: runs as a quiet `baliseplan_run`, and writes facts of
+/// the session that stands then in place of the plan. `what` is 0 for those of all edits that stand, 1 for those of the
+/// edit of the serial, and 2 for the tags; only 1 looks at the serial. Any other answers 64 and writes nothing.
+///
+/// All else is as for `baliseplan_run`.
+#[unsafe(no_mangle)]
+pub extern "C" fn baliseplan_facts(
+    alloc: Global,
+    input: &[u8],
+    what: u32,
+    serial: u32,
+    output: &mut [u8],
+    written: &mut usize,
+) -> i32
+    ensures known { what < 3 → Fills (facts_asked (facts_of what serial)) input.now output.old output.new written.new result }
+    ensures never { result ≢ pos 31 }
+    ensures other { 3 ≤ what → (result ≡ pos 64) × (written.new ≡ 0) × (output.new ≡ output.old) }
+{
+    if what >= FIRST_OTHER {
+        *written = 0;
+        return USAGE;
+    }
+    let facts = facts_of(what, serial);
+    number_of(fill_with_facts(alloc, input, facts, output, written))
 }
 
 /// Does what the program `balisefields` does, from memory to memory: writes the fields of the digits of telegrams and

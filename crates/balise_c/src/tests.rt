@@ -1,7 +1,8 @@
 //! Tests of the calls.
 
 use crate::{
-    baliseplan_abi, baliseplan_explain, baliseplan_run, baliseplan_size, baliseplan_spell,
+    baliseplan_abi, baliseplan_explain, baliseplan_facts, baliseplan_run, baliseplan_size,
+    baliseplan_spell,
 };
 use std::alloc::Global;
 use std::process::Abort;
@@ -100,6 +101,87 @@ fn writes_a_beginning_to_a_small_output(rt: HostRuntime) {
         text: &REPLIES[..81],
     };
     check_run(&rt, rt.alloc(), &row, output.as_mut_slice());
+}
+
+/// A call for facts, with the answer and the text that are due.
+#[derive(Clone, Copy)]
+struct FactsRow<'a> {
+    input: &'a [u8],
+    what: u32,
+    serial: u32,
+    answer: i32,
+    text: &'a [u8],
+}
+
+const EDITED: &[u8] =
+    b"plan 1\ngroup\na1007f80a03250900f82ffffffffffffffffffffffffffffffffc0\nedits\nset 5.100 0 0 NID_TSR 0 9\nseth 5.100 0 M_MCOUNT 254\n";
+
+const FACTS: &[u8] =
+    b"facts 1\nedit 1\nchanges b0/0/b0.NID_TSR.0\nedit 2\nchanges b0/0/head.M_MCOUNT\n";
+
+const FACTS_ROWS: &[FactsRow<'static>] = &[
+    FactsRow {
+        input: EDITED,
+        what: 0,
+        serial: 2,
+        answer: 0,
+        text: FACTS,
+    },
+    FactsRow {
+        input: EDITED,
+        what: 1,
+        serial: 2,
+        answer: 0,
+        text: b"facts 1\nedit 2\nchanges b0/0/head.M_MCOUNT\n",
+    },
+    FactsRow {
+        input: EDITED,
+        what: 2,
+        serial: 2,
+        answer: 0,
+        text: b"facts 1\ngroup 5.100 b0\ntelegram 5.100 0 0\npacket 5.100 0 0 b0\n",
+    },
+    FactsRow {
+        input: b"",
+        what: 0,
+        serial: 0,
+        answer: 2,
+        text: b"bad 1 1 BadLine\n",
+    },
+    FactsRow {
+        input: EDITED,
+        what: 3,
+        serial: 1,
+        answer: 64,
+        text: b"",
+    },
+];
+
+fn check_facts(rt: &impl Abort, alloc: Global, row: &FactsRow, output: &mut [u8]) {
+    let mut written = 999;
+    let answer = baliseplan_facts(alloc, row.input, row.what, row.serial, output, &mut written);
+    assert!(rt; (answer == row.answer) & (written == row.text.len()));
+    assert!(rt; output.starts_with(row.text));
+    assert!(rt; output[written..].iter().all(|byte| *byte == 7));
+}
+
+#[test]
+fn tells_facts(rt: HostRuntime) {
+    for row in FACTS_ROWS {
+        let mut output = [7; 200];
+        check_facts(&rt, rt.alloc(), row, output.as_mut_slice());
+    }
+}
+
+#[test]
+fn writes_a_beginning_of_facts(rt: HostRuntime) {
+    let mut output = [7; 30];
+    let row = FactsRow {
+        answer: 32,
+        text: &FACTS[..30],
+        ..FACTS_ROWS[0]
+    };
+    check_facts(&rt, rt.alloc(), &row, output.as_mut_slice());
 }
 
 /// A call over fields, with the answer and the text that are due.

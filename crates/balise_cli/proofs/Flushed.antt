@@ -3,7 +3,7 @@ use Rattle.std.proofs.Common.{ℕ, List, ◌++◌, Option, Result, Ok, Err}
 use Rattle.std.specs.Io.KnownBytes.{Keeps}
 use Rattle.std.proofs.KnownBytes.{Appends-kept}
 use Rattle.balise_lines.specs.Lines.{Line}
-use Rattle.balise_arguments.specs.declared.options.Flags.{Flags}
+use Rattle.balise_cli.specs.declared.asked.Asked.{Asked}
 use Rattle.balise_text.specs.Texts.{Text}
 use Rattle.balise_cli.specs.Ends.{DidLines, WritesBeginning, WritesOutput, WritesSome, WritesStanding}
 use Rattle.balise_cli.specs.Output.{Ending, Phase}
@@ -11,8 +11,8 @@ use Rattle.balise_cli.specs.Program.{Runs}
 use Rattle.balise_text.specs.declared.run_fault.RunFault.{RunFault}
 use Rattle.balise_cli.specs.declared.status.Status.{Status}
 
-standing_kept : (flags : Flags) (had old mid new : Option Text) (status : Status) → Keeps mid new → WritesStanding flags had old mid status → WritesStanding flags had old new status
-standing_kept flags had old mid new status k w = record {
+standing_kept : (asked : Asked) (had old mid new : Option Text) (status : Status) → Keeps mid new → WritesStanding asked had old mid status → WritesStanding asked had old new status
+standing_kept asked had old mid new status k w = record {
   input = w.input;
   is_input = w.is_input;
   out = w.out;
@@ -20,8 +20,8 @@ standing_kept flags had old mid new status k w = record {
   appended = Appends-kept old mid new w.out w.appended k;
 }
 
-output_kept : (flags : Flags) (had old mid new : Option Text) (e : Ending) → Keeps mid new → WritesOutput flags had old mid e → WritesOutput flags had old new e
-output_kept flags had old mid new e k w = record {
+output_kept : (asked : Asked) (had old mid new : Option Text) (e : Ending) → Keeps mid new → WritesOutput asked had old mid e → WritesOutput asked had old new e
+output_kept asked had old mid new e k w = record {
   input = w.input;
   is_input = w.is_input;
   out = w.out;
@@ -29,8 +29,8 @@ output_kept flags had old mid new e k w = record {
   appended = Appends-kept old mid new w.out w.appended k;
 }
 
-begun_kept : (flags : Flags) (had old mid new : Option Text) → Keeps mid new → WritesBeginning flags had old mid → WritesBeginning flags had old new
-begun_kept flags had old mid new k w = record {
+begun_kept : (asked : Asked) (had old mid new : Option Text) → Keeps mid new → WritesBeginning asked had old mid → WritesBeginning asked had old new
+begun_kept asked had old mid new k w = record {
   input = w.input;
   is_input = w.is_input;
   out = w.out;
@@ -43,8 +43,8 @@ begun_kept flags had old mid new k w = record {
   };
 }
 
-some_kept : (flags : Flags) (had has old mid new : Option Text) → Keeps mid new → WritesSome flags had has old mid → WritesSome flags had has old new
-some_kept flags had has old mid new k w = record {
+some_kept : (asked : Asked) (had has old mid new : Option Text) → Keeps mid new → WritesSome asked had has old mid → WritesSome asked had has old new
+some_kept asked had has old mid new k w = record {
   read = w.read;
   consumed = w.consumed;
   out = w.out;
@@ -57,8 +57,8 @@ some_kept flags had has old mid new k w = record {
   };
 }
 
-lines_kept : (flags : Flags) (had has old mid new : Option Text) (P : Phase → ℕ → List Line → Text → Type 0) → Keeps mid new → DidLines flags had has old mid P → DidLines flags had has old new P
-lines_kept flags had has old mid new P k w = record {
+lines_kept : (asked : Asked) (had has old mid new : Option Text) (P : Phase → ℕ → List Line → Text → Type 0) → Keeps mid new → DidLines asked had has old mid P → DidLines asked had has old new P
+lines_kept asked had has old mid new P k w = record {
   read = w.read;
   consumed = w.consumed;
   done = w.done;
@@ -72,26 +72,26 @@ lines_kept flags had has old mid new P k w = record {
   appended = Appends-kept old mid new (w.out ++ w.last) w.appended k;
 }
 
-pub runs_kept : (flags : Flags) (had has old mid new : Option Text) (ended : Result Status RunFault) → Keeps mid new → Runs flags had has old mid ended → Runs flags had has old new ended
-runs_kept flags had has old mid new (Ok status) k w = record {
-  held = standing_kept flags had old mid new status k w.held;
-  ok = output_kept flags had old mid new _ k w.ok;
-  read = lines_kept flags had has old mid new _ k w.read;
-  long = λ e. output_kept flags had old mid new _ k (w.long e);
-  memory = λ e. lines_kept flags had has old mid new _ k (w.memory e);
-  complete = λ e. lines_kept flags had has old mid new _ k (w.complete e);
-  full = λ e. lines_kept flags had has old mid new _ k (w.full e);
+pub runs_kept : (asked : Asked) (had has old mid new : Option Text) (ended : Result Status RunFault) → Keeps mid new → Runs asked had has old mid ended → Runs asked had has old new ended
+runs_kept asked had has old mid new (Ok status) k w = record {
+  held = standing_kept asked had old mid new status k w.held;
+  ok = output_kept asked had old mid new _ k w.ok;
+  read = lines_kept asked had has old mid new _ k w.read;
+  long = λ e. output_kept asked had old mid new _ k (w.long e);
+  memory = λ e. lines_kept asked had has old mid new _ k (w.memory e);
+  complete = λ e. lines_kept asked had has old mid new _ k (w.complete e);
+  full = λ e. lines_kept asked had has old mid new _ k (w.full e);
   begun = tt;
   some = tt;
 }
-runs_kept flags had has old mid new (Err fault) k w = record {
+runs_kept asked had has old mid new (Err fault) k w = record {
   held = tt;
   ok = tt;
   read = tt;
-  long = λ e. output_kept flags had old mid new _ k (w.long e);
-  memory = λ e. lines_kept flags had has old mid new _ k (w.memory e);
-  complete = λ e. lines_kept flags had has old mid new _ k (w.complete e);
-  full = λ e. lines_kept flags had has old mid new _ k (w.full e);
-  begun = begun_kept flags had old mid new k w.begun;
-  some = some_kept flags had has old mid new k w.some;
+  long = λ e. output_kept asked had old mid new _ k (w.long e);
+  memory = λ e. lines_kept asked had has old mid new _ k (w.memory e);
+  complete = λ e. lines_kept asked had has old mid new _ k (w.complete e);
+  full = λ e. lines_kept asked had has old mid new _ k (w.full e);
+  begun = begun_kept asked had old mid new k w.begun;
+  some = some_kept asked had has old mid new k w.some;
 }

@@ -16,7 +16,7 @@ use Rattle.balise_strike_laws.proofs.SessionsKept.{openings_begin, openings_kept
 use Rattle.balise_lines.specs.Lines.{Fits, Line, end_of, lines_of, whole}
 use Rattle.balise_plan.specs.GroupReading.{WereRead, group_of, with_read}
 use Rattle.balise_plan.proofs.Reading.{group_pushed, none_read}
-use Rattle.balise_arguments.specs.declared.options.Flags.{Flags}
+use Rattle.balise_cli.specs.declared.asked.Asked.{Asked}
 use Rattle.balise_text.specs.Commands.{call_of}
 use Rattle.balise_text.specs.Heads.{read_head}
 use Rattle.balise_text.specs.JournalLines.{JournalLine, EntryLine, UndoneLine, EditsLine as EndLine, journal_line_of}
@@ -157,13 +157,13 @@ answer_kept scarce line s t r h may = by (call_of line) may
     by c (inr w) = same w.3
 
 -- all is promised of each state that commands lead to
-answered_keeps : (flags : Flags) (scarce : Bool) (s t : State) (lines : List Line) (rs : List Reply) (text : Text) → IsOpened s → Answered flags scarce s lines rs text t → KeepsPromises s.base t
-answered_keeps flags scarce s t [] [] text h a = subst (λ (u : State). KeepsPromises s.base u) (sym a.1) (sessions_promised s h.session, journal_read_back s h)
-answered_keeps flags scarce s t [] (r ∷ rs) text h a = absurd a
-answered_keeps flags scarce s t (line ∷ lines) [] text h a = absurd a
-answered_keeps flags scarce s t (line ∷ lines) (r ∷ rs) text h (u, (more, (may, is, a))) =
+answered_keeps : (asked : Asked) (scarce : Bool) (s t : State) (lines : List Line) (rs : List Reply) (text : Text) → IsOpened s → Answered asked scarce s lines rs text t → KeepsPromises s.base t
+answered_keeps asked scarce s t [] [] text h a = subst (λ (u : State). KeepsPromises s.base u) (sym a.1) (sessions_promised s h.session, journal_read_back s h)
+answered_keeps asked scarce s t [] (r ∷ rs) text h a = absurd a
+answered_keeps asked scarce s t (line ∷ lines) [] text h a = absurd a
+answered_keeps asked scarce s t (line ∷ lines) (r ∷ rs) text h (u, (more, (may, is, a))) =
     let k = answer_kept scarce line.bytes s u r h.session may in
-    subst (λ (b : Plan). KeepsPromises b t) k.1 (answered_keeps flags scarce u t lines rs more (opened_over s.base u h.read h.few k.0 k.1) a)
+    subst (λ (b : Plan). KeepsPromises b t) k.1 (answered_keeps asked scarce u t lines rs more (opened_over s.base u h.read h.few k.0 k.1) a)
 
 ended : {status other : Status} → Ended status ≡ Ended other → status ≡ other
 ended e = cc
@@ -184,13 +184,13 @@ stopped_status true false refused e = absurd cc
 stopped_status false b refused e = absurd cc
 
 -- what is printed over commands, where one before them was refused or not
-abbrev Held : Flags → Bool → State → Bool → List Line → Text → Status → Type 0
-Held flags scarce s refused lines out status = (h : PrintsHeld flags scarce s lines out) × (status ≡ status_of (refused || list_any is_refused h.replies))
+abbrev Held : Asked → Bool → State → Bool → List Line → Text → Status → Type 0
+Held asked scarce s refused lines out status = (h : PrintsHeld asked scarce s lines out) × (status ≡ status_of (refused || list_any is_refused h.replies))
 
 -- with one more command before
-more_held : (flags : Flags) (scarce : Bool) (s u : State) (refused : Bool) (line : Line) (lines : List Line) (r : Reply) (now out more : Text) (status : Status) → IsOpened s → (flags.stop && is_refused r) ≡ false → MayAnswer scarce line.bytes s r u
-    → now ≡ reply_text flags.quiet r (reviewed (call_of line.bytes) r s) → out ≡ now ++ more → Held flags scarce u (refused || is_refused r) lines more status → Held flags scarce s refused (line ∷ lines) out status
-more_held flags scarce s u refused line lines r now out more status first goes may is e (h, f) = (
+more_held : (asked : Asked) (scarce : Bool) (s u : State) (refused : Bool) (line : Line) (lines : List Line) (r : Reply) (now out more : Text) (status : Status) → IsOpened s → (asked.stop && is_refused r) ≡ false → MayAnswer scarce line.bytes s r u
+    → now ≡ reply_text asked.quiet r (reviewed (call_of line.bytes) r s) → out ≡ now ++ more → Held asked scarce u (refused || is_refused r) lines more status → Held asked scarce s refused (line ∷ lines) out status
+more_held asked scarce s u refused line lines r now out more status first goes may is e (h, f) = (
   record {
     done = line ∷ h.done;
     left = h.left;
@@ -200,16 +200,16 @@ more_held flags scarce s u refused line lines r now out more status first goes m
     printed = now ++ h.printed;
     held = h.held;
     answered = (u, (h.printed, (may, ap (λ (t : Text). t ++ h.printed) is, h.answered)));
-    whole = e ∙ ap (λ (t : Text). now ++ t) h.whole ∙ sym (append_assoc now h.printed (end_text flags h.held));
-    promised = λ ls qs text t a. answered_keeps flags scarce s t ls qs text first a;
+    whole = e ∙ ap (λ (t : Text). now ++ t) h.whole ∙ sym (append_assoc now h.printed (end_text asked h.held));
+    promised = λ ls qs text t a. answered_keeps asked scarce s t ls qs text first a;
   },
   f ∙ ap status_of (or_or refused (is_refused r) (list_any is_refused h.replies)),
 )
 
 -- a command that stops the run
-stopped_held : (flags : Flags) (scarce : Bool) (s u : State) (refused : Bool) (line : Line) (lines : List Line) (r : Reply) (now out more : Text) (status : Status) → IsOpened s → (flags.stop && is_refused r) ≡ true → MayAnswer scarce line.bytes s r u
-    → now ≡ reply_text flags.quiet r (reviewed (call_of line.bytes) r s) → out ≡ now ++ more → more ≡ end_text flags u → status ≡ SomeRefused → Held flags scarce s refused (line ∷ lines) out status
-stopped_held flags scarce s u refused line lines r now out more status first stop may is e end f = (
+stopped_held : (asked : Asked) (scarce : Bool) (s u : State) (refused : Bool) (line : Line) (lines : List Line) (r : Reply) (now out more : Text) (status : Status) → IsOpened s → (asked.stop && is_refused r) ≡ true → MayAnswer scarce line.bytes s r u
+    → now ≡ reply_text asked.quiet r (reviewed (call_of line.bytes) r s) → out ≡ now ++ more → more ≡ end_text asked u → status ≡ SomeRefused → Held asked scarce s refused (line ∷ lines) out status
+stopped_held asked scarce s u refused line lines r now out more status first stop may is e end f = (
   record {
     done = line ∷ [];
     left = lines;
@@ -218,16 +218,16 @@ stopped_held flags scarce s u refused line lines r now out more status first sto
     stops = inl (stop, refl);
     printed = now;
     held = u;
-    answered = (u, ([], (may, is ∙ sym (append-nil (reply_text flags.quiet r (reviewed (call_of line.bytes) r s))), (refl, refl))));
+    answered = (u, ([], (may, is ∙ sym (append-nil (reply_text asked.quiet r (reviewed (call_of line.bytes) r s))), (refl, refl))));
     whole = e ∙ ap (λ (t : Text). now ++ t) end;
-    promised = λ ls qs text t a. answered_keeps flags scarce s t ls qs text first a;
+    promised = λ ls qs text t a. answered_keeps asked scarce s t ls qs text first a;
   },
-  f ∙ stopped_status flags.stop (is_refused r) refused stop,
+  f ∙ stopped_status asked.stop (is_refused r) refused stop,
 )
 
 -- after the last one
-none_held : (flags : Flags) (scarce : Bool) (s : State) (refused : Bool) (out : Text) (status : Status) → IsOpened s → out ≡ end_text flags s → status ≡ status_of refused → Held flags scarce s refused [] out status
-none_held flags scarce s refused out status first e f = (
+none_held : (asked : Asked) (scarce : Bool) (s : State) (refused : Bool) (out : Text) (status : Status) → IsOpened s → out ≡ end_text asked s → status ≡ status_of refused → Held asked scarce s refused [] out status
+none_held asked scarce s refused out status first e f = (
   record {
     done = [];
     left = [];
@@ -238,42 +238,42 @@ none_held flags scarce s refused out status first e f = (
     held = s;
     answered = (refl, refl);
     whole = e;
-    promised = λ ls qs text t a. answered_keeps flags scarce s t ls qs text first a;
+    promised = λ ls qs text t a. answered_keeps asked scarce s t ls qs text first a;
   },
   f ∙ ap status_of (or_false refused),
 )
 
 -- a command whose run is over, or goes on
-command_held : (flags : Flags) (scarce : Bool) (s u : State) (line : Line) (lines : List Line) (r : Reply) (refused : Bool) (now out more : Text) (status : Status) (goes : Phase → Text → Type 0)
-    → ((q : Bool) (rest : Text) → goes (Commands u q) rest → Held flags scarce u q lines rest status) → IsOpened s → MayAnswer scarce line.bytes s r u
-    → now ≡ reply_text flags.quiet r (reviewed (call_of line.bytes) r s) → out ≡ now ++ more → Follows goes (after_command flags r u refused) more (Ended status) → Held flags scarce s refused (line ∷ lines) out status
-command_held flags scarce s u line lines r refused now out more status goes again first may is e follows = by (flags.stop && is_refused r) refl follows
+command_held : (asked : Asked) (scarce : Bool) (s u : State) (line : Line) (lines : List Line) (r : Reply) (refused : Bool) (now out more : Text) (status : Status) (goes : Phase → Text → Type 0)
+    → ((q : Bool) (rest : Text) → goes (Commands u q) rest → Held asked scarce u q lines rest status) → IsOpened s → MayAnswer scarce line.bytes s r u
+    → now ≡ reply_text asked.quiet r (reviewed (call_of line.bytes) r s) → out ≡ now ++ more → Follows goes (after_command asked r u refused) more (Ended status) → Held asked scarce s refused (line ∷ lines) out status
+command_held asked scarce s u line lines r refused now out more status goes again first may is e follows = by (asked.stop && is_refused r) refl follows
   where
-    by : (b : Bool) → (flags.stop && is_refused r) ≡ b → Follows goes (cond b (Over (end_text flags u) SomeRefused) (On (Commands u (refused || is_refused r)))) more (Ended status) → Held flags scarce s refused (line ∷ lines) out status
-    by true stop f = stopped_held flags scarce s u refused line lines r now out more status first stop may is e f.0 (ended f.1)
-    by false stop f = more_held flags scarce s u refused line lines r now out more status first stop may is e (again (refused || is_refused r) more f)
+    by : (b : Bool) → (asked.stop && is_refused r) ≡ b → Follows goes (cond b (Over (end_text asked u) SomeRefused) (On (Commands u (refused || is_refused r)))) more (Ended status) → Held asked scarce s refused (line ∷ lines) out status
+    by true stop f = stopped_held asked scarce s u refused line lines r now out more status first stop may is e f.0 (ended f.1)
+    by false stop f = more_held asked scarce s u refused line lines r now out more status first stop may is e (again (refused || is_refused r) more f)
 
-commands_held : (flags : Flags) (scarce : Bool) (s : State) (refused : Bool) (n place : ℕ) (lines : List Line) (out : Text) (status : Status) → IsOpened s → IsOutput flags scarce (Commands s refused) n place lines out (Ended status) → Held flags scarce s refused lines out status
-commands_held flags scarce s refused n place [] out status h o = none_held flags scarce s refused out status h o.0 (ended o.1)
-commands_held flags scarce s refused n place (line ∷ lines) out status h (inl o) = absurd cc
-commands_held flags scarce s refused n place (line ∷ lines) out status h (inr (fits, (now, (next, (more, ((r, (u, (may, is, e))), whole_is, follows)))))) =
+commands_held : (asked : Asked) (scarce : Bool) (s : State) (refused : Bool) (n place : ℕ) (lines : List Line) (out : Text) (status : Status) → IsOpened s → IsOutput asked scarce (Commands s refused) n place lines out (Ended status) → Held asked scarce s refused lines out status
+commands_held asked scarce s refused n place [] out status h o = none_held asked scarce s refused out status h o.0 (ended o.1)
+commands_held asked scarce s refused n place (line ∷ lines) out status h (inl o) = absurd cc
+commands_held asked scarce s refused n place (line ∷ lines) out status h (inr (fits, (now, (next, (more, ((r, (u, (may, is, e))), whole_is, follows)))))) =
     let answered = answer_kept scarce line.bytes s u r h.session may in
     let kept = opened_over s.base u h.read h.few answered.0 answered.1 in
-    command_held flags scarce s u line lines r refused now out more status (λ q rest. IsOutput flags scarce q (n + 1) (place + length (whole line)) lines rest (Ended status))
-    (λ q rest x. commands_held flags scarce u q (n + 1) (place + length (whole line)) lines rest status kept x) h may is whole_is
-    (subst (λ (x : Next). Follows (λ q rest. IsOutput flags scarce q (n + 1) (place + length (whole line)) lines rest (Ended status)) x more (Ended status)) e follows)
+    command_held asked scarce s u line lines r refused now out more status (λ q rest. IsOutput asked scarce q (n + 1) (place + length (whole line)) lines rest (Ended status))
+    (λ q rest x. commands_held asked scarce u q (n + 1) (place + length (whole line)) lines rest status kept x) h may is whole_is
+    (subst (λ (x : Next). Follows (λ q rest. IsOutput asked scarce q (n + 1) (place + length (whole line)) lines rest (Ended status)) x more (Ended status)) e follows)
 
 -- The lines before the commands.
 
-abbrev Prints : Flags → Bool → Phase → ℕ → List Line → Text → Status → Type 0
-Prints flags scarce p n lines out status = PrintsBad flags p n lines out status ⊎ PrintsAll flags scarce p n lines out status
+abbrev Prints : Asked → Bool → Phase → ℕ → List Line → Text → Status → Type 0
+Prints asked scarce p n lines out status = PrintsBad asked p n lines out status ⊎ PrintsAll asked scarce p n lines out status
 
 -- one line before
-opens_before : (flags : Flags) (scarce : Bool) (p q : Phase) (n : ℕ) (line : Line) (lines : List Line) (out more : Text) (status : Status) → IsReading p → read_line p n line.bytes ≡ Good q → out ≡ more → Prints flags scarce q (n + 1) lines more status
-    → Prints flags scarce p n (line ∷ lines) out status
-opens_before flags scarce p q n line lines out more status i e o (inl (k, (r, (refuses, is, ends)))) =
-    inl (k, (r, (subst (λ (x : Read). RefusedOr x k r (λ j. Refuses flags j (n + 1) lines k r)) (sym e) refuses, o ∙ is, ends)))
-opens_before flags scarce p q n line lines out more status i e o (inr a) =
+opens_before : (asked : Asked) (scarce : Bool) (p q : Phase) (n : ℕ) (line : Line) (lines : List Line) (out more : Text) (status : Status) → IsReading p → read_line p n line.bytes ≡ Good q → out ≡ more → Prints asked scarce q (n + 1) lines more status
+    → Prints asked scarce p n (line ∷ lines) out status
+opens_before asked scarce p q n line lines out more status i e o (inl (k, (r, (refuses, is, ends)))) =
+    inl (k, (r, (subst (λ (x : Read). RefusedOr x k r (λ j. Refuses asked j (n + 1) lines k r)) (sym e) refuses, o ∙ is, ends)))
+opens_before asked scarce p q n line lines out more status i e o (inr a) =
     let h = a.prints in
     inr (record {
       opened = a.opened;
@@ -295,20 +295,20 @@ opens_before flags scarce p q n line lines out more status i e o (inr a) =
     })
 
 -- a line of the plan or the journal, and what follows
-reading_step : (flags : Flags) (scarce : Bool) (p : Phase) (n : ℕ) (line : Line) (lines : List Line) (out more : Text) (status : Status) (at : ℕ) (goes : Phase → Text → Type 0) → IsReading p
-    → ((q : Phase) (rest : Text) → IsKept at q → goes q rest → Prints flags scarce q (n + 1) lines rest status) → ReadKept at (read_line p n line.bytes) → out ≡ more
-    → Follows goes (after_read (read_line p n line.bytes)) more (Ended status) → Prints flags scarce p n (line ∷ lines) out status
-reading_step flags scarce p n line lines out more status at goes i again kept o follows = by (read_line p n line.bytes) refl kept follows
+reading_step : (asked : Asked) (scarce : Bool) (p : Phase) (n : ℕ) (line : Line) (lines : List Line) (out more : Text) (status : Status) (at : ℕ) (goes : Phase → Text → Type 0) → IsReading p
+    → ((q : Phase) (rest : Text) → IsKept at q → goes q rest → Prints asked scarce q (n + 1) lines rest status) → ReadKept at (read_line p n line.bytes) → out ≡ more
+    → Follows goes (after_read (read_line p n line.bytes)) more (Ended status) → Prints asked scarce p n (line ∷ lines) out status
+reading_step asked scarce p n line lines out more status at goes i again kept o follows = by (read_line p n line.bytes) refl kept follows
   where
-    by : (rd : Read) → read_line p n line.bytes ≡ rd → ReadKept at rd → Follows goes (after_read rd) more (Ended status) → Prints flags scarce p n (line ∷ lines) out status
-    by (Bad m r) e k f = inl (m, (r, (subst (λ (x : Read). RefusedOr x m r (λ j. Refuses flags j (n + 1) lines m r)) (sym e) (refl, refl), o ∙ f.0, ended f.1)))
-    by (Good q) e k f = opens_before flags scarce p q n line lines out more status i e o (again q more k f)
+    by : (rd : Read) → read_line p n line.bytes ≡ rd → ReadKept at rd → Follows goes (after_read rd) more (Ended status) → Prints asked scarce p n (line ∷ lines) out status
+    by (Bad m r) e k f = inl (m, (r, (subst (λ (x : Read). RefusedOr x m r (λ j. Refuses asked j (n + 1) lines m r)) (sym e) (refl, refl), o ∙ f.0, ended f.1)))
+    by (Good q) e k f = opens_before asked scarce p q n line lines out more status i e o (again q more k f)
 
 -- at the commands, none of which was refused before
-all_printed : (flags : Flags) (scarce : Bool) (s : State) (refused : Bool) (n place : ℕ) (lines : List Line) (out : Text) (status : Status) → IsOpened s → refused ≡ false → IsOutput flags scarce (Commands s refused) n place lines out (Ended status)
-    → PrintsAll flags scarce (Commands s refused) n lines out status
-all_printed flags scarce s refused n place lines out status h first o =
-    let c = commands_held flags scarce s refused n place lines out status h o in record {
+all_printed : (asked : Asked) (scarce : Bool) (s : State) (refused : Bool) (n place : ℕ) (lines : List Line) (out : Text) (status : Status) → IsOpened s → refused ≡ false → IsOutput asked scarce (Commands s refused) n place lines out (Ended status)
+    → PrintsAll asked scarce (Commands s refused) n lines out status
+all_printed asked scarce s refused n place lines out status h first o =
+    let c = commands_held asked scarce s refused n place lines out status h o in record {
       opened = s;
       commands = lines;
       opens = at_commands s refused n lines;
@@ -316,55 +316,55 @@ all_printed flags scarce s refused n place lines out status h first o =
       ends = c.1 ∙ ap (λ (b : Bool). status_of (b || list_any is_refused c.0.replies)) first;
     }
 
-end_bad : (flags : Flags) (p : Phase) (n : ℕ) (out : Text) (status : Status) → IsReading p → Follows (λ _ _. ⊥) (at_end flags p n) out (Ended status) → PrintsBad flags p n [] out status
-end_bad flags Header n out status i f = (n, (BadLine, (refl, f.0, ended f.1)))
-end_bad flags (Between plan) n out status i f = (n, (BadLine, (refl, f.0, ended f.1)))
-end_bad flags (InJournal part s) n out status i f = (n, (BadLine, (refl, f.0, ended f.1)))
-end_bad flags (InGroup plan g ys) n out status i f = by (with_read plan ys) refl f
+end_bad : (asked : Asked) (p : Phase) (n : ℕ) (out : Text) (status : Status) → IsReading p → Follows (λ _ _. ⊥) (at_end asked p n) out (Ended status) → PrintsBad asked p n [] out status
+end_bad asked Header n out status i f = (n, (BadLine, (refl, f.0, ended f.1)))
+end_bad asked (Between plan) n out status i f = (n, (BadLine, (refl, f.0, ended f.1)))
+end_bad asked (InJournal part s) n out status i f = (n, (BadLine, (refl, f.0, ended f.1)))
+end_bad asked (InGroup plan g ys) n out status i f = by (with_read plan ys) refl f
   where
-    by : (r : Result Plan Refusal) → with_read plan ys ≡ r → Follows (λ _ _. ⊥) (after_read (closed_as g r (λ p. Bad n BadLine))) out (Ended status) → PrintsBad flags (InGroup plan g ys) n [] out status
+    by : (r : Result Plan Refusal) → with_read plan ys ≡ r → Follows (λ _ _. ⊥) (after_read (closed_as g r (λ p. Bad n BadLine))) out (Ended status) → PrintsBad asked (InGroup plan g ys) n [] out status
     by (Err e) q f = (g, (e, (ap (λ (x : Result Plan Refusal). after_read (closed_as g x (λ p. Bad n BadLine))) q, f.0, ended f.1)))
     by (Ok p) q f = (n, (BadLine, (ap (λ (x : Result Plan Refusal). after_read (closed_as g x (λ p. Bad n BadLine))) q, f.0, ended f.1)))
-end_bad flags (Commands s refused) n out status i f = absurd i
+end_bad asked (Commands s refused) n out status i f = absurd i
 
 -- the step of a line that isn't a command's
-read_as : (flags : Flags) (scarce : Bool) (p : Phase) (n : ℕ) (line now : Text) (next : Next) → IsReading p → IsStep flags scarce p n line now next → (now ≡ []) × (next ≡ after_read (read_line p n line))
-read_as flags scarce Header n line now next i step = step
-read_as flags scarce (Between plan) n line now next i step = step
-read_as flags scarce (InGroup plan g ys) n line now next i step = step
-read_as flags scarce (InJournal part s) n line now next i step = step
-read_as flags scarce (Commands s refused) n line now next i step = absurd i
+read_as : (asked : Asked) (scarce : Bool) (p : Phase) (n : ℕ) (line now : Text) (next : Next) → IsReading p → IsStep asked scarce p n line now next → (now ≡ []) × (next ≡ after_read (read_line p n line))
+read_as asked scarce Header n line now next i step = step
+read_as asked scarce (Between plan) n line now next i step = step
+read_as asked scarce (InGroup plan g ys) n line now next i step = step
+read_as asked scarce (InJournal part s) n line now next i step = step
+read_as asked scarce (Commands s refused) n line now next i step = absurd i
 
-prints_read : (flags : Flags) (scarce : Bool) (p : Phase) (n place : ℕ) (line : Line) (lines : List Line) (out : Text) (status : Status) → IsReading p → IsKept place p
-    → ((q : Phase) (rest : Text) → IsKept (place + length (whole line)) q → IsOutput flags scarce q (n + 1) (place + length (whole line)) lines rest (Ended status) → Prints flags scarce q (n + 1) lines rest status)
-    → IsOutput flags scarce p n place (line ∷ lines) out (Ended status) → Prints flags scarce p n (line ∷ lines) out status
-prints_read flags scarce p n place line lines out status i kept again (inl o) = absurd cc
-prints_read flags scarce p n place line lines out status i kept again (inr (fits, (now, (next, (more, (step, o, follows)))))) =
-    let goes : Phase → Text → Type 0 = λ q rest. IsOutput flags scarce q (n + 1) (place + length (whole line)) lines rest (Ended status) in
-    let read = read_as flags scarce p n line.bytes now next i step in
-    reading_step flags scarce p n line lines out more status (place + length (whole line)) goes i again (line_kept p n place line fits kept) (o ∙ ap (λ (t : Text). t ++ more) read.0) (subst (λ (x : Next). Follows goes x more (Ended status)) read.1 follows)
+prints_read : (asked : Asked) (scarce : Bool) (p : Phase) (n place : ℕ) (line : Line) (lines : List Line) (out : Text) (status : Status) → IsReading p → IsKept place p
+    → ((q : Phase) (rest : Text) → IsKept (place + length (whole line)) q → IsOutput asked scarce q (n + 1) (place + length (whole line)) lines rest (Ended status) → Prints asked scarce q (n + 1) lines rest status)
+    → IsOutput asked scarce p n place (line ∷ lines) out (Ended status) → Prints asked scarce p n (line ∷ lines) out status
+prints_read asked scarce p n place line lines out status i kept again (inl o) = absurd cc
+prints_read asked scarce p n place line lines out status i kept again (inr (fits, (now, (next, (more, (step, o, follows)))))) =
+    let goes : Phase → Text → Type 0 = λ q rest. IsOutput asked scarce q (n + 1) (place + length (whole line)) lines rest (Ended status) in
+    let read = read_as asked scarce p n line.bytes now next i step in
+    reading_step asked scarce p n line lines out more status (place + length (whole line)) goes i again (line_kept p n place line fits kept) (o ∙ ap (λ (t : Text). t ++ more) read.0) (subst (λ (x : Next). Follows goes x more (Ended status)) read.1 follows)
 
-prints : (flags : Flags) (scarce : Bool) (p : Phase) (n place : ℕ) (lines : List Line) (out : Text) (status : Status) → IsKept place p → IsOutput flags scarce p n place lines out (Ended status) → Prints flags scarce p n lines out status
-prints flags scarce (Commands s refused) n place lines out status h o = inr (all_printed flags scarce s refused n place lines out status h.0 h.1 o)
-prints flags scarce Header n place [] out status h o = inl (end_bad flags Header n out status tt o)
-prints flags scarce (Between plan) n place [] out status h o = inl (end_bad flags (Between plan) n out status tt o)
-prints flags scarce (InGroup plan g ys) n place [] out status h o = inl (end_bad flags (InGroup plan g ys) n out status tt o)
-prints flags scarce (InJournal part s) n place [] out status h o = inl (end_bad flags (InJournal part s) n out status tt o)
-prints flags scarce Header n place (line ∷ lines) out status h o = prints_read flags scarce Header n place line lines out status tt h (λ q rest k x. prints flags scarce q (n + 1) (place + length (whole line)) lines rest status k x) o
-prints flags scarce (Between plan) n place (line ∷ lines) out status h o = prints_read flags scarce (Between plan) n place line lines out status tt h (λ q rest k x. prints flags scarce q (n + 1) (place + length (whole line)) lines rest status k x) o
-prints flags scarce (InGroup plan g ys) n place (line ∷ lines) out status h o = prints_read flags scarce (InGroup plan g ys) n place line lines out status tt h (λ q rest k x. prints flags scarce q (n + 1) (place + length (whole line)) lines rest status k x) o
-prints flags scarce (InJournal part s) n place (line ∷ lines) out status h o = prints_read flags scarce (InJournal part s) n place line lines out status tt h (λ q rest k x. prints flags scarce q (n + 1) (place + length (whole line)) lines rest status k x) o
+prints : (asked : Asked) (scarce : Bool) (p : Phase) (n place : ℕ) (lines : List Line) (out : Text) (status : Status) → IsKept place p → IsOutput asked scarce p n place lines out (Ended status) → Prints asked scarce p n lines out status
+prints asked scarce (Commands s refused) n place lines out status h o = inr (all_printed asked scarce s refused n place lines out status h.0 h.1 o)
+prints asked scarce Header n place [] out status h o = inl (end_bad asked Header n out status tt o)
+prints asked scarce (Between plan) n place [] out status h o = inl (end_bad asked (Between plan) n out status tt o)
+prints asked scarce (InGroup plan g ys) n place [] out status h o = inl (end_bad asked (InGroup plan g ys) n out status tt o)
+prints asked scarce (InJournal part s) n place [] out status h o = inl (end_bad asked (InJournal part s) n out status tt o)
+prints asked scarce Header n place (line ∷ lines) out status h o = prints_read asked scarce Header n place line lines out status tt h (λ q rest k x. prints asked scarce q (n + 1) (place + length (whole line)) lines rest status k x) o
+prints asked scarce (Between plan) n place (line ∷ lines) out status h o = prints_read asked scarce (Between plan) n place line lines out status tt h (λ q rest k x. prints asked scarce q (n + 1) (place + length (whole line)) lines rest status k x) o
+prints asked scarce (InGroup plan g ys) n place (line ∷ lines) out status h o = prints_read asked scarce (InGroup plan g ys) n place line lines out status tt h (λ q rest k x. prints asked scarce q (n + 1) (place + length (whole line)) lines rest status k x) o
+prints asked scarce (InJournal part s) n place (line ∷ lines) out status h o = prints_read asked scarce (InJournal part s) n place line lines out status tt h (λ q rest k x. prints asked scarce q (n + 1) (place + length (whole line)) lines rest status k x) o
 
 pub standing_printed : PrintsStandingEdits
-standing_printed flags scarce input out status o = prints flags scarce Header 1 0 (lines_of input) out status tt o
+standing_printed asked scarce input out status o = prints asked scarce Header 1 0 (lines_of input) out status tt o
 
 -- of a run
-pub standing_written : (flags : Flags) (had old new : Option Text) (r : Result Status RunFault) → IfOk r (λ status. WritesOutput flags had old new (Ended status)) → IfOk r (WritesStanding flags had old new)
-standing_written flags had old new (Ok status) w = record {
+pub standing_written : (asked : Asked) (had old new : Option Text) (r : Result Status RunFault) → IfOk r (λ status. WritesOutput asked had old new (Ended status)) → IfOk r (WritesStanding asked had old new)
+standing_written asked had old new (Ok status) w = record {
   input = w.input;
   is_input = w.is_input;
   out = w.out;
-  prints = standing_printed flags true w.input w.out status w.is_output;
+  prints = standing_printed asked true w.input w.out status w.is_output;
   appended = w.appended;
 }
-standing_written flags had old new (Err e) w = tt
+standing_written asked had old new (Err e) w = tt

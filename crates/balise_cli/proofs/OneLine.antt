@@ -6,12 +6,12 @@ use Rattle.balise_rules.specs.Plan.{Plan}
 use Rattle.balise_rules.specs.Session.{State}
 use Rattle.balise_lines.specs.Writing.{AppendsPart}
 use Rattle.balise_lines.proofs.WrittenTexts.{part_after, part_front, some_nothing}
-use Rattle.balise_arguments.specs.declared.options.Flags.{Flags}
+use Rattle.balise_cli.specs.declared.asked.Asked.{Asked}
 use Rattle.balise_text.specs.Answers.{reply_of}
 use Rattle.balise_text.specs.Replies.{is_refused}
 use Rattle.balise_text.specs.PlanLines.{plan_line_of}
 use Rattle.balise_text.specs.Texts.{Text}
-use Rattle.balise_cli.specs.Faults.{IsCause}
+use Rattle.balise_text.specs.Printing.{IsCause}
 use Rattle.balise_cli.specs.Output.{Commands, IsStep, Next, On, Over, Phase, after_command, after_read, read_line, reply_text}
 use Rattle.balise_cli.specs.Output as phase
 use Rattle.balise_cli.specs.PlanTexts.{end_text}
@@ -26,41 +26,41 @@ use Rattle.balise_cli.specs.declared.status.Status.TheVariants.{SomeRefused}
 
 -- A command.
 
-module _ (flags : Flags) (s t : State) (refused : Bool) (n : ℕ) (line : Text) (a : Answer) (did : DidAnswer line s a t) where
+module _ (asked : Asked) (s t : State) (refused : Bool) (n : ℕ) (line : Text) (a : Answer) (did : DidAnswer line s a t) where
   -- its answer is the step's text
-  is_step : (next : Next) → next ≡ after_command flags (reply_of a.reply) t refused → IsStep flags true (Commands s refused) n line (answer_text flags.quiet a) next
-  is_step next e = (reply_of a.reply, (t, (did.0, ap (reply_text flags.quiet (reply_of a.reply)) did.1, e)))
+  is_step : (next : Next) → next ≡ after_command asked (reply_of a.reply) t refused → IsStep asked true (Commands s refused) n line (answer_text asked.quiet a) next
+  is_step next e = (reply_of a.reply, (t, (did.0, ap (reply_text asked.quiet (reply_of a.reply)) did.1, e)))
 
-  pub command_on : (old new : Option Text) → (flags.stop && is_refused (reply_of a.reply)) ≡ false → Appends old new (answer_text flags.quiet a)
-      → DidStep flags (Commands s refused) n line old new (Commands t (refused || is_refused (reply_of a.reply))) None
+  pub command_on : (old new : Option Text) → (asked.stop && is_refused (reply_of a.reply)) ≡ false → Appends old new (answer_text asked.quiet a)
+      → DidStep asked (Commands s refused) n line old new (Commands t (refused || is_refused (reply_of a.reply))) None
   command_on old new e w =
-      (answer_text flags.quiet a, (is_step _ (sym (ap (λ b. cond b (Over (end_text flags t) SomeRefused) (On (Commands t (refused || is_refused (reply_of a.reply))))) e)), w))
+      (answer_text asked.quiet a, (is_step _ (sym (ap (λ b. cond b (Over (end_text asked t) SomeRefused) (On (Commands t (refused || is_refused (reply_of a.reply))))) e)), w))
 
-  stops : (flags.stop && is_refused (reply_of a.reply)) ≡ true → Over (end_text flags t) SomeRefused ≡ after_command flags (reply_of a.reply) t refused
-  stops e = sym (ap (λ b. cond b (Over (end_text flags t) SomeRefused) (On (Commands t (refused || is_refused (reply_of a.reply))))) e)
+  stops : (asked.stop && is_refused (reply_of a.reply)) ≡ true → Over (end_text asked t) SomeRefused ≡ after_command asked (reply_of a.reply) t refused
+  stops e = sym (ap (λ b. cond b (Over (end_text asked t) SomeRefused) (On (Commands t (refused || is_refused (reply_of a.reply))))) e)
 
-  pub command_over : (old now new : Option Text) (q : Phase) → (flags.stop && is_refused (reply_of a.reply)) ≡ true → Appends old now (answer_text flags.quiet a) → Appends now new (end_text flags t)
-      → DidStep flags (Commands s refused) n line old new q (Some SomeRefused)
-  command_over old now new q e w v = (answer_text flags.quiet a, (end_text flags t, (is_step _ (stops e), Appends-trans old now new _ _ w v)))
+  pub command_over : (old now new : Option Text) (q : Phase) → (asked.stop && is_refused (reply_of a.reply)) ≡ true → Appends old now (answer_text asked.quiet a) → Appends now new (end_text asked t)
+      → DidStep asked (Commands s refused) n line old new q (Some SomeRefused)
+  command_over old now new q e w v = (answer_text asked.quiet a, (end_text asked t, (is_step _ (stops e), Appends-trans old now new _ _ w v)))
 
   -- not all of its answer was written
-  pub command_part : (old new : Option Text) → AppendsPart old new (answer_text flags.quiet a) → DidPart flags (Commands s refused) n line old new
-  command_part old new w = (answer_text flags.quiet a, (after_command flags (reply_of a.reply) t refused, (is_step _ refl, part_front old new (answer_text flags.quiet a) _ w)))
+  pub command_part : (old new : Option Text) → AppendsPart old new (answer_text asked.quiet a) → DidPart asked (Commands s refused) n line old new
+  command_part old new w = (answer_text asked.quiet a, (after_command asked (reply_of a.reply) t refused, (is_step _ refl, part_front old new (answer_text asked.quiet a) _ w)))
 
   -- its answer was, and not all of the end
-  pub command_end_part : (old now new : Option Text) → (flags.stop && is_refused (reply_of a.reply)) ≡ true → Appends old now (answer_text flags.quiet a) → AppendsPart now new (end_text flags t)
-      → DidPart flags (Commands s refused) n line old new
-  command_end_part old now new e w v = (answer_text flags.quiet a, (Over (end_text flags t) SomeRefused, (is_step _ (stops e), part_after old now new (answer_text flags.quiet a) (end_text flags t) w v)))
+  pub command_end_part : (old now new : Option Text) → (asked.stop && is_refused (reply_of a.reply)) ≡ true → Appends old now (answer_text asked.quiet a) → AppendsPart now new (end_text asked t)
+      → DidPart asked (Commands s refused) n line old new
+  command_end_part old now new e w v = (answer_text asked.quiet a, (Over (end_text asked t) SomeRefused, (is_step _ (stops e), part_after old now new (answer_text asked.quiet a) (end_text asked t) w v)))
 
   -- memory ran out for the rest of the end
-  pub command_ran_out : (old now new : Option Text) → (flags.stop && is_refused (reply_of a.reply)) ≡ true → Appends old now (answer_text flags.quiet a) → AppendsPart now new (end_text flags t)
-      → WroteSuch (WrittenOfLine flags (Commands s refused) n line) old new
+  pub command_ran_out : (old now new : Option Text) → (asked.stop && is_refused (reply_of a.reply)) ≡ true → Appends old now (answer_text asked.quiet a) → AppendsPart now new (end_text asked t)
+      → WroteSuch (WrittenOfLine asked (Commands s refused) n line) old new
   command_ran_out old now new e w v =
-      (answer_text flags.quiet a ++ v.0.done, ((answer_text flags.quiet a, (end_text flags t, (v.0.done, (is_step _ (stops e), (v.0.begins.0, (v.0.begins.1, v.1)), refl)))), Appends-trans old now new _ _ w v.0.appended))
+      (answer_text asked.quiet a ++ v.0.done, ((answer_text asked.quiet a, (end_text asked t, (v.0.done, (is_step _ (stops e), (v.0.begins.0, (v.0.begins.1, v.1)), refl)))), Appends-trans old now new _ _ w v.0.appended))
 
 -- where memory ran out for the rest of the end, a beginning of what the line gives was written
-some_of_line : (flags : Flags) (s : State) (refused : Bool) (n : ℕ) (line : Text) (old new : Option Text) → WroteSuch (WrittenOfLine flags (Commands s refused) n line) old new → DidSome flags (Commands s refused) n line old new
-some_of_line flags s refused n line old new w =
+some_of_line : (asked : Asked) (s : State) (refused : Bool) (n : ℕ) (line : Text) (old new : Option Text) → WroteSuch (WrittenOfLine asked (Commands s refused) n line) old new → DidSome asked (Commands s refused) n line old new
+some_of_line asked s refused n line old new w =
     let p = w.1.0 in
     let now = p.0 in
     let text = p.1.0 in
@@ -82,16 +82,16 @@ some_of_line flags s refused n line old new w =
     )
 
 -- where not all of it was written, a beginning was
-some_of_part : (flags : Flags) (p : Phase) (n : ℕ) (line : Text) (old new : Option Text) → DidPart flags p n line old new → DidSome flags p n line old new
-some_of_part flags p n line old new (out, (next, (is, w))) = (out, (next, (is, w.0)))
+some_of_part : (asked : Asked) (p : Phase) (n : ℕ) (line : Text) (old new : Option Text) → DidPart asked p n line old new → DidSome asked p n line old new
+some_of_part asked p n line old new (out, (next, (is, w))) = (out, (next, (is, w.0)))
 
 -- whatever the fault is
-pub did_some : (flags : Flags) (s : State) (refused : Bool) (n : ℕ) (line : Text) (old new : Option Text) (before after : ℕ) (e : RunFault) → IsCause before after e
-    → (e ≡ WriteFault → DidPart flags (Commands s refused) n line old new) → (e ≡ OutOfMemory → WroteSuch (WrittenOfLine flags (Commands s refused) n line) old new) → DidSome flags (Commands s refused) n line old new
-did_some flags s refused n line old new before after OutOfMemory w f m = some_of_line flags s refused n line old new (m refl)
-did_some flags s refused n line old new before after WriteFault w f m = some_of_part flags (Commands s refused) n line old new (f refl)
-did_some flags s refused n line old new before after InputTooLong w f m = absurd w
-did_some flags s refused n line old new before after ReadFault w f m = absurd w
+pub did_some : (asked : Asked) (s : State) (refused : Bool) (n : ℕ) (line : Text) (old new : Option Text) (before after : ℕ) (e : RunFault) → IsCause before after e
+    → (e ≡ WriteFault → DidPart asked (Commands s refused) n line old new) → (e ≡ OutOfMemory → WroteSuch (WrittenOfLine asked (Commands s refused) n line) old new) → DidSome asked (Commands s refused) n line old new
+did_some asked s refused n line old new before after OutOfMemory w f m = some_of_line asked s refused n line old new (m refl)
+did_some asked s refused n line old new before after WriteFault w f m = some_of_part asked (Commands s refused) n line old new (f refl)
+did_some asked s refused n line old new before after InputTooLong w f m = absurd w
+did_some asked s refused n line old new before after ReadFault w f m = absurd w
 
 -- A line of the plan or the journal.
 
@@ -104,27 +104,27 @@ plan_reading First plan = tt
 plan_reading Between plan = tt
 plan_reading (InGroup g ys) plan = tt
 
-pub read_step : (flags : Flags) (p : Phase) (n : ℕ) (line : Text) → IsReading p → IsStep flags true p n line [] (after_read (read_line p n line))
-read_step flags phase.Header n line h = (refl, refl)
-read_step flags (phase.Between plan) n line h = (refl, refl)
-read_step flags (phase.InGroup plan g ys) n line h = (refl, refl)
-read_step flags (phase.InJournal part s) n line h = (refl, refl)
-read_step flags (Commands s refused) n line h = absurd h
+pub read_step : (asked : Asked) (p : Phase) (n : ℕ) (line : Text) → IsReading p → IsStep asked true p n line [] (after_read (read_line p n line))
+read_step asked phase.Header n line h = (refl, refl)
+read_step asked (phase.Between plan) n line h = (refl, refl)
+read_step asked (phase.InGroup plan g ys) n line h = (refl, refl)
+read_step asked (phase.InJournal part s) n line h = (refl, refl)
+read_step asked (Commands s refused) n line h = absurd h
 
 -- no memory was had for it: nothing was written
-pub none_read : (flags : Flags) (p : Phase) (n : ℕ) (line : Text) (old : Option Text) → IsReading p → DidSome flags p n line old old
-none_read flags p n line old h = ([], (after_read (read_line p n line), (read_step flags p n line h, some_nothing old (last_text (after_read (read_line p n line))))))
+pub none_read : (asked : Asked) (p : Phase) (n : ℕ) (line : Text) (old : Option Text) → IsReading p → DidSome asked p n line old old
+none_read asked p n line old h = ([], (after_read (read_line p n line), (read_step asked p n line h, some_nothing old (last_text (after_read (read_line p n line))))))
 
-pub none_of_line : (flags : Flags) (p : Phase) (n : ℕ) (line : Text) (old : Option Text) → LineMayRunOut p (is_telegram (plan_line_of line)) → WroteSuch (WrittenOfLine flags p n line) old old
-none_of_line flags (phase.InGroup plan g ys) n line old h = ([], ((h, refl), Appends-nil old))
-none_of_line flags phase.Header n line old h = absurd h
-none_of_line flags (phase.Between plan) n line old h = absurd h
-none_of_line flags (phase.InJournal part s) n line old h = absurd h
-none_of_line flags (Commands s refused) n line old h = absurd h
+pub none_of_line : (asked : Asked) (p : Phase) (n : ℕ) (line : Text) (old : Option Text) → LineMayRunOut p (is_telegram (plan_line_of line)) → WroteSuch (WrittenOfLine asked p n line) old old
+none_of_line asked (phase.InGroup plan g ys) n line old h = ([], ((h, refl), Appends-nil old))
+none_of_line asked phase.Header n line old h = absurd h
+none_of_line asked (phase.Between plan) n line old h = absurd h
+none_of_line asked (phase.InJournal part s) n line old h = absurd h
+none_of_line asked (Commands s refused) n line old h = absurd h
 
-pub none_of_end : (flags : Flags) (p : Phase) (old : Option Text) → EndMayRunOut p → WroteSuch (WrittenOfEnd flags p) old old
-none_of_end flags (phase.InGroup plan g ys) old h = ([], ((h, refl), Appends-nil old))
-none_of_end flags phase.Header old h = absurd h
-none_of_end flags (phase.Between plan) old h = absurd h
-none_of_end flags (phase.InJournal part s) old h = absurd h
-none_of_end flags (Commands s refused) old h = absurd h
+pub none_of_end : (asked : Asked) (p : Phase) (old : Option Text) → EndMayRunOut p → WroteSuch (WrittenOfEnd asked p) old old
+none_of_end asked (phase.InGroup plan g ys) old h = ([], ((h, refl), Appends-nil old))
+none_of_end asked phase.Header old h = absurd h
+none_of_end asked (phase.Between plan) old h = absurd h
+none_of_end asked (phase.InJournal part s) old h = absurd h
+none_of_end asked (Commands s refused) old h = absurd h

@@ -1,9 +1,9 @@
+pub mod Asking
 pub mod PlanTexts
 pub mod PlanRead
 pub mod Output
 pub mod Ends
 pub mod Statuses
-pub mod Faults
 pub mod Laws
 pub mod Private
 pub mod Phases

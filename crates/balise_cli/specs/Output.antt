@@ -12,7 +12,7 @@ use Rattle.balise_rules.specs.Session.{State, Call, Ask, Strike, Reply, Done, Re
 use Rattle.balise_lines.specs.Lines.{Line, Fits, whole}
 use Rattle.balise_plan.specs.GroupReading.{with_read}
 use Rattle.balise_history.specs.Tests.{StrikeMayRunOut}
-use Rattle.balise_arguments.specs.declared.options.Flags.{Flags}
+use Rattle.balise_cli.specs.declared.asked.Asked.{Asked}
 use Rattle.balise_text.specs.Commands.{call_of, reads_digits}
 use Rattle.balise_text.specs.Heads.{read_head}
 use Rattle.balise_text.specs.JournalLines.{JournalLine, EntryLine, UndoneLine, EditsLine as EndLine, journal_line_of}
@@ -155,20 +155,20 @@ after_read (Good p) = On p
 after_read (Bad n r) = Over (bad_line n r) BadInput
 
 -- a run that stops is over after the first refusal
-abbrev pub after_command : Flags → Reply → State → Bool → Next
-after_command flags r s refused = cond (flags.stop && is_refused r) (Over (end_text flags s) SomeRefused) (On (Commands s (refused || is_refused r)))
+abbrev pub after_command : Asked → Reply → State → Bool → Next
+after_command asked r s refused = cond (asked.stop && is_refused r) (Over (end_text asked s) SomeRefused) (On (Commands s (refused || is_refused r)))
 
 -- line n may print this, and the run may go on so
-abbrev pub IsStep : Flags → Bool → Phase → ℕ → Text → Text → Next → Type 0
-IsStep flags scarce (Commands s refused) n line out next =
-    (r : Reply) × ((s' : State) × (MayAnswer scarce line s r s' × (out ≡ reply_text flags.quiet r (reviewed (call_of line) r s)) × (next ≡ after_command flags r s' refused)))
-IsStep flags scarce p n line out next = (out ≡ []) × (next ≡ after_read (read_line p n line))
+abbrev pub IsStep : Asked → Bool → Phase → ℕ → Text → Text → Next → Type 0
+IsStep asked scarce (Commands s refused) n line out next =
+    (r : Reply) × ((s' : State) × (MayAnswer scarce line s r s' × (out ≡ reply_text asked.quiet r (reviewed (call_of line) r s)) × (next ≡ after_command asked r s' refused)))
+IsStep asked scarce p n line out next = (out ≡ []) × (next ≡ after_read (read_line p n line))
 
 -- what the end of the input prints, where line n would come
-abbrev pub at_end : Flags → Phase → ℕ → Next
-at_end flags (Commands s refused) n = Over (end_text flags s) (status_of refused)
-at_end flags (InGroup plan g ys) n = after_read (closed plan g ys (λ p. Bad n BadLine))
-at_end flags p n = after_read (Bad n BadLine)
+abbrev pub at_end : Asked → Phase → ℕ → Next
+at_end asked (Commands s refused) n = Over (end_text asked s) (status_of refused)
+at_end asked (InGroup plan g ys) n = after_read (closed plan g ys (λ p. Bad n BadLine))
+at_end asked p n = after_read (Bad n BadLine)
 
 -- how a run ends: with a status, or at a line that is too long
 pub data Ending : Type 0 where
@@ -180,9 +180,9 @@ Follows goes_on (On p) out e = goes_on p out
 Follows goes_on (Over text status) out e = (out ≡ text) × (e ≡ Ended status)
 
 -- From this phase, where line n comes next and begins at this place of the input, these lines may print this and end so.
-abbrev pub IsOutput : Flags → Bool → Phase → ℕ → ℕ → List Line → Text → Ending → Type 0
-IsOutput flags scarce p n place [] out e = Follows (λ _ _. ⊥) (at_end flags p n) out e
-IsOutput flags scarce p n place (line ∷ lines) out e =
+abbrev pub IsOutput : Asked → Bool → Phase → ℕ → ℕ → List Line → Text → Ending → Type 0
+IsOutput asked scarce p n place [] out e = Follows (λ _ _. ⊥) (at_end asked p n) out e
+IsOutput asked scarce p n place (line ∷ lines) out e =
     ((Fits place line → ⊥) × (out ≡ []) × (e ≡ TooLong))
-    ⊎ (Fits place line × ((now : Text) × ((next : Next) × ((more : Text) × (IsStep flags scarce p n line.bytes now next × (out ≡ now ++ more)
-    × Follows (λ q rest. IsOutput flags scarce q (n + 1) (place + length (whole line)) lines rest e) next more e)))))
+    ⊎ (Fits place line × ((now : Text) × ((next : Next) × ((more : Text) × (IsStep asked scarce p n line.bytes now next × (out ≡ now ++ more)
+    × Follows (λ q rest. IsOutput asked scarce q (n + 1) (place + length (whole line)) lines rest e) next more e)))))

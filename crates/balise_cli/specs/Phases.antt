@@ -10,7 +10,7 @@ use Rattle.balise_history.specs.Openings.{MayComeNext}
 use Rattle.balise_history.specs.Tests.{StrikeMayRunOut}
 use Rattle.balise_lines.specs.Writing.{AppendsPart, AppendsSome, IsPartOf}
 use Rattle.balise_plan.specs.GroupReading.{most_telegrams, with_read}
-use Rattle.balise_arguments.specs.declared.options.Flags.{Flags}
+use Rattle.balise_cli.specs.declared.asked.Asked.{Asked}
 use Rattle.balise_text.specs.JournalLines.{JournalLine, EntryLine, UndoneLine, journal_line_of, line_reads_digits}
 use Rattle.balise_text.specs.PlanLines.{plan_line_of}
 use Rattle.balise_text.specs.Texts.{Text}
@@ -101,17 +101,17 @@ last_text (On p) = []
 last_text (Over text status) = text
 
 -- one line was done and what it gives was written: the run goes on in a phase, or is over with a status
-abbrev pub DidStep : Flags → Phase → ℕ → Text → Option Text → Option Text → Phase → Option Status → Type 0
-DidStep flags p n line old new q None = (out : Text) × (IsStep flags true p n line out (On q) × Appends old new out)
-DidStep flags p n line old new q (Some status) = (out : Text) × ((text : Text) × (IsStep flags true p n line out (Over text status) × Appends old new (out ++ text)))
+abbrev pub DidStep : Asked → Phase → ℕ → Text → Option Text → Option Text → Phase → Option Status → Type 0
+DidStep asked p n line old new q None = (out : Text) × (IsStep asked true p n line out (On q) × Appends old new out)
+DidStep asked p n line old new q (Some status) = (out : Text) × ((text : Text) × (IsStep asked true p n line out (Over text status) × Appends old new (out ++ text)))
 
 -- a beginning of what one line gives was written
-abbrev pub DidSome : Flags → Phase → ℕ → Text → Option Text → Option Text → Type 0
-DidSome flags p n line old new = (out : Text) × ((next : Next) × (IsStep flags true p n line out next × AppendsSome old new (out ++ last_text next)))
+abbrev pub DidSome : Asked → Phase → ℕ → Text → Option Text → Option Text → Type 0
+DidSome asked p n line old new = (out : Text) × ((next : Next) × (IsStep asked true p n line out next × AppendsSome old new (out ++ last_text next)))
 
 -- the same, and not all of what it gives
-abbrev pub DidPart : Flags → Phase → ℕ → Text → Option Text → Option Text → Type 0
-DidPart flags p n line old new = (out : Text) × ((next : Next) × (IsStep flags true p n line out next × AppendsPart old new (out ++ last_text next)))
+abbrev pub DidPart : Asked → Phase → ℕ → Text → Option Text → Option Text → Type 0
+DidPart asked p n line old new = (out : Text) × ((next : Next) × (IsStep asked true p n line out next × AppendsPart old new (out ++ last_text next)))
 
 -- Memory may run out for what a line of the journal asks: for an edit that may come next, or for a strike as for the command.
 abbrev pub DoingMayRunOut : Result JournalLine Refusal → State → Type 0
@@ -124,18 +124,18 @@ abbrev pub MayRunOutAt : Section → State → Text → Type 0
 MayRunOutAt section s line = IsTrue (line_reads_digits section line) ⊎ DoingMayRunOut (journal_line_of section line) s
 
 -- What was written of a line that memory ran out in, where it may: in a group or in the journal nothing; of a command that stops the run its answer, and a beginning of the end, not all of it. No other line ends a run so.
-abbrev pub WrittenOfLine : Flags → Phase → ℕ → Text → Text → Type 0
-WrittenOfLine flags (InGroup p g ys) n line last = LineMayRunOut (InGroup p g ys) (is_telegram (plan_line_of line)) × (last ≡ [])
-WrittenOfLine flags (InJournal section s) n line last = MayRunOutAt section s line × (last ≡ [])
-WrittenOfLine flags (Commands s refused) n line last =
-    (now : Text) × ((text : Text) × ((begun : Text) × (IsStep flags true (Commands s refused) n line now (Over text SomeRefused) × IsPartOf begun text × (last ≡ now ++ begun))))
-WrittenOfLine flags _ n line last = ⊥
+abbrev pub WrittenOfLine : Asked → Phase → ℕ → Text → Text → Type 0
+WrittenOfLine asked (InGroup p g ys) n line last = LineMayRunOut (InGroup p g ys) (is_telegram (plan_line_of line)) × (last ≡ [])
+WrittenOfLine asked (InJournal section s) n line last = MayRunOutAt section s line × (last ≡ [])
+WrittenOfLine asked (Commands s refused) n line last =
+    (now : Text) × ((text : Text) × ((begun : Text) × (IsStep asked true (Commands s refused) n line now (Over text SomeRefused) × IsPartOf begun text × (last ≡ now ++ begun))))
+WrittenOfLine asked _ n line last = ⊥
 
 -- what was written of the input's end, where memory ran out in it: in a group nothing; after the commands a beginning of the end, not all of it
-abbrev pub WrittenOfEnd : Flags → Phase → Text → Type 0
-WrittenOfEnd flags (InGroup p g ys) last = EndMayRunOut (InGroup p g ys) × (last ≡ [])
-WrittenOfEnd flags (Commands s refused) last = IsPartOf last (end_text flags s)
-WrittenOfEnd flags _ last = ⊥
+abbrev pub WrittenOfEnd : Asked → Phase → Text → Type 0
+WrittenOfEnd asked (InGroup p g ys) last = EndMayRunOut (InGroup p g ys) × (last ≡ [])
+WrittenOfEnd asked (Commands s refused) last = IsPartOf last (end_text asked s)
+WrittenOfEnd asked _ last = ⊥
 
 -- such a text was written
 abbrev pub WroteSuch : (Text → Type 0) → Option Text → Option Text → Type 0

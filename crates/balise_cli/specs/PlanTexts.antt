@@ -1,4 +1,4 @@
--- What is printed after the replies: the plan, the journal and the view (this project's text).
+-- What is printed after the replies: the plan, the journal and the view (this project's text); or facts.
 use Rattle.std.specs.Prelude.{ℕ, Bool, true, false, [], ◌++◌, codes, map}
 use Rattle.balise_rules.specs.declared.tag.Tag.{Tag}
 use Rattle.balise_rules.specs.Digits.{hex_of}
@@ -6,10 +6,13 @@ use Rattle.balise_rules.specs.Journal.{Line, lines, undone}
 use Rattle.balise_rules.specs.Plan.{Group, Plan}
 use Rattle.balise_rules.specs.Session.{State, held}
 use Rattle.balise_rules.specs.Telegram.{Telegram, shown}
-use Rattle.balise_arguments.specs.declared.options.Flags.{Flags}
 use Rattle.balise_text.specs.Texts.{Text, text_of}
 use Rattle.balise_text.specs.Entries.{entry_text, head_text, undone_text}
+use Rattle.balise_facts.specs.FactTexts.{facts_text}
 use Rattle.balise_view.specs.View as view
+use Rattle.balise_cli.specs.declared.asked.Asked.{Asked}
+use Rattle.balise_cli.specs.declared.asked.Closing.{Closing}
+use Rattle.balise_cli.specs.declared.asked.Closing.TheVariants as closing
 
 -- a text and its line's end
 abbrev pub with_end : Text → Text
@@ -48,6 +51,11 @@ abbrev pub if_asked : Bool → Text → Text
 if_asked true t = t
 if_asked false t = []
 
+-- the plan, and the journal and the view where they are asked for; or the facts
+abbrev pub closing_text : Closing → State → Text
+closing_text (closing.Plan journal json) s = plan_text (held s) ++ (if_asked journal (journal_text s) ++ if_asked json (view_text (held s)))
+closing_text (closing.Facts facts) s = facts_text facts s
+
 -- what the end of the commands prints
-abbrev pub end_text : Flags → State → Text
-end_text flags s = plan_text (held s) ++ (if_asked flags.journal (journal_text s) ++ if_asked flags.json (view_text (held s)))
+abbrev pub end_text : Asked → State → Text
+end_text asked s = closing_text asked.closing s

@@ -1,16 +1,16 @@
 //! The commands, one after another.
 
 ghost use Rattle.std.specs.Prelude.{◌≡◌, IfErr, IfOk, IsErrOf, OnOk, false};
-ghost use Rattle.balise_cli.specs.Faults.{IsCause, Prints};
+ghost use Rattle.balise_text.specs.Printing.{IsCause, Prints};
 ghost use Rattle.balise_cli.specs.Output as output;
 ghost use Rattle.balise_cli.specs.PlanTexts.{end_text};
 ghost use Rattle.balise_cli.specs.Phases.{DidPart, DidStep, WrittenOfLine, WroteSuch, commands_phase};
 ghost use Rattle.balise_cli.specs.Statuses.{status_of};
 
 use crate::answers::{answer_line, put_answer};
+use crate::asked::Asked;
 use crate::printing::put_end;
 use crate::status::Status;
-use balise_arguments::Flags;
 use balise_history::Session;
 use balise_lines::Counted;
 use balise_text::RunFault;
@@ -40,24 +40,24 @@ impl Commands {
     pub(crate) fn answer<W: Write>(
         &mut self,
         alloc: Global,
-        flags: Flags,
+        asked: Asked,
         line: &[u8],
         writer: &mut Counted<W>,
     ) -> Result<Option<Status>, RunFault>
-        ensures ok { IfOk result (DidStep flags (commands_phase self.old) 0 line.now (W.contents writer.old.inner) (W.contents writer.new.inner) (commands_phase self.new)) }
+        ensures ok { IfOk result (DidStep asked (commands_phase self.old) 0 line.now (W.contents writer.old.inner) (W.contents writer.new.inner) (commands_phase self.new)) }
         ensures unfailed { OnOk result (writer.new.failed ≡ writer.old.failed) }
         ensures cause { IfErr result (IsCause writer.old.failed writer.new.failed) }
-        ensures written { IsErrOf result RunFault.WriteFault → DidPart flags (commands_phase self.old) 0 line.now (W.contents writer.old.inner) (W.contents writer.new.inner) }
-        ensures memory { IsErrOf result RunFault.OutOfMemory → WroteSuch (WrittenOfLine flags (commands_phase self.old) 0 line.now) (W.contents writer.old.inner) (W.contents writer.new.inner) }
+        ensures written { IsErrOf result RunFault.WriteFault → DidPart asked (commands_phase self.old) 0 line.now (W.contents writer.old.inner) (W.contents writer.new.inner) }
+        ensures memory { IsErrOf result RunFault.OutOfMemory → WroteSuch (WrittenOfLine asked (commands_phase self.old) 0 line.now) (W.contents writer.old.inner) (W.contents writer.new.inner) }
     {
         let answer = answer_line(alloc, &mut self.session, line);
-        if let Err(fault) = put_answer(writer, flags.quiet, &answer) {
+        if let Err(fault) = put_answer(writer, asked.quiet, &answer) {
             return Err(RunFault::from(fault));
         }
         let is_refused = answer.reply.is_refused();
         self.refused |= is_refused;
-        if flags.stop & is_refused {
-            if let Err(fault) = put_end(alloc, writer, flags, &self.session) {
+        if asked.stop & is_refused {
+            if let Err(fault) = put_end(alloc, writer, asked, &self.session) {
                 return Err(fault);
             }
             return Ok(Some(Status::SomeRefused));
@@ -69,13 +69,13 @@ impl Commands {
     pub(crate) fn end<W: Write>(
         &self,
         alloc: Global,
-        flags: Flags,
+        asked: Asked,
         writer: &mut Counted<W>,
     ) -> Result<Status, RunFault>
         ensures status { IfOk result (λ status. status ≡ status_of self.now.refused) }
-        ensures prints { Prints W.contents writer.old writer.new result (end_text flags self.now.session.state) }
+        ensures prints { Prints W.contents writer.old writer.new result (end_text asked self.now.session.state) }
     {
-        match put_end(alloc, writer, flags, &self.session) {
+        match put_end(alloc, writer, asked, &self.session) {
             Ok(()) => Ok(Status::of_commands(self.refused)),
             Err(fault) => Err(fault),
         }

@@ -1,6 +1,8 @@
 //! The program over any reader and writer: reads a plan, perhaps its journal, and commands; prints replies, the plan,
-//! the journal and the view.
+//! the journal and the view, or facts of the session.
 #![tactic(auto)]
+
+mod asked;
 
 // What is read before the commands.
 mod base_plan;
@@ -24,13 +26,15 @@ mod command_line;
 mod on_system;
 mod program;
 
+pub use asked::{Asked, Closing};
 pub use balise_arguments::{ArgsFault, Flags, flags};
+pub use balise_facts::Facts;
 pub use balise_history::Refusal;
 pub use balise_lines::Counted;
 pub use balise_program::{Exit, exit_after_arguments, report, stop_without_memory};
 pub use balise_text::RunFault;
 pub use command_line::launch;
 pub use exit::exit_of;
-pub use program::{start, work};
-pub use running::run;
+pub use program::{start, work, work_facts};
+pub use running::{run, run_facts};
 pub use status::Status;

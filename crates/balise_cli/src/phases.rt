@@ -5,11 +5,11 @@ ghost use Rattle.balise_cli.specs.Phases.{commands_phase, journal_end, journal_p
 ghost use Rattle.balise_cli.specs.Progress.{FailsAhead, ReadsAs, RunsOn};
 ghost use Rattle.balise_lines.specs.Reading.{OverAtEnd, Took};
 
+use crate::asked::Asked;
 use crate::commands::Commands;
 use crate::journal_reader::{JournalEnd, JournalReader, JournalStep};
 use crate::plan_reader::{PlanEnd, PlanReader};
 use crate::status::Status;
-use balise_arguments::Flags;
 use balise_history::Refusal;
 use balise_lines::{Counted, LineFault, Lines, Next};
 use balise_text::RunFault;
@@ -90,21 +90,21 @@ pub(crate) fn read_journal<R: Read>(
 /// Answers the commands, and writes the end.
 pub(crate) fn answer_commands<R: Read, W: Write>(
     alloc: Global,
-    flags: Flags,
+    asked: Asked,
     lines: &mut Lines,
     commands: &mut Commands,
     reader: &mut Counted<R>,
     writer: &mut Counted<W>,
 ) -> Result<Status, RunFault>
     requires over { OverAtEnd lines.old (R.remaining reader.old.inner) }
-    ensures { RunsOn flags (commands_phase commands.old) lines.old R.remaining W.contents reader.old reader.new writer.old writer.new result }
+    ensures { RunsOn asked (commands_phase commands.old) lines.old R.remaining W.contents reader.old reader.new writer.old writer.new result }
 {
     'lines: loop {
         match next(lines, reader) {
             Err(fault) => return Err(fault),
-            Ok(Next::End) => return commands.end(alloc, flags, writer),
+            Ok(Next::End) => return commands.end(alloc, asked, writer),
             Ok(Next::Line { is_ended: _ }) => {
-                match commands.answer(alloc, flags, lines.line(), writer) {
+                match commands.answer(alloc, asked, lines.line(), writer) {
                     Err(fault) => return Err(fault),
                     Ok(Some(status)) => return Ok(status),
                     Ok(None) => {}

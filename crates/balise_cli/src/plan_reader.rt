@@ -1,7 +1,7 @@
 //! The lines of the plan.
 
 ghost use Rattle.std.specs.Prelude.{ℕ, ◌≡◌, ◌⊎◌, ◌<◌, length, IfErr, IfOk, Ok, Err, OnErr, OnOk, true};
-ghost use Rattle.balise_arguments.specs.declared.options.Flags.{Flags};
+ghost use Rattle.balise_cli.specs.declared.asked.Asked.{Asked};
 ghost use Rattle.balise_cli.specs.Output.{Bad, Header, InGroup, after_read, at_end, between, first_line, read_line, telegram};
 ghost use Rattle.balise_cli.specs.Phases.{Begins, EndMayRunOut, LineMayRunOut, is_telegram, plan_phase, plan_read, plan_read_as};
 ghost use Rattle.balise_cli.specs.PlanRead.{with_line};
@@ -183,7 +183,7 @@ impl PlanReader {
     /// The input ends here, before the commands: which line is named, and as what. Memory can run out in a group
     /// alone, for one that has no fault.
     pub(crate) fn end(&mut self, alloc: Global, number: u64) -> Result<(u64, Refusal), RunFault>
-        ensures ok { IfOk result (λ bad. (flags : Flags) → at_end flags (plan_phase self.old) number ≡ after_read (Bad bad.0 bad.1)) }
+        ensures ok { IfOk result (λ bad. (asked : Asked) → at_end asked (plan_phase self.old) number ≡ after_read (Bad bad.0 bad.1)) }
         ensures fault { IfErr result (λ e. e ≡ RunFault.OutOfMemory) }
         ensures takes { OnErr result (EndMayRunOut (plan_phase self.old)) }
     {

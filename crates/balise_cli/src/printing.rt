@@ -4,10 +4,11 @@ mod journal;
 mod plan;
 mod view;
 
-ghost use Rattle.balise_cli.specs.Faults.{Prints};
-ghost use Rattle.balise_cli.specs.PlanTexts.{end_text, if_asked, journal_text, view_text};
+ghost use Rattle.balise_cli.specs.PlanTexts.{closing_text, end_text, if_asked, journal_text, view_text};
+ghost use Rattle.balise_text.specs.Printing.{Prints};
 
-use balise_arguments::Flags;
+use crate::asked::{Asked, Closing};
+use balise_facts::put_facts;
 use balise_history::{Plan, Session};
 use balise_lines::Counted;
 use balise_text::RunFault;
@@ -46,20 +47,36 @@ fn put_view_if<W: Write>(
     Ok(())
 }
 
-/// Writes what the end of the commands prints.
-pub(crate) fn put_end<W: Write>(
+// Writes the plan, and the journal and the view where they are asked for.
+fn put_all<W: Write>(
     alloc: Global,
     writer: &mut Counted<W>,
-    flags: Flags,
+    journal: bool,
+    view: bool,
     session: &Session,
 ) -> Result<(), RunFault>
-    ensures { Prints W.contents writer.old writer.new result (end_text flags session.now.state) }
+    ensures { Prints W.contents writer.old writer.new result (closing_text (Closing.Plan journal view) session.now.state) }
 {
     if let Err(fault) = put_plan(alloc, writer, session.plan()) {
         return Err(fault);
     }
-    if let Err(fault) = put_journal_if(writer, flags.journal, session) {
+    if let Err(fault) = put_journal_if(writer, journal, session) {
         return Err(fault);
     }
-    put_view_if(alloc, writer, flags.json, session.plan())
+    put_view_if(alloc, writer, view, session.plan())
+}
+
+/// Writes what the end of the commands prints.
+pub(crate) fn put_end<W: Write>(
+    alloc: Global,
+    writer: &mut Counted<W>,
+    asked: Asked,
+    session: &Session,
+) -> Result<(), RunFault>
+    ensures { Prints W.contents writer.old writer.new result (end_text asked session.now.state) }
+{
+    match asked.closing {
+        Closing::Plan { journal, view } => put_all(alloc, writer, journal, view, session),
+        Closing::Facts(facts) => put_facts(writer, facts, session),
+    }
 }

@@ -1,14 +1,31 @@
 //! The program over its words, its input and its two outputs.
 
 ghost use Rattle.std.specs.Prelude.{map};
+ghost use Rattle.balise_cli.specs.Asking.{asked_by, facts_asked};
 ghost use Rattle.balise_cli.specs.Program.{DoesWords, Starts, Works};
 
+use crate::asked::{Asked, asked_by, facts_asked};
 use crate::exit::exit_of;
 use crate::running::{AtEnd, run_lines};
 use balise_arguments::{Flags, flags};
+use balise_facts::Facts;
 use balise_program::{Counted, Exit, exit_after_arguments, report, show};
 use std::alloc::Global;
 use std::io::{BufWriter, Read, Write};
+
+// Runs, and then flushes, also where a fault ended the run.
+fn run_and_flush<R: Read, W: Write + Drop>(
+    alloc: Global,
+    asked: Asked,
+    reader: &mut Counted<R>,
+    writer: &mut Counted<BufWriter<W>>,
+) -> Exit
+    ensures { Works R.remaining W.contents asked reader.old reader.new writer.old writer.new result }
+{
+    let ended = run_lines(alloc, asked, AtEnd::Leave, reader, writer);
+    let flushed = writer.flush_buffer();
+    exit_of(ended, flushed.is_ok())
+}
 
 /// Runs, and then flushes, also where a fault ended the run. States how the program ends after both.
 ///
@@ -20,11 +37,21 @@ pub fn work<R: Read, W: Write + Drop>(
     reader: &mut Counted<R>,
     writer: &mut Counted<BufWriter<W>>,
 ) -> Exit
-    ensures { Works R.remaining W.contents flags reader.old reader.new writer.old writer.new result }
+    ensures { Works R.remaining W.contents (asked_by flags) reader.old reader.new writer.old writer.new result }
 {
-    let ended = run_lines(alloc, flags, AtEnd::Leave, reader, writer);
-    let flushed = writer.flush_buffer();
-    exit_of(ended, flushed.is_ok())
+    run_and_flush(alloc, asked_by(flags), reader, writer)
+}
+
+/// The same of a run that writes facts of the session in place of the plan.
+pub fn work_facts<R: Read, W: Write + Drop>(
+    alloc: Global,
+    facts: Facts,
+    reader: &mut Counted<R>,
+    writer: &mut Counted<BufWriter<W>>,
+) -> Exit
+    ensures { Works R.remaining W.contents (facts_asked facts) reader.old reader.new writer.old writer.new result }
+{
+    run_and_flush(alloc, facts_asked(facts), reader, writer)
 }
 
 // Does what the words ask for, and doesn't report the fault that the program ends with.

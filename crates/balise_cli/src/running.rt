@@ -1,8 +1,9 @@
 //! The run over all of an input: the plan, perhaps its journal, and the commands.
 
 ghost use Rattle.std.specs.Prelude.{◌≡◌, IfErr, IfOk, IsErrOf, OnErr, OnOk, false};
+ghost use Rattle.balise_cli.specs.Asking.{asked_by, facts_asked};
 ghost use Rattle.balise_cli.specs.Ends.{ComesToEnd, DidLines, FailsToWrite, NoneComplete, RunsOutOfMemory, WritesBeginning, WritesOutput, WritesSome, WritesStanding};
-ghost use Rattle.balise_cli.specs.Faults.{Prints};
+ghost use Rattle.balise_text.specs.Printing.{Prints};
 ghost use Rattle.balise_text.specs.RunFaults.{IsFault};
 ghost use Rattle.balise_cli.specs.Output.{Commands as AtCommands, Ended, Phase, TooLong};
 ghost use Rattle.balise_cli.specs.Phases.{journal_phase, plan_phase};
@@ -11,12 +12,14 @@ ghost use Rattle.balise_lines.specs.Reading.{OverAtEnd};
 ghost use Rattle.balise_rules.specs.Session.{State};
 ghost use Rattle.balise_text.specs.Replies.{bad_line};
 
+use crate::asked::{Asked, asked_by, facts_asked};
 use crate::commands::Commands;
 use crate::journal_reader::{JournalEnd, JournalReader};
 use crate::phases::{answer_commands, read_journal, read_plan};
 use crate::plan_reader::{PlanEnd, PlanReader};
 use crate::status::Status;
 use balise_arguments::Flags;
+use balise_facts::Facts;
 use balise_history::{Refusal, Session};
 use balise_lines::{Counted, Lines};
 use balise_text::{RunFault, put_bad};
@@ -44,35 +47,59 @@ pub fn run<R: Read, W: Write>(
     writer: &mut Counted<W>,
     flags: Flags,
 ) -> Result<Status, RunFault>
-    ensures held { IfOk result (WritesStanding flags (R.remaining reader.old.inner) (W.contents writer.old.inner) (W.contents writer.new.inner)) }
-    ensures ok { IfOk result (λ status. WritesOutput flags (R.remaining reader.old.inner) (W.contents writer.old.inner) (W.contents writer.new.inner) (Ended status)) }
-    ensures read { IfOk result (λ status. DidLines flags (R.remaining reader.old.inner) (R.remaining reader.new.inner) (W.contents writer.old.inner) (W.contents writer.new.inner) (ComesToEnd flags (R.remaining reader.new.inner) status)) }
+    ensures held { IfOk result (WritesStanding (asked_by flags) (R.remaining reader.old.inner) (W.contents writer.old.inner) (W.contents writer.new.inner)) }
+    ensures ok { IfOk result (λ status. WritesOutput (asked_by flags) (R.remaining reader.old.inner) (W.contents writer.old.inner) (W.contents writer.new.inner) (Ended status)) }
+    ensures read { IfOk result (λ status. DidLines (asked_by flags) (R.remaining reader.old.inner) (R.remaining reader.new.inner) (W.contents writer.old.inner) (W.contents writer.new.inner) (ComesToEnd (asked_by flags) (R.remaining reader.new.inner) status)) }
     ensures unread { OnOk result (reader.new.failed ≡ reader.old.failed) }
     ensures unwritten { OnOk result (writer.new.failed ≡ writer.old.failed) }
-    ensures long { IsErrOf result RunFault.InputTooLong → WritesOutput flags (R.remaining reader.old.inner) (W.contents writer.old.inner) (W.contents writer.new.inner) TooLong }
+    ensures long { IsErrOf result RunFault.InputTooLong → WritesOutput (asked_by flags) (R.remaining reader.old.inner) (W.contents writer.old.inner) (W.contents writer.new.inner) TooLong }
     ensures fault { IfErr result (IsFault reader.old.failed reader.new.failed writer.old.failed writer.new.failed) }
-    ensures memory { IsErrOf result RunFault.OutOfMemory → DidLines flags (R.remaining reader.old.inner) (R.remaining reader.new.inner) (W.contents writer.old.inner) (W.contents writer.new.inner) (RunsOutOfMemory flags (R.remaining reader.new.inner)) }
-    ensures complete { IsErrOf result RunFault.ReadFault → DidLines flags (R.remaining reader.old.inner) (R.remaining reader.new.inner) (W.contents writer.old.inner) (W.contents writer.new.inner) NoneComplete }
-    ensures full { IsErrOf result RunFault.WriteFault → DidLines flags (R.remaining reader.old.inner) (R.remaining reader.new.inner) (W.contents writer.old.inner) (W.contents writer.new.inner) (FailsToWrite flags (R.remaining reader.new.inner)) }
-    ensures begun { OnErr result (WritesBeginning flags (R.remaining reader.old.inner) (W.contents writer.old.inner) (W.contents writer.new.inner)) }
-    ensures some { OnErr result (WritesSome flags (R.remaining reader.old.inner) (R.remaining reader.new.inner) (W.contents writer.old.inner) (W.contents writer.new.inner)) }
+    ensures memory { IsErrOf result RunFault.OutOfMemory → DidLines (asked_by flags) (R.remaining reader.old.inner) (R.remaining reader.new.inner) (W.contents writer.old.inner) (W.contents writer.new.inner) (RunsOutOfMemory (asked_by flags) (R.remaining reader.new.inner)) }
+    ensures complete { IsErrOf result RunFault.ReadFault → DidLines (asked_by flags) (R.remaining reader.old.inner) (R.remaining reader.new.inner) (W.contents writer.old.inner) (W.contents writer.new.inner) NoneComplete }
+    ensures full { IsErrOf result RunFault.WriteFault → DidLines (asked_by flags) (R.remaining reader.old.inner) (R.remaining reader.new.inner) (W.contents writer.old.inner) (W.contents writer.new.inner) (FailsToWrite (asked_by flags) (R.remaining reader.new.inner)) }
+    ensures begun { OnErr result (WritesBeginning (asked_by flags) (R.remaining reader.old.inner) (W.contents writer.old.inner) (W.contents writer.new.inner)) }
+    ensures some { OnErr result (WritesSome (asked_by flags) (R.remaining reader.old.inner) (R.remaining reader.new.inner) (W.contents writer.old.inner) (W.contents writer.new.inner)) }
 {
-    run_lines(alloc, flags, AtEnd::GiveBack, reader, writer)
+    run_lines(alloc, asked_by(flags), AtEnd::GiveBack, reader, writer)
 }
 
-/// The same, by what becomes of the session's memory at the end.
+/// The same as a quiet run that doesn't stop at a refusal, but for its end: it writes facts of the session that stands
+/// after the last command, in place of the plan.
+pub fn run_facts<R: Read, W: Write>(
+    alloc: Global,
+    reader: &mut Counted<R>,
+    writer: &mut Counted<W>,
+    facts: Facts,
+) -> Result<Status, RunFault>
+    ensures held { IfOk result (WritesStanding (facts_asked facts) (R.remaining reader.old.inner) (W.contents writer.old.inner) (W.contents writer.new.inner)) }
+    ensures ok { IfOk result (λ status. WritesOutput (facts_asked facts) (R.remaining reader.old.inner) (W.contents writer.old.inner) (W.contents writer.new.inner) (Ended status)) }
+    ensures read { IfOk result (λ status. DidLines (facts_asked facts) (R.remaining reader.old.inner) (R.remaining reader.new.inner) (W.contents writer.old.inner) (W.contents writer.new.inner) (ComesToEnd (facts_asked facts) (R.remaining reader.new.inner) status)) }
+    ensures unread { OnOk result (reader.new.failed ≡ reader.old.failed) }
+    ensures unwritten { OnOk result (writer.new.failed ≡ writer.old.failed) }
+    ensures long { IsErrOf result RunFault.InputTooLong → WritesOutput (facts_asked facts) (R.remaining reader.old.inner) (W.contents writer.old.inner) (W.contents writer.new.inner) TooLong }
+    ensures fault { IfErr result (IsFault reader.old.failed reader.new.failed writer.old.failed writer.new.failed) }
+    ensures memory { IsErrOf result RunFault.OutOfMemory → DidLines (facts_asked facts) (R.remaining reader.old.inner) (R.remaining reader.new.inner) (W.contents writer.old.inner) (W.contents writer.new.inner) (RunsOutOfMemory (facts_asked facts) (R.remaining reader.new.inner)) }
+    ensures complete { IsErrOf result RunFault.ReadFault → DidLines (facts_asked facts) (R.remaining reader.old.inner) (R.remaining reader.new.inner) (W.contents writer.old.inner) (W.contents writer.new.inner) NoneComplete }
+    ensures full { IsErrOf result RunFault.WriteFault → DidLines (facts_asked facts) (R.remaining reader.old.inner) (R.remaining reader.new.inner) (W.contents writer.old.inner) (W.contents writer.new.inner) (FailsToWrite (facts_asked facts) (R.remaining reader.new.inner)) }
+    ensures begun { OnErr result (WritesBeginning (facts_asked facts) (R.remaining reader.old.inner) (W.contents writer.old.inner) (W.contents writer.new.inner)) }
+    ensures some { OnErr result (WritesSome (facts_asked facts) (R.remaining reader.old.inner) (R.remaining reader.new.inner) (W.contents writer.old.inner) (W.contents writer.new.inner)) }
+{
+    run_lines(alloc, facts_asked(facts), AtEnd::GiveBack, reader, writer)
+}
+
+/// The same, by what is asked for, and by what becomes of the session's memory at the end.
 pub(crate) fn run_lines<R: Read, W: Write>(
     alloc: Global,
-    flags: Flags,
+    asked: Asked,
     at_end: AtEnd,
     reader: &mut Counted<R>,
     writer: &mut Counted<W>,
 ) -> Result<Status, RunFault>
-    ensures { Ran flags (R.remaining reader.old.inner) (R.remaining reader.new.inner) (W.contents writer.old.inner) (W.contents writer.new.inner) reader.old.failed reader.new.failed writer.old.failed writer.new.failed result }
+    ensures { Ran asked (R.remaining reader.old.inner) (R.remaining reader.new.inner) (W.contents writer.old.inner) (W.contents writer.new.inner) reader.old.failed reader.new.failed writer.old.failed writer.new.failed result }
 {
     let mut lines = Lines::new();
     let mut plan = PlanReader::new(alloc);
-    run_plan(alloc, flags, at_end, &mut lines, &mut plan, reader, writer)
+    run_plan(alloc, asked, at_end, &mut lines, &mut plan, reader, writer)
 }
 
 // Writes the line for a plan or a journal that is refused.
@@ -94,7 +121,7 @@ fn refuse<W: Write>(
 // Runs from a line of the plan on. What owns much is lent, so that no way out has to drop it.
 fn run_plan<R: Read, W: Write>(
     alloc: Global,
-    flags: Flags,
+    asked: Asked,
     at_end: AtEnd,
     lines: &mut Lines,
     plan: &mut PlanReader,
@@ -102,7 +129,7 @@ fn run_plan<R: Read, W: Write>(
     writer: &mut Counted<W>,
 ) -> Result<Status, RunFault>
     requires over { OverAtEnd lines.old (R.remaining reader.old.inner) }
-    ensures { RunsOn flags (plan_phase plan.old) lines.old R.remaining W.contents reader.old reader.new writer.old writer.new result }
+    ensures { RunsOn asked (plan_phase plan.old) lines.old R.remaining W.contents reader.old reader.new writer.old writer.new result }
 {
     match read_plan(alloc, lines, plan, reader) {
         Err(fault) => Err(fault),
@@ -110,7 +137,7 @@ fn run_plan<R: Read, W: Write>(
         Ok(PlanEnd::Edits) => {
             run_commands(
                 alloc,
-                flags,
+                asked,
                 at_end,
                 lines,
                 plan.session(alloc),
@@ -120,7 +147,7 @@ fn run_plan<R: Read, W: Write>(
         }
         Ok(PlanEnd::Journal(number, head)) => match plan.journal(alloc, head) {
             Err(refusal) => refuse(writer, number, refusal),
-            Ok(journal) => run_journal(alloc, flags, at_end, lines, journal, reader, writer),
+            Ok(journal) => run_journal(alloc, asked, at_end, lines, journal, reader, writer),
         },
     }
 }
@@ -128,7 +155,7 @@ fn run_plan<R: Read, W: Write>(
 // Runs from a line of the journal on.
 fn run_journal<R: Read, W: Write>(
     alloc: Global,
-    flags: Flags,
+    asked: Asked,
     at_end: AtEnd,
     lines: &mut Lines,
     journal: JournalReader,
@@ -136,13 +163,13 @@ fn run_journal<R: Read, W: Write>(
     writer: &mut Counted<W>,
 ) -> Result<Status, RunFault>
     requires over { OverAtEnd lines.old (R.remaining reader.old.inner) }
-    ensures { RunsOn flags (journal_phase journal) lines.old R.remaining W.contents reader.old reader.new writer.old writer.new result }
+    ensures { RunsOn asked (journal_phase journal) lines.old R.remaining W.contents reader.old reader.new writer.old writer.new result }
 {
     match read_journal(alloc, lines, journal, reader) {
         Err(fault) => Err(fault),
         Ok(JournalEnd::Bad(number, refusal)) => refuse(writer, number, refusal),
         Ok(JournalEnd::Edits(session)) => {
-            run_commands(alloc, flags, at_end, lines, session, reader, writer)
+            run_commands(alloc, asked, at_end, lines, session, reader, writer)
         }
     }
 }
@@ -150,7 +177,7 @@ fn run_journal<R: Read, W: Write>(
 // Runs from a command on.
 fn run_commands<R: Read, W: Write>(
     alloc: Global,
-    flags: Flags,
+    asked: Asked,
     at_end: AtEnd,
     lines: &mut Lines,
     session: Session,
@@ -158,10 +185,10 @@ fn run_commands<R: Read, W: Write>(
     writer: &mut Counted<W>,
 ) -> Result<Status, RunFault>
     requires over { OverAtEnd lines.old (R.remaining reader.old.inner) }
-    ensures { RunsOn flags (AtCommands session.state false) lines.old R.remaining W.contents reader.old reader.new writer.old writer.new result }
+    ensures { RunsOn asked (AtCommands session.state false) lines.old R.remaining W.contents reader.old reader.new writer.old writer.new result }
 {
     let mut commands = Commands::new(session);
-    let ended = answer_commands(alloc, flags, lines, &mut commands, reader, writer);
+    let ended = answer_commands(alloc, asked, lines, &mut commands, reader, writer);
     match at_end {
         AtEnd::GiveBack => mem::drop(commands),
         AtEnd::Leave => mem::forget(commands),

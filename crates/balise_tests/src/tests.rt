@@ -4,6 +4,7 @@ mod bounds;
 mod cuts;
 mod devices;
 mod exits;
+mod facts;
 mod faults;
 mod flags;
 mod interleaving;

@@ -4,6 +4,7 @@
 
     result = baliseplan.run(plan, ["set 5.100 0 0 NID_TSR 0 9"])
     result.plan, result.journal, result.replies
+    baliseplan.facts(plan, ["turn 5.100"])[0].dependents
     baliseplan.explain("packet 33 42403e00").items[0].packets
 
 Texts are `str` with one character for each byte, or `bytes`.
@@ -16,21 +17,22 @@ import json
 from dataclasses import dataclass
 from typing import Any
 
+from ._facts import ALL_EDITS, ONE_EDIT, TAGS, EditFacts, Tagged, facts, facts_bytes, tags
 from ._library import call, strerror, version
 from ._replies import Reply, replies_of
-from ._texts import BYTES, Lines, Text, joined, whole_lines
-from .errors import BadInput, Error, Fault, unless_fault
+from ._texts import Lines, Text, session_of
+from .errors import BadInput, Error, Fault, unless_bad, unless_fault
 from .fields import Digits, Field, Fields, Item, Refusal, explain, explain_bytes, spell, spell_bytes
 
 __all__ = [
     "BadInput", "Error", "Fault", "Reply", "Result", "QUIET", "STOP", "JOURNAL", "JSON",
     "call", "run", "run_bytes", "strerror", "version",
+    "ALL_EDITS", "ONE_EDIT", "TAGS", "EditFacts", "Tagged", "facts", "facts_bytes", "tags",
     "Digits", "Field", "Fields", "Item", "Refusal", "explain", "explain_bytes", "spell", "spell_bytes",
 ]
 
 QUIET, STOP, JOURNAL, JSON = 1, 2, 4, 8
 FLAGS = QUIET | STOP | JOURNAL | JSON
-BAD_INPUT = 2
 
 
 @dataclass(frozen=True)
@@ -69,16 +71,9 @@ def run(
     Commands are a list, or a text with one a line. `view` asks for the groups as the JSON view has them, which takes
     longer than all else. Raises BadInput, Fault, or ValueError where a command of a list has two lines.
     """
-    before = whole_lines(plan) + whole_lines(journal or b"")
-    if b"edits" in before.split(b"\n"):
-        raise ValueError("the plan and the journal have no line `edits`; commands are given apart")
+    data = session_of(plan, journal, commands)
     flags = JOURNAL | (STOP if stop else 0) | (JSON if view else 0)
-    status, output = run_bytes(before + b"edits\n" + joined(commands), flags)
-    text = output.decode(BYTES)
-    if status == BAD_INPUT:
-        _, line, number, name = text.split()
-        raise BadInput(int(line), int(number), name)
-    return split(text, view)
+    return split(unless_bad(*run_bytes(data, flags)), view)
 
 
 def run_bytes(data: bytes, flags: int = 0) -> tuple[int, bytes]:

@@ -19,6 +19,11 @@ def call(data: bytes, flags: int) -> tuple[int, bytes]:
     return printed_by(library().baliseplan_run_alloc, data, len(data), flags)
 
 
+def call_facts(data: bytes, what: int, serial: int) -> tuple[int, bytes]:
+    """One run that tells facts. Both numbers have to be from 0 to 2^32 - 1."""
+    return printed_by(library().baliseplan_facts_alloc, data, len(data), what, serial)
+
+
 def call_explain(data: bytes) -> tuple[int, bytes]:
     """One run from digits to fields."""
     return printed_by(library().baliseplan_explain_alloc, data, len(data))
@@ -75,6 +80,7 @@ def declare(loaded: ctypes.CDLL) -> None:
         "baliseplan_strerror": (ctypes.c_char_p, [ctypes.c_int32]),
         "baliseplan_free": (None, [ctypes.c_void_p]),
         "baliseplan_run_alloc": (ctypes.c_int32, [*data, ctypes.c_uint32, *output]),
+        "baliseplan_facts_alloc": (ctypes.c_int32, [*data, ctypes.c_uint32, ctypes.c_uint32, *output]),
         "baliseplan_explain_alloc": (ctypes.c_int32, [*data, *output]),
         "baliseplan_spell_alloc": (ctypes.c_int32, [*data, *output]),
     }

@@ -26,6 +26,14 @@ def joined(lines: Lines) -> bytes:
     return b"".join(one_line(each) for each in lines)
 
 
+def session_of(plan: Text, journal: Text | None, commands: Lines) -> bytes:
+    """What the program reads. Raises ValueError where plan or journal end early, by a line `edits` of their own."""
+    before = whole_lines(plan) + whole_lines(journal or b"")
+    if b"edits" in before.split(b"\n"):
+        raise ValueError("the plan and the journal have no line `edits`; commands are given apart")
+    return before + b"edits\n" + joined(commands)
+
+
 def one_line(text: Text) -> bytes:
     line = as_bytes(text)
     if b"\n" in line:

@@ -43,6 +43,18 @@ class Fault(Error):
         return replies_of((b"\n" + whole).partition(b"\nplan 1\n")[0][1:].decode(BYTES))
 
 
+BAD_INPUT = 2
+
+
+def unless_bad(answer: int, output: bytes) -> str:
+    """What a run printed, where plan and journal weren't refused."""
+    text = output.decode(BYTES)
+    if answer == BAD_INPUT:
+        _, line, number, name = text.split()
+        raise BadInput(int(line), int(number), name)
+    return text
+
+
 def unless_fault(answer: int, output: bytes) -> tuple[int, bytes]:
     """What a call answered and printed, where that is no fault."""
     if answer in FAULTS:

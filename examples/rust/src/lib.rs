@@ -10,6 +10,15 @@
 //! # Ok::<(), baliseplan::Stopped>(())
 //! ```
 //!
+//! What the edits that stand change, and which later edits depend on them:
+//!
+//! ```
+//! # let input = b"plan 1\ngroup\na1007f80a03250900f82ffffffffffffffffffffffffffffffffc0\nedits\nturn 5.100\n";
+//! let facts = baliseplan::facts(input, baliseplan::Facts::Edits)?.output;
+//! assert_eq!(facts, b"facts 1\nedit 1\nchanges b0.turn\nchanges #5.100\n");
+//! # Ok::<(), baliseplan::Stopped>(())
+//! ```
+//!
 //! The digits of telegrams and packets as fields, and fields as digits:
 //!
 //! ```
@@ -47,6 +56,28 @@ impl BitOr for Flags {
 
     fn bitor(self, other: Flags) -> Flags {
         Flags(self.0 | other.0)
+    }
+}
+
+/// Which facts of a session are asked for.
+#[derive(Clone, Copy, Debug, PartialEq, Eq)]
+pub enum Facts {
+    /// Those of each edit that stands.
+    Edits,
+    /// Those of the edit with this serial, if it stands.
+    Edit(u32),
+    /// The tags of groups, telegrams and packets.
+    Tags,
+}
+
+impl Facts {
+    /// The numbers of the library: of what is asked for, and the serial.
+    fn numbers(self) -> (u32, u32) {
+        match self {
+            Facts::Edits => (0, 0),
+            Facts::Edit(serial) => (1, serial),
+            Facts::Tags => (2, 0),
+        }
     }
 }
 
@@ -132,6 +163,12 @@ pub fn run(input: &[u8], flags: Flags) -> Result<Run, Stopped> {
     whole(raw::run_alloc(input, flags.0))
 }
 
+/// Facts of the session that stands after the last command: what `balisefacts` prints. The input is as for `run`.
+pub fn facts(input: &[u8], facts: Facts) -> Result<Run, Stopped> {
+    let (what, serial) = facts.numbers();
+    whole(raw::facts_alloc(input, what, serial))
+}
+
 /// The fields of digits: what `balisefields` prints for telegrams and packets, a line each. The status is `SomeRefused`
 /// where some digits are refused, and never `BadInput`.
 pub fn explain(input: &[u8]) -> Result<Run, Stopped> {
@@ -163,6 +200,13 @@ fn copied(bytes: &[u8]) -> Result<Vec<u8>, Fault> {
 /// fault are a beginning of a right output.
 pub fn run_into(input: &[u8], flags: Flags, output: &mut [u8]) -> (Result<Status, Fault>, usize) {
     let (answer, written) = raw::run(input, flags.0, output);
+    (ended(answer), written)
+}
+
+/// As `facts`, to the front of an output of the caller's, like `run_into`.
+pub fn facts_into(input: &[u8], facts: Facts, output: &mut [u8]) -> (Result<Status, Fault>, usize) {
+    let (what, serial) = facts.numbers();
+    let (answer, written) = raw::facts(input, what, serial, output);
     (ended(answer), written)
 }
 
@@ -198,6 +242,6 @@ fn ended(answer: i32) -> Result<Status, Fault> {
         30 => Err(Fault::OutOfMemory),
         31 => Err(Fault::ReadFault),
         32 => Err(Fault::WriteFault),
-        other => unreachable!("flags are known, so no call answers {other}"),
+        other => unreachable!("flags and facts are known, so no call answers {other}"),
     }
 }

@@ -26,6 +26,23 @@ extern "C" {
         output: *mut *mut u8,
         output_len: *mut usize,
     ) -> i32;
+    fn baliseplan_facts(
+        input: *const u8,
+        input_len: usize,
+        what: u32,
+        serial: u32,
+        output: *mut u8,
+        output_len: usize,
+        written: *mut usize,
+    ) -> i32;
+    fn baliseplan_facts_alloc(
+        input: *const u8,
+        input_len: usize,
+        what: u32,
+        serial: u32,
+        output: *mut *mut u8,
+        output_len: *mut usize,
+    ) -> i32;
     fn baliseplan_explain(
         input: *const u8,
         input_len: usize,
@@ -127,6 +144,44 @@ pub fn size(input: &[u8], flags: u32) -> (i32, usize) {
     // SAFETY: as above.
     let answer = unsafe { baliseplan_size(input.as_ptr(), input.len(), flags, &mut size) };
     (answer, size)
+}
+
+pub fn facts_alloc(input: &[u8], what: u32, serial: u32) -> (i32, Output) {
+    check_abi();
+    let mut output = Output {
+        start: ptr::null_mut(),
+        len: 0,
+    };
+    // SAFETY: as above.
+    let answer = unsafe {
+        baliseplan_facts_alloc(
+            input.as_ptr(),
+            input.len(),
+            what,
+            serial,
+            &mut output.start,
+            &mut output.len,
+        )
+    };
+    (answer, output)
+}
+
+pub fn facts(input: &[u8], what: u32, serial: u32, output: &mut [u8]) -> (i32, usize) {
+    check_abi();
+    let mut written = 0;
+    // SAFETY: as above.
+    let answer = unsafe {
+        baliseplan_facts(
+            input.as_ptr(),
+            input.len(),
+            what,
+            serial,
+            output.as_mut_ptr(),
+            output.len(),
+            &mut written,
+        )
+    };
+    (answer, written)
 }
 
 pub fn fields_alloc(way: Way, input: &[u8]) -> (i32, Output) {

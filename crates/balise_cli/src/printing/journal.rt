@@ -1,7 +1,7 @@
 //! Writes the journal.
 
 ghost use Rattle.std.specs.Prelude.{map};
-ghost use Rattle.balise_cli.specs.Faults.{Prints};
+ghost use Rattle.balise_text.specs.Printing.{Prints};
 ghost use Rattle.balise_cli.specs.PlanTexts.{journal_text, undone_line};
 ghost use Rattle.balise_cli.specs.Private.{told};
 ghost use Rattle.balise_lines.specs.Writing.{Writes};

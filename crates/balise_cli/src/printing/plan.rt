@@ -1,6 +1,6 @@
 //! Writes the plan.
 
-ghost use Rattle.balise_cli.specs.Faults.{Prints};
+ghost use Rattle.balise_text.specs.Printing.{Prints};
 ghost use Rattle.balise_cli.specs.PlanTexts.{group_lines, plan_text, telegram_line};
 
 use balise_history::{Group, Plan, Tag, Telegram};

@@ -1,6 +1,6 @@
 //! Writes the view.
 
-ghost use Rattle.balise_cli.specs.Faults.{Prints};
+ghost use Rattle.balise_text.specs.Printing.{Prints};
 ghost use Rattle.balise_cli.specs.PlanTexts.{view_text, with_end};
 ghost use Rattle.balise_view.specs.View.{group_text};
 

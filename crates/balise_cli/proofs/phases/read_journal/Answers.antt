@@ -11,15 +11,15 @@ use Rattle.balise_cli.proofs.LinesTaken.{took_line, took_none}
 use Rattle.balise_cli.proofs.phases.read_journal.Goals as goal
 
 pub returns-in-Err-clause-reads : goal.returns-in-Err-clause-reads
-returns-in-Err-clause-reads g c = λ flags had old now writes go.
-    subst (λ (k : ℕ). RanToFault flags had (g.R.Read.remaining c.next.new.reader.inner) old now k c.next.new.reader.failed writes writes c.in-Err.fault) c.lines.invariant.0
-    (c.in-Err.ensures.fault (journal_phase c.lines.journal) flags had old now writes (c.lines.invariant.2 flags had old now go))
+returns-in-Err-clause-reads g c = λ asked had old now writes go.
+    subst (λ (k : ℕ). RanToFault asked had (g.R.Read.remaining c.next.new.reader.inner) old now k c.next.new.reader.failed writes writes c.in-Err.fault) c.lines.invariant.0
+    (c.in-Err.ensures.fault (journal_phase c.lines.journal) asked had old now writes (c.lines.invariant.2 asked had old now go))
 
 pub returns-in-Ok-End-clause-reads : goal.returns-in-Ok-End-clause-reads
 returns-in-Ok-End-clause-reads g c = (
   c.in-Ok-End.ensures.unfailed ∙ c.lines.invariant.0,
-  λ flags had old now go.
-      end_refused flags had old now (journal_phase c.lines.journal) _ _ _ _ (c.lines.invariant.2 flags had old now go)
+  λ asked had old now go.
+      end_refused asked had old now (journal_phase c.lines.journal) _ _ _ _ (c.lines.invariant.2 asked had old now go)
       (took_none _ c.lines.lines c.next.new.lines (g.R.Read.remaining c.lines.reader.inner) (g.R.Read.remaining c.next.new.reader.inner) c.in-Ok-End.field-0-is c.in-Ok-End.ensures.took) c.in-Ok-End.ensures.over c.number-number.result BadLine
       (ap (λ (k : ℕ). after_read (Bad k BadLine)) (sym c.number-number.ensures)),
 )
@@ -27,8 +27,8 @@ returns-in-Ok-End-clause-reads g c = (
 pub returns-in-Err-read-clause-reads : goal.returns-in-Err-read-clause-reads
 returns-in-Err-read-clause-reads g c =
     let took = took_line _ _ c.lines.lines c.next.new.lines (g.R.Read.remaining c.lines.reader.inner) (g.R.Read.remaining c.next.new.reader.inner) c.in-Ok-Line.field-0-is c.in-Ok-Line.ensures.took in
-    λ flags had old now writes go.
-    line_out flags had old now (journal_phase c.lines.journal) _ _ _ _ (c.lines.invariant.2 flags had old now go) _ took c.in-Ok-Line.ensures.over tt c.in-Err-read.fault c.in-Err-read.ensures.fault ([], ((subst (MayRunOutAt c.lines.journal.section c.lines.journal.opening.state) c.line.ensures c.in-Err-read.ensures.takes, refl), Appends-nil now))
+    λ asked had old now writes go.
+    line_out asked had old now (journal_phase c.lines.journal) _ _ _ _ (c.lines.invariant.2 asked had old now go) _ took c.in-Ok-Line.ensures.over tt c.in-Err-read.fault c.in-Err-read.ensures.fault ([], ((subst (MayRunOutAt c.lines.journal.section c.lines.journal.opening.state) c.line.ensures c.in-Err-read.ensures.takes, refl), Appends-nil now))
     c.args.reader.now.failed c.next.new.reader.failed writes (c.in-Ok-Line.ensures.unfailed ∙ c.lines.invariant.0)
 
 pub returns-in-Ok-Over-clause-reads : goal.returns-in-Ok-Over-clause-reads
@@ -37,7 +37,7 @@ returns-in-Ok-Over-clause-reads g c =
     let took = took_line _ _ c.lines.lines c.next.new.lines (g.R.Read.remaining c.lines.reader.inner) (g.R.Read.remaining c.next.new.reader.inner) c.in-Ok-Line.field-0-is c.in-Ok-Line.ensures.took in
     let read = read_here p c.number-number.result (number_of c.lines.lines) c.line.result.now (line_of c.next.new.lines) (journal_end c.in-Ok-Over.end) c.number-number.ensures c.line.ensures (c.in-Ok-Over.ensures.ok ∙ ap journal_step c.in-Ok-Over.field-0-is) in (
       c.in-Ok-Line.ensures.unfailed ∙ c.lines.invariant.0,
-      λ flags had old now go. line_read flags had old now p _ _ _ _ (c.lines.invariant.2 flags had old now go) _ took c.in-Ok-Line.ensures.over tt (journal_end c.in-Ok-Over.end) read,
+      λ asked had old now go. line_read asked had old now p _ _ _ _ (c.lines.invariant.2 asked had old now go) _ took c.in-Ok-Line.ensures.over tt (journal_end c.in-Ok-Over.end) read,
     )
 
 pub lines-preserved : goal.lines-preserved
@@ -47,7 +47,7 @@ lines-preserved g c =
     let took = took_line _ _ c.lines.lines c.next.new.lines (g.R.Read.remaining c.lines.reader.inner) (g.R.Read.remaining c.next.new.reader.inner) c.in-Ok-Line.field-0-is c.in-Ok-Line.ensures.took in (
       c.in-Ok-Line.ensures.unfailed ∙ c.lines.invariant.0,
       c.in-Ok-Line.ensures.over,
-      λ flags had old now go.
-          line_read flags had old now p _ _ _ _ (c.lines.invariant.2 flags had old now go) _ took c.in-Ok-Line.ensures.over tt q
+      λ asked had old now go.
+          line_read asked had old now p _ _ _ _ (c.lines.invariant.2 asked had old now go) _ took c.in-Ok-Line.ensures.over tt q
           (read_here p c.number-number.result (number_of c.lines.lines) c.line.result.now (line_of c.next.new.lines) q c.number-number.ensures c.line.ensures (c.in-Ok-On.ensures.ok ∙ ap journal_step c.in-Ok-On.field-0-is)),
     )

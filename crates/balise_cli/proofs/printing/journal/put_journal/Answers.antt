@@ -9,7 +9,7 @@ use Rattle.balise_text.specs.Texts.{Text, text_of}
 use Rattle.balise_cli.specs.PlanTexts.{entry_line, undone_line, with_end}
 use Rattle.balise_cli.proofs.Causes.{call_failed, memory_wanted}
 use Rattle.balise_cli.proofs.Stopped.{undone_is_some}
-use Rattle.balise_cli.specs.Faults.{reason_of}
+use Rattle.balise_text.specs.Printing.{reason_of}
 use Rattle.balise_cli.proofs.ItemTexts.{standing_text, told_text}
 use Rattle.balise_cli.proofs.printing.journal.put_journal.Goals as goal
 

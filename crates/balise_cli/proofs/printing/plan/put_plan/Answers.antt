@@ -6,7 +6,7 @@ use Rattle.balise_text.specs.Texts.{Text, text_of}
 use Rattle.balise_text.proofs.Lists.{no_text_left}
 use Rattle.balise_cli.specs.PlanTexts.{group_lines, plan_text}
 use Rattle.balise_cli.proofs.Causes.{call_failed}
-use Rattle.balise_cli.specs.Faults.{reason_of}
+use Rattle.balise_text.specs.Printing.{reason_of}
 use Rattle.balise_cli.proofs.ItemTexts.{text_at, no_text_at}
 use Rattle.balise_cli.proofs.printing.plan.put_plan.Goals as goal
 use Rattle.balise_cli.proofs.printing.plan.put_plan.Goals.{else-loop-place-test, then-loop-place-test+in_default-at}

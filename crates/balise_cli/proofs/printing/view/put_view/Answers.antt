@@ -6,7 +6,7 @@ use Rattle.balise_text.specs.Texts.{Text}
 use Rattle.balise_text.proofs.Lists.{no_text_left}
 use Rattle.balise_view.specs.View.{group_text}
 use Rattle.balise_cli.specs.PlanTexts.{with_end}
-use Rattle.balise_cli.specs.Faults.{reason_of}
+use Rattle.balise_text.specs.Printing.{reason_of}
 use Rattle.balise_cli.proofs.ItemTexts.{text_at, no_text_at}
 use Rattle.balise_cli.proofs.printing.view.put_view.Goals as goal
 

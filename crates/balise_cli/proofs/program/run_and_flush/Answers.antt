@@ -2,7 +2,7 @@ use Rattle.balise_cli.proofs.Endings.{ran_begun, ran_complete, ran_fault, ran_fu
 use Rattle.balise_cli.proofs.Flushed.{runs_kept}
 use Rattle.balise_program.proofs.Flushes.{flush_counted, flush_done}
 use Rattle.balise_cli.proofs.Headline.{standing_written}
-use Rattle.balise_cli.proofs.program.work.Goals as goal
+use Rattle.balise_cli.proofs.program.run_and_flush.Goals as goal
 
 pub returns : goal.returns
 returns g c =
@@ -11,8 +11,8 @@ returns g c =
       ended = c.run_lines-ended.result;
       flushed = c.is_ok.result;
       exits = c.exit_of.ensures;
-      runs = runs_kept c.args.flags _ _ _ _ _ c.run_lines-ended.result c.flush_buffer-flushed.ensures.bytes (record {
-        held = standing_written c.args.flags _ _ _ _ (ran_output _ _ _ _ _ _ _ _ _ _ ran);
+      runs = runs_kept c.args.asked _ _ _ _ _ c.run_lines-ended.result c.flush_buffer-flushed.ensures.bytes (record {
+        held = standing_written c.args.asked _ _ _ _ (ran_output _ _ _ _ _ _ _ _ _ _ ran);
         ok = ran_output _ _ _ _ _ _ _ _ _ _ ran;
         read = ran_lines _ _ _ _ _ _ _ _ _ _ ran;
         long = ran_long _ _ _ _ _ _ _ _ _ _ ran;

@@ -1,0 +1,141 @@
+//! Reads the arguments.
+
+ghost use Rattle.std.specs.Prelude.{◌≡◌, ◌↔◌, IfOk, IsTrue, None, Some, codes, false, map, option_map};
+ghost use Rattle.clap.specs.Words.{app_of, first_value, found_of, new_app, rule_of};
+ghost use Rattle.balise_arguments.specs.Arguments.{flag_rule};
+ghost use Rattle.balise_arguments.specs.Faults.{IsFor};
+ghost use Rattle.balise_facts_cli.specs.Arguments.{edit_rule, program, Asks, Chooses, IsFound};
+
+use balise_arguments::ArgsFault;
+use balise_facts::Facts;
+use clap::error::ErrorKind;
+use clap::{Arg, ArgAction, ArgMatches, Command, Error};
+use std::alloc::{AllocError, Global};
+
+const ABOUT: &str =
+    "balisefacts 0.1.0: facts of a session over a plan of ETCS balise groups. Reads from standard input what baliseplan reads, and prints what each edit that stands changes and needs, and which later edits depend on it.";
+
+// Else clap prints the name of the file that was run, and doesn't say that only one of the two may be given.
+const USAGE: &str = "balisefacts [--edit <N> | --tags]";
+
+// What help says of the arguments.
+const EDIT: &str = "Print the facts of one edit";
+
+const TAGS: &str = "Print the tags of groups, telegrams and packets instead";
+
+// The exit statuses, and where all formats are described.
+const AFTER_OPTIONS: &str =
+    "Status:{n}  0   all commands accepted{n}  1   a command refused{n}  2   the plan refused{n}  3   a line too long, too little memory, or a read or write that failed{n}  64  an unknown argument, one given twice, or both{n}{n}The formats: man balisefacts, or docs/FORMATS.md";
+
+// What is wrong with words that clap accepts.
+const BOTH: &str = "the argument '--edit <N>' cannot be used with '--tags'";
+
+const NO_SERIAL: &str = "invalid value for '--edit <N>': a serial is a number from 0 to 4294967295";
+
+/// What the words ask for. The first is the program's name; `--edit` or `--tags` may be given, and only once.
+///
+/// The fault is `Help` where clap is asked for it first, `Other` where a word isn't the program's, and `Memory` at any
+/// time.
+pub(crate) fn check_words<'a>(alloc: Global, words: &'a [&'a str]) -> Result<Facts, ArgsFault>
+    ensures { Asks (map (λ w. w.now) words.now) result }
+{
+    let Ok(mut command) = command(alloc) else {
+        return Err(ArgsFault::Memory);
+    };
+    match command.try_get_matches_from_mut(words) {
+        Ok(matches) => {
+            let tags = is_used(&matches, "tags");
+            choose(&mut command, matches.get_str("edit"), tags)
+        }
+        Err(error) => Err(fault_of(error)),
+    }
+}
+
+// The facts that are asked for, by what follows `--edit`, if it is given, and by whether `--tags` is.
+fn choose(command: &mut Command<'_>, edit: Option<&str>, tags: bool) -> Result<Facts, ArgsFault>
+    ensures { Chooses (option_map (λ s. s.now) edit.entry) tags result }
+{
+    let Some(serial) = edit else {
+        return Ok(if tags { Facts::Tags } else { Facts::Edits });
+    };
+    if tags {
+        return Err(mistake(command, ErrorKind::ArgumentConflict, BOTH));
+    }
+    match serial.parse() {
+        Ok(serial) => Ok(Facts::Edit(serial)),
+        Err(_) => Err(mistake(command, ErrorKind::ValueValidation, NO_SERIAL)),
+    }
+}
+
+// A mistake that clap doesn't look for, in the form of those that it finds.
+fn mistake(command: &mut Command<'_>, kind: ErrorKind, message: &str) -> ArgsFault
+    ensures { IsFound kind result }
+{
+    match command.error(kind, message) {
+        Ok(error) => ArgsFault::Other(error),
+        Err(_) => ArgsFault::Memory,
+    }
+}
+
+// The fault that an error of clap is.
+fn fault_of(error: Error) -> ArgsFault
+    ensures { IsFor error result }
+{
+    match error.kind() {
+        ErrorKind::OutOfMemory => ArgsFault::Memory,
+        ErrorKind::DisplayHelp => ArgsFault::Help(error),
+        _ => ArgsFault::Other(error),
+    }
+}
+
+// The command line, for clap.
+#[tactic(auto, unfolding(crate::specs::Arguments::program))]
+fn command<'a>(alloc: Global) -> Result<Command<'a>, AllocError>
+    ensures { IfOk result (λ c. app_of c ≡ program) }
+{
+    let command = described(alloc);
+    let edit = edit(alloc);
+    let command = command.arg(edit)?;
+    let tags = tags(alloc);
+    command.arg(tags)
+}
+
+// The argument `--edit N`.
+fn edit<'a>(alloc: Global) -> Arg<'a>
+    ensures rule { rule_of result ≡ edit_rule }
+    ensures local { result.global ≡ false }
+{
+    Arg::new(alloc, "edit")
+        .long("edit")
+        .action(ArgAction::Set)
+        .value_name("N")
+        .help(EDIT)
+}
+
+// The argument `--tags`, which takes no value.
+fn tags<'a>(alloc: Global) -> Arg<'a>
+    ensures rule { rule_of result ≡ flag_rule (codes "tags") }
+    ensures local { result.global ≡ false }
+{
+    Arg::new(alloc, "tags")
+        .long("tags")
+        .action(ArgAction::SetTrue)
+        .help(TAGS)
+}
+
+// Whether clap found the argument among the words.
+fn is_used(matches: &ArgMatches<'_>, name: &str) -> bool
+    ensures { IsTrue result ↔ (first_value (found_of matches.now) name.now ≡ Some (codes "true")) }
+{
+    matches.get_str(name) == Some("true")
+}
+
+// The command line without its arguments.
+fn described<'a>(alloc: Global) -> Command<'a>
+    ensures { app_of result ≡ new_app (codes "balisefacts") }
+{
+    Command::new(alloc, "balisefacts")
+        .about(ABOUT)
+        .override_usage(USAGE)
+        .after_help(AFTER_OPTIONS)
+}

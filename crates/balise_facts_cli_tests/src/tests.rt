@@ -1,0 +1,4 @@
+//! The tests, by topic.
+
+mod programs;
+mod rows;

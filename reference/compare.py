@@ -19,14 +19,14 @@ import shutil
 import subprocess
 import sys
 import time
-from collections.abc import Iterable, Iterator
+from collections.abc import Callable, Iterable, Iterator
 from dataclasses import dataclass
 from io import BytesIO
 from pathlib import Path
 from typing import TypeVar
 
 from baliseplan import answer
-from filters import BAD_ARGUMENTS
+from filters import BAD_ARGUMENTS, Answer
 from random_inputs import Input, make_input
 from random_plans import SIZES
 
@@ -34,6 +34,8 @@ SECONDS = float(os.environ.get("CHECK_SECONDS", "120"))
 NO_STATUS = -1
 
 Result = TypeVar("Result")
+Answering = Callable[[list[str], Callable[[int], bytes]], Answer]
+"""The answer of a reference program to arguments and an input."""
 
 
 @dataclass(frozen=True)
@@ -70,25 +72,25 @@ def by_program(words: list[str], given: Input) -> Printed:
     return printed(done.stdout, done.returncode, done.stderr)
 
 
-def by_reference(given: Input) -> Printed:
+def by_reference(given: Input, answering: Answering = answer) -> Printed:
     """The reference's answer; its own error, if it has one, stands as output."""
     try:
-        done = answer(list(given.arguments), BytesIO(given.text).read)
+        done = answering(list(given.arguments), BytesIO(given.text).read)
     except Exception as error:  # an error here is a finding, not the end of the comparison
         return Printed(repr(error).encode(), NO_STATUS)
     return printed(done.output, done.status, done.error.encode())
 
 
-def differs(words: list[str], given: Input) -> bool:
-    return by_program(words, given) != by_reference(given)
+def differs(words: list[str], given: Input, answering: Answering = answer) -> bool:
+    return by_program(words, given) != by_reference(given, answering)
 
 
-def shrunk(words: list[str], given: Input) -> Input:
+def shrunk(words: list[str], given: Input, answering: Answering = answer) -> Input:
     """The input with fewer arguments and lines, as long as the answers differ, for a while."""
     until = time.monotonic() + SECONDS
     for argument in given.arguments:
         fewer = tuple(word for word in given.arguments if word != argument)
-        if differs(words, Input(fewer, given.text)):
+        if differs(words, Input(fewer, given.text), answering):
             given = Input(fewer, given.text)
     lines = given.text.splitlines(keepends=True)
     size = max(1, len(lines) // 2)
@@ -96,7 +98,7 @@ def shrunk(words: list[str], given: Input) -> Input:
         place, dropped = 0, False
         while place < len(lines) and time.monotonic() < until:
             trial = lines[:place] + lines[place + size :]
-            if differs(words, Input(given.arguments, b"".join(trial))):
+            if differs(words, Input(given.arguments, b"".join(trial)), answering):
                 lines, dropped = trial, True
             else:
                 place += size
@@ -105,18 +107,32 @@ def shrunk(words: list[str], given: Input) -> Input:
     return Input(given.arguments, b"".join(lines))
 
 
+def given_once(seed: int, size: str) -> list[Input]:
+    """The input of a seed, with its own flags."""
+    return [make_input(seed, size)]
+
+
+@dataclass(frozen=True)
+class Pair:
+    """A program, the reference's answer, and the inputs that both get for a seed and a size."""
+
+    words: tuple[str, ...]
+    answering: Answering = answer
+    inputs: Callable[[int, str], list[Input]] = given_once
+
+
 @dataclass(frozen=True)
 class Task:
     """One seed to compare."""
 
-    words: tuple[str, ...]
+    pair: Pair
     seed: int
     size: str
 
 
 @dataclass(frozen=True)
 class Compared:
-    """The input of a seed, made shorter, if the answers differ, and whether the program ended."""
+    """An input of a seed, made shorter, if the answers differ, and whether the program ended."""
 
     seed: int
     differing: Input | None = None
@@ -124,18 +140,20 @@ class Compared:
 
 
 def compare(task: Task) -> Compared:
-    """Compares on the input of a seed."""
-    words = list(task.words)
-    given = make_input(task.seed, task.size)
-    got = by_program(words, given)
-    if got == by_reference(given):
-        return Compared(task.seed)
-    if got.status == NO_STATUS:
-        return Compared(task.seed, given, ended=False)
-    return Compared(task.seed, shrunk(words, given))
+    """Compares on the inputs of a seed, up to the first one that differs."""
+    pair, words = task.pair, list(task.pair.words)
+    for given in pair.inputs(task.seed, task.size):
+        got = by_program(words, given)
+        if got.status == NO_STATUS:
+            return Compared(task.seed, given, ended=False)
+        if got != by_reference(given, pair.answering):
+            return Compared(task.seed, shrunk(words, given, pair.answering))
+    return Compared(task.seed)
 
 
-def keep(folder: Path, name: str, words: list[str], given: Input) -> Path:
+def keep(
+    folder: Path, name: str, words: list[str], given: Input, answering: Answering = answer
+) -> Path:
     """Writes an input and both answers under a name that is free."""
     folder.mkdir(parents=True, exist_ok=True)
     number = 1
@@ -148,7 +166,8 @@ def keep(folder: Path, name: str, words: list[str], given: Input) -> Path:
         except FileExistsError:
             number += 1
     path.with_suffix(".flags").write_text("".join(word + "\n" for word in given.arguments))
-    answers = {"program": by_program(words, given), "reference": by_reference(given)}
+    reference = by_reference(given, answering)
+    answers = {"program": by_program(words, given), "reference": reference}
     for suffix, given_answer in answers.items():
         path.with_suffix(f".{suffix}").write_bytes(given_answer.output)
         path.with_suffix(f".{suffix}_error").write_bytes(given_answer.error)
@@ -170,23 +189,28 @@ def counted(results: Iterable[Result], total: int) -> Iterator[Result]:
         yield from bar(results, total=total)
 
 
-def compare_all(words: list[str], asked: argparse.Namespace) -> list[Path]:
+def compare_all(pair: Pair, asked: argparse.Namespace) -> list[Path]:
     """Compares all seeds; the inputs that differ are kept."""
-    tasks = [Task(tuple(words), seed, asked.size) for seed in range(asked.first, asked.last + 1)]
+    tasks = [Task(pair, seed, asked.size) for seed in range(asked.first, asked.last + 1)]
     kept = []
     with multiprocessing.Pool(asked.processes) as pool:
         for found in counted(pool.imap_unordered(compare, tasks, chunksize=4), len(tasks)):
             if found.differing is not None:
-                name = f"{asked.size}_{found.seed}"
-                kept.append(keep(Path(asked.keep), name, words, found.differing))
+                name, words = f"{asked.size}_{found.seed}", list(pair.words)
+                kept.append(keep(Path(asked.keep), name, words, found.differing, pair.answering))
             if not found.ended:
                 print(f"no end after {SECONDS:g} s, so no further input is tried")
                 break
     return kept
 
 
-def main() -> int:
-    parser = argparse.ArgumentParser(description="Compares a program with the reference.")
+def compare_with(
+    description: str,
+    answering: Answering = answer,
+    inputs: Callable[[int, str], list[Input]] = given_once,
+) -> int:
+    """Compares the program that the arguments name with a reference. The status."""
+    parser = argparse.ArgumentParser(description=description)
     parser.add_argument("program", metavar="PROGRAM", help="a program, perhaps with arguments")
     parser.add_argument("first", metavar="FROM", type=int, help="the first seed")
     parser.add_argument("last", metavar="TO", type=int, help="the last seed")
@@ -196,9 +220,9 @@ def main() -> int:
     asked = parser.parse_args()
     words = program_words(asked.program)
     if words is None:
-        print(f"compare.py: there is no program {asked.program}", file=sys.stderr)
+        print(f"{parser.prog}: there is no program {asked.program}", file=sys.stderr)
         return 2
-    kept = compare_all(words, asked)
+    kept = compare_all(Pair(tuple(words), answering, inputs), asked)
     for path in kept:
         print(f"differs: {path}")
     print(f"{asked.last - asked.first + 1} inputs ({asked.size}), {len(kept)} differ")
@@ -206,4 +230,4 @@ def main() -> int:
 
 
 if __name__ == "__main__":
-    sys.exit(main())
+    sys.exit(compare_with("Compares a program with the reference."))

@@ -1,9 +1,10 @@
-"""What both programs are outside: arguments, standard input and output, and the exit status."""
+"""What all programs are outside: arguments, standard input and output, and the exit status."""
 
 import os
 import sys
 from collections.abc import Callable
 from dataclasses import dataclass
+from typing import TypeVar
 
 from refusals import Fault, Refusal
 
@@ -13,6 +14,7 @@ BROKEN = 70
 
 Run = Callable[[set[str], list[str]], int]
 """A run with flags: it adds the lines that it prints to a list, and returns its status."""
+Asked = TypeVar("Asked")
 
 
 @dataclass(frozen=True)
@@ -44,14 +46,21 @@ def flags_of(arguments: list[str], known: tuple[str, ...]) -> set[str] | None:
 
 def answered(arguments: list[str], known: tuple[str, ...], usage: str, run: Run) -> Answer:
     """What a run with these arguments prints, and its status."""
+    return answered_as(lambda: flags_of(arguments, known), usage, run)
+
+
+def answered_as(
+    asked_of: Callable[[], Asked | None], usage: str, run: Callable[[Asked, list[str]], int]
+) -> Answer:
+    """The same where the arguments say what is asked in another way; none where that is help."""
     out: list[str] = []
     status, error = 0, ""
     try:
-        flags = flags_of(arguments, known)
-        if flags is None:
+        asked = asked_of()
+        if asked is None:
             out.append(usage)
         else:
-            status = run(flags, out)
+            status = run(asked, out)
     except Usage as unknown:
         return Answer(b"", BAD_ARGUMENTS, f"unexpected argument: {unknown}\n{usage}\n")
     except Fault as fault:

@@ -271,11 +271,32 @@ def view_lines(plan: Plan) -> Iterator[str]:
         yield json.dumps(view, sort_keys=True, separators=(",", ":"))
 
 
+Closing = Callable[[Session], Iterator[str]]
+"""What is printed of the session after the last command."""
+
+
+def output_lines(session: Session, flags: Set[str]) -> Iterator[str]:
+    """The plan; with their flags, the journal and the view."""
+    plan = session.plan
+    yield from plan_lines(plan)
+    if "--journal" in flags:
+        yield from journal_lines(session)
+    if "--json" in flags:
+        yield from view_lines(plan)
+
+
 def run(read: Callable[[int], bytes], flags: Set[str], out: list[str]) -> int:
     """Runs an input; the lines that it prints go to `out`. The exit status.
 
     A `Fault` ends the run; `out` then has what is printed until then.
     """
+    return run_to(read, flags, out, lambda session: output_lines(session, flags))
+
+
+def run_to(
+    read: Callable[[int], bytes], flags: Set[str], out: list[str], closing: Closing
+) -> int:
+    """The same with something else at the end of the output."""
     lines = Lines(read)
     try:
         session = read_session(lines)
@@ -285,10 +306,5 @@ def run(read: Callable[[int], bytes], flags: Set[str], out: list[str]) -> int:
     commands = Commands(session, flags, out)
     while not (commands.refused and "--stop" in flags) and (line := lines.next()) is not None:
         commands.take(line)
-    plan = session.plan
-    out += plan_lines(plan)
-    if "--journal" in flags:
-        out += journal_lines(session)
-    if "--json" in flags:
-        out += view_lines(plan)
+    out += closing(session)
     return 1 if commands.refused else 0

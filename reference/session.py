@@ -4,24 +4,25 @@ Each state of the plan is kept. Nothing is ever changed back: an undo goes to th
 a strike does the later edits again on the state before the struck one.
 """
 
+import re
+from collections.abc import Iterable
 from dataclasses import dataclass, replace
+from functools import lru_cache
 
 from edits import Edit, Note, do
 from plans import Identity, Plan
 from refusals import Broken, Refusal, Refused
 
-Path = tuple[str, ...]
-
 CHANGES: dict[str, str] = {
-    "set": "g/t/p/VAR/k",
-    "seth": "g/t/head/VAR",
-    "insert": "g/t/n g/t/a/after",
-    "delete": "g/t/p g/t/b/front",
-    "move": "g/t/p/front g/t/p/after g/t/b/front g/t/a/after",
-    "add": "n a/after",
-    "drop": "g b/front",
-    "renumber": "g/name",
-    "turn": "g/turn",
+    "set": "g/t/p.VAR.k",
+    "seth": "g/t/head.VAR",
+    "insert": "g/t/n g/t/a.after",
+    "delete": "g/t/p g/t/b.front",
+    "move": "g/t/p.front g/t/p.after g/t/b.front g/t/a.after",
+    "add": "n a.after",
+    "drop": "g b.front",
+    "renumber": "g.name",
+    "turn": "g.turn",
 }
 """The places that an edit changes, besides its own identities.
 
@@ -43,38 +44,50 @@ class Entry:
         """The tag of what the edit puts in."""
         return f"n{self.serial}"
 
-    def path(self, place: str) -> Path:
+    def place(self, pattern: str) -> str:
         """A place as it is written in CHANGES, with the words of this edit."""
         edit = self.edit
         names = {"g": edit.group, "t": str(edit.telegram), "p": edit.packet, "VAR": edit.variable}
         names |= {"k": str(edit.occurrence), "a": edit.after, "n": self.new}
         names["b"] = str(self.note.before)
-        return tuple(names.get(step, step) for step in place.split("/"))
+        steps = (names.get(step, step) for step in re.split("([/.])", pattern))
+        return "".join(steps)
 
 
-def _identity_paths(names: tuple[Identity, ...]) -> set[Path]:
-    return {(f"#{country}.{number}",) for country, number in names}
+def _identity_places(names: tuple[Identity, ...]) -> list[str]:
+    return [f"#{country}.{number}" for country, number in names]
 
 
-def changes(entry: Entry) -> set[Path]:
+def changes(entry: Entry) -> list[str]:
     """The places that an edit changes."""
-    places = {entry.path(place) for place in CHANGES[entry.edit.kind].split()}
-    return places | _identity_paths(entry.note.own)
+    places = [entry.place(pattern) for pattern in CHANGES[entry.edit.kind].split()]
+    return places + _identity_places(entry.note.own)
 
 
-def needs(entry: Entry) -> set[Path]:
+def needs(entry: Entry) -> list[str]:
     """The places that an edit needs, besides those that it changes."""
-    edit, places = entry.edit, _identity_paths(entry.note.names)
+    edit, places = entry.edit, []
     if edit.kind in ("insert", "delete") or edit.variable in ("Q_DIR", "M_DUP"):
-        places.add(entry.path("g/turn"))
+        places.append(entry.place("g.turn"))
     if edit.variable == "Q_LINKORIENTATION":
-        places.add(entry.path("g/t/p/NID_BG/k"))
-    return places
+        places.append(entry.place("g/t/p.NID_BG.k"))
+    return places + _identity_places(entry.note.names)
 
 
-def _overlap(some: set[Path], others: set[Path]) -> bool:
-    """Whether all steps of a path are the first steps of one of the others."""
-    return any(all(x == y for x, y in zip(a, b, strict=False)) for a in some for b in others)
+@lru_cache(1 << 16)
+def _steps(place: str) -> tuple[str, ...]:
+    """The steps of a place; an identity is one step."""
+    return (place,) if place[0] == "#" else tuple(re.split("[/.]", place))
+
+
+def _overlap(some: Iterable[str], others: Iterable[str]) -> bool:
+    """Whether all steps of a place are the first steps of one of the others."""
+    of_others = [_steps(other) for other in others]
+    return any(
+        all(x == y for x, y in zip(_steps(one), other, strict=False))
+        for one in some
+        for other in of_others
+    )
 
 
 def _insert_and_delete(e: Edit, f: Edit) -> bool:
@@ -82,14 +95,14 @@ def _insert_and_delete(e: Edit, f: Edit) -> bool:
     return same and {e.kind, f.kind} == {"insert", "delete"}
 
 
-def are_apart(e: Entry, f: Entry, but: Path = ()) -> bool:
+def are_apart(e: Entry, f: Entry, but: str = "") -> bool:
     """Whether neither edit changes what the other one changes or needs.
 
     The place `but` is left out of what f changes.
     """
-    of_e, of_f = changes(e), changes(f) - {but}
+    of_e, of_f = changes(e), [place for place in changes(f) if place != but]
     return not (
-        _overlap(of_e, of_f | needs(f))
+        _overlap(of_e, of_f + needs(f))
         or _overlap(of_f, needs(e))
         or _insert_and_delete(e.edit, f.edit)
     )
@@ -100,11 +113,16 @@ def stands_after(e: Entry, f: Entry) -> bool:
     if f.edit.after != e.new:
         return False
     if (e.edit.kind, f.edit.kind) == ("add", "add"):
-        return are_apart(e, f, e.path("n/after"))
+        return are_apart(e, f, e.place("n.after"))
     if e.edit.kind != "insert" or f.edit.kind not in ("insert", "move"):
         return False
     same = (e.edit.group, e.edit.telegram) == (f.edit.group, f.edit.telegram)
-    return same and are_apart(e, f, e.path("g/t/n/after"))
+    return same and are_apart(e, f, e.place("g/t/n.after"))
+
+
+def dependents(entry: Entry, later: Iterable[Entry]) -> list[int]:
+    """The serials of the later edits that aren't independent of an edit."""
+    return [f.serial for f in later if not (are_apart(entry, f) or stands_after(entry, f))]
 
 
 def kept(struck: Entry, later: list[Entry]) -> list[Entry]:

@@ -5,7 +5,7 @@ from __future__ import annotations
 from plandesk import matching
 from plandesk.compare import GroupDiff, Plan, compare
 from plandesk.desk import State
-from plandesk.tags import group_tags, tags_of_base
+from plandesk.tags import tags_of_base
 from plandesk.view import telegrams_of
 
 
@@ -14,10 +14,9 @@ def changed_count(state: State) -> int:
     if not state.journal.entries:
         return 0
     base, now = telegrams_of(state.base), telegrams_of(state.run.plan)
-    tags = group_tags(state.engine, state.base, state.viewed)
     old = {f"b{at}": digits for at, digits in enumerate(base)}
-    same = sum(old.get(tag) == digits for tag, digits in zip(tags, now, strict=True))
-    return len(set(old) | set(tags)) - same
+    same = sum(old.get(tag) == now[at] for tag, at in state.tags.groups.items())
+    return len(set(old) | set(state.tags.groups)) - same
 
 
 def session_diff(state: State) -> list[GroupDiff]:
@@ -26,5 +25,5 @@ def session_diff(state: State) -> list[GroupDiff]:
     now = Plan.of(state.run.plan, state.groups)
     if not state.journal.entries:
         return []
-    pairs = matching.by_tags(tags_of_base(state.base_groups), state.tags, state.base_groups, state.groups)
+    pairs = matching.by_tags(tags_of_base(state.base_groups), state.tags)
     return list(compare(pairs, base, now))

@@ -1,123 +1,127 @@
-"""Which edit depends on which: asked of the engine by strikes, in a few runs for all edits at once.
+"""Which edit depends on which, by what balisefacts says of each.
 
-A strike of e that is refused names the first later edit f that depends on it: that is an arrow from e to f. Then f and
-all that depends on f are struck first, and e is tried again, until its strike is accepted. All edits are tried in one
-run: after each try a redo for each strike brings everything back, and a redo too many is refused (24) and changes
-nothing. This needs an empty stack, so the edits that stand are first given a journal of their own.
-
-A strike re-anchors later edits, so that an arrow may come up only after it. So arrows that were met with other edits
-struck count for the edit alone for which they were struck.
+A later edit f that depends on e is an arrow from e to f. Before e all is struck that arrows reach from e, the last one
+first. A strike may bring up an arrow that wasn't there: an edit that was anchored on what the struck one put in is then
+anchored where that was, and so it changes another place. If an earlier edit that goes too changes that place, it has to
+go as well.
 """
 
 from __future__ import annotations
 
-from collections.abc import Iterable, Sequence
+from collections.abc import Collection, Iterable, Iterator
 from dataclasses import dataclass
 from functools import cached_property
 
-from plandesk.engine import Engine, Reply
-from plandesk.errors import Refusal
-from plandesk.journal import read_journal
-from plandesk.view import Groups
+from plandesk.facts import Facts
 
-Arrows = dict[int, set[int]]
+AFTER = ".after"
+FRONT = ".front"
 
 
 @dataclass(frozen=True)
 class Dependents:
-    """For each standing edit all that has to be struck before it, and of these the ones that it meets itself."""
+    """What has to be struck before standing edits, and what each of them needs."""
 
-    closures: dict[int, frozenset[int]]
-    direct: dict[int, frozenset[int]]
+    facts: Facts
 
-    def all_of(self, serial: int) -> list[int]:
-        """All that has to be struck before it, the last one first."""
-        return sorted(self.closures.get(serial, ()), reverse=True)
-
-    @cached_property
-    def _needs(self) -> dict[int, list[int]]:
-        found: dict[int, list[int]] = {}
-        for earlier, later in sorted(self.direct.items()):
-            for each in later:
-                found.setdefault(each, []).append(earlier)
-        return found
+    def all_of(self, *serials: int) -> list[int]:
+        """All that has to be struck before some edits or between them, the last one first. None where they don't stand."""
+        found = self._reached(serial for serial in serials if serial in self.facts)
+        while more := {each for each, _, _ in self._moved(found)} - found:
+            found |= self._reached(more)
+        return sorted(found.difference(serials), reverse=True)
 
     def needed_by(self, serial: int) -> list[int]:
         """The earlier edits that it depends on, without those that follow from these."""
         return self._needs.get(serial, [])
 
+    def reason(self, serial: int, struck: Collection[int]) -> tuple[int, str]:
+        """The first of some earlier edits on which it depends, and the place where they meet.
 
-def _closure(shared: Arrows, own: Arrows, serial: int) -> set[int]:
-    seen, waiting = {serial}, [serial]
-    while waiting:
-        at = waiting.pop()
-        for later in (*shared.get(at, ()), *own.get(at, ())):
-            if later not in seen:
-                seen.add(later)
-                waiting.append(later)
-    seen.discard(serial)
-    return seen
+        No place: one is an insert and the other a delete.
+        """
+        earlier = next((each for each in sorted(struck) if serial in self.facts[each].dependents), None)
+        if earlier is not None:
+            return earlier, self._meeting(earlier, serial)
+        return next((at, place) for each, at, place in self._moved(struck) if each == serial)
+
+    def _reached(self, serials: Iterable[int]) -> set[int]:
+        seen = set(serials)
+        waiting = list(seen)
+        while waiting:
+            for later in self.facts[waiting.pop()].dependents:
+                if later not in seen:
+                    seen.add(later)
+                    waiting.append(later)
+        return seen
+
+    def _moved(self, struck: Collection[int]) -> Iterator[tuple[int, int, str]]:
+        """Edits that would be anchored at a place that an earlier struck one changes: both, and the place."""
+        for each in sorted(struck):
+            for later in self._anchored.get(each, ()):
+                yield from ((later, at, place) for at, place in self._met(each, struck))
+
+    def _met(self, gone: int | None, struck: Collection[int]) -> Iterator[tuple[int, str]]:
+        """Struck edits that change a place after which `gone` stood, or that it gets when its own anchor goes."""
+        while gone is not None and gone in struck:
+            place = _anchor(self.facts[gone].changes)
+            yield from ((at, place) for at in self._changing[place] if at < gone and at in struck)
+            gone = self._put_in.get(place.removesuffix(AFTER))
+
+    @cached_property
+    def _put_in(self) -> dict[str, int]:
+        """The edits that put something in, by its place."""
+        found = {}
+        for serial, each in self.facts.items():
+            if _anchor(each.changes) and not each.changes[0].endswith(FRONT):
+                found[each.changes[0]] = serial
+        return found
+
+    @cached_property
+    def _anchored(self) -> dict[int, list[int]]:
+        """The edits that are anchored on what an edit put in."""
+        found: dict[int, list[int]] = {}
+        for serial, each in self.facts.items():
+            on = self._put_in.get(_anchor(each.changes).removesuffix(AFTER))
+            if on is not None:
+                found.setdefault(on, []).append(serial)
+        return found
+
+    @cached_property
+    def _changing(self) -> dict[str, list[int]]:
+        """The edits that change what comes after something."""
+        found: dict[str, list[int]] = {}
+        for serial, each in self.facts.items():
+            for place in each.changes:
+                if place.endswith(AFTER):
+                    found.setdefault(place, []).append(serial)
+        return found
+
+    @cached_property
+    def _needs(self) -> dict[int, list[int]]:
+        found: dict[int, list[int]] = {}
+        for serial, each in self.facts.items():
+            seen: set[int] = set()
+            for later in each.dependents:
+                if later not in seen:
+                    found.setdefault(later, []).append(serial)
+                    seen |= self._reached([later])
+        return found
+
+    def _meeting(self, earlier: int, later: int) -> str:
+        """The place where two edits meet, the longer one."""
+        one, other = self.facts[earlier], self.facts[later]
+        pairs = [(p, q) for p in one.changes for q in (*other.changes, *other.needs)]
+        pairs += [(p, q) for p in one.needs for q in other.changes]
+        return next((max(p, q, key=len) for p, q in pairs if _overlap(p, q)), "")
 
 
-EMPTY_TELEGRAM = "a1007f80a0327" + "f" * 39 + "c0"
+def _anchor(changes: list[str]) -> str:
+    """The place after which an edit puts something; empty where it doesn't."""
+    return next((place for place in reversed(changes) if place.endswith(AFTER)), "")
 
 
-def standing_alone(engine: Engine, base: str, journal: str, groups: Groups) -> str:
-    """A journal of the edits that stand, with an empty stack.
-
-    A new edit empties the stack for good. It is undone again, and its two lines are left out.
-    """
-    if not read_journal(journal).undone:
-        return journal
-    edit = f"seth {groups.names[0]} 0 M_MCOUNT 0" if groups else f"add 0 {EMPTY_TELEGRAM}"
-    run = engine.run(base, journal, [edit, "undo"], view=False)
-    lines = run.journal.splitlines(keepends=True)
-    return "".join(lines[:-2])
-
-
-def dependents(engine: Engine, base: str, alone: str, only: Iterable[int] | None = None) -> Dependents:
-    """What depends on each standing edit, or on some. `alone` is a journal with an empty stack."""
-    journal = read_journal(alone)
-    shared: Arrows = {}
-    own: dict[int, Arrows] = {}
-    wanted = {entry.serial for entry in journal.standing} if only is None else set(only)
-    open_ = sorted(wanted, reverse=True)
-    while open_:
-        commands: list[str] = []
-        tries: list[tuple[int, list[int]]] = []
-        for serial in open_:
-            strikes = [*sorted(_closure(shared, own.get(serial, {}), serial), reverse=True), serial]
-            tries.append((serial, strikes))
-            commands += [f"strike {each}" for each in strikes] + ["redo"] * len(strikes)
-            if len(commands) > MOST:
-                break
-        replies = engine.run(base, alone, commands, view=False).replies
-        at, again = 0, []
-        for serial, strikes in tries:
-            if _learn(serial, strikes, replies[at : at + len(strikes)], shared, own):
-                again.append(serial)
-            at += 2 * len(strikes)
-        open_ = again + open_[len(tries) :]
-    closures = {serial: frozenset(_closure(shared, own.get(serial, {}), serial)) for serial in wanted}
-    direct = {s: frozenset(shared.get(s, set()) | own.get(s, {}).get(s, set())) for s in wanted}
-    return Dependents(closures, direct)
-
-
-MOST = 900_000
-"""Commands of a run; the engine takes a million."""
-
-
-def _learn(serial: int, strikes: Sequence[int], replies: Sequence[Reply], shared: Arrows, own: dict[int, Arrows]) -> bool:
-    """Notes what the strikes met. False where all were accepted."""
-    found, untouched = False, True
-    for struck, reply in zip(strikes, replies, strict=True):
-        later = reply.depends
-        if later is not None:
-            found = True
-            arrows = shared if untouched else own.setdefault(serial, {})
-            arrows.setdefault(struck, set()).add(later)
-        elif reply.refused:
-            raise Refusal(f"edit {struck} can't be struck: {reply.text}")
-        else:
-            untouched = False
-    return found
+def _overlap(place: str, other: str) -> bool:
+    """Whether all steps of one place are the first steps of the other (docs/FORMATS.md, Places)."""
+    shorter, longer = sorted((place, other), key=len)
+    return longer.startswith(shorter) and longer[len(shorter) :][:1] in ("", "/", ".")

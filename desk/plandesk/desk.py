@@ -7,21 +7,23 @@ from dataclasses import dataclass, replace
 from functools import cached_property
 
 from plandesk import folder as files
-from plandesk.depend import Dependents, dependents, standing_alone
+from plandesk.depend import Dependents
 from plandesk.engine import Engine, Reply, Run
 from plandesk.errors import BadInput, Fault
+from plandesk.facts import find_facts
 from plandesk.folder import Folder
+from plandesk.identities import Identities
 from plandesk.journal import Journal, read_journal
 from plandesk.ledger import agrees
 from plandesk.naming import Names
 from plandesk.reviews import Reviews, new_reviews
-from plandesk.tags import Tags, probe, tags_of_base
+from plandesk.tags import Tags, tags_of, tags_of_base
 from plandesk.view import Groups
 
 
 @dataclass(frozen=True)
 class Outcome:
-    """What a list of commands came to. `kept` says whether the files are the run's now."""
+    """What a list of commands came to. `kept` says whether the files are to be the run's."""
 
     commands: tuple[str, ...]
     run: Run
@@ -77,41 +79,33 @@ class State:
     def tags(self) -> Tags:
         if not self.journal.entries:
             return tags_of_base(self.groups)
-        return probe(self.engine, self.base, self.viewed)
+        return tags_of(find_facts(), self.base, self.viewed)
+
+    @cached_property
+    def identities(self) -> Identities:
+        return Identities(self.base, self.journal)
 
     @cached_property
     def names(self) -> Names:
-        return Names(lambda: self.base_groups, self.groups, self.journal, self.tags)
+        return Names(lambda: self.base_groups, self.groups, self.identities, self.tags)
 
     @cached_property
     def turns_without_review(self) -> list[int]:
         """Turns of several balises that stand, and of which no review is kept: they left none, or came with a journal."""
         noted = {item.serial for item in self.reviews.items}
         turns = [entry for entry in self.journal.standing if entry.kind == "turn" and entry.serial not in noted]
-        return [entry.serial for entry in turns if self._balises(entry.group) > 1]
+        return [entry.serial for entry in turns if self.identities.balises(entry.group) > 1]
 
-    def _balises(self, tag: str) -> int:
-        """How many balises a group has, by its tag. No edit changes that."""
-        number = int(tag[1:])
-        return len(self.base_groups[number].sizes) if tag[0] == "b" else len(self.journal.by_serial[number].digits)
-
-    def names_of(self, identities: set[str]) -> Names:
+    def names_of(self, names: set[str]) -> Names:
         """The same for edits of some groups alone, which is quicker on a long line."""
-        places = [self.groups.places[each] for each in identities if each in self.groups.places]
-        tags = probe(self.engine, self.base, self.viewed, sorted(places))
-        return Names(lambda: self.base_groups, self.groups, self.journal, tags)
-
-    @cached_property
-    def alone(self) -> str:
-        return standing_alone(self.engine, self.base, self.run.journal, self.groups)
+        here = names & self.groups.places.keys()
+        tags = tags_of(find_facts(), self.base, self.viewed, here) if here else Tags({}, {})
+        return Names(lambda: self.base_groups, self.groups, self.identities, tags)
 
     @cached_property
     def dependents(self) -> Dependents:
-        return dependents(self.engine, self.base, self.alone)
-
-    def dependents_of(self, serial: int) -> list[int]:
-        """All that depends on one edit, the last one first."""
-        return dependents(self.engine, self.base, self.alone, [serial]).all_of(serial)
+        standing = [entry.serial for entry in self.journal.standing]
+        return Dependents(find_facts().edits(self.base, self.run.journal, standing))
 
     @property
     def standing(self) -> frozenset[int]:
@@ -147,7 +141,7 @@ def load(folder: Folder, engine: Engine, *, strict: bool = True) -> State:
     return state
 
 
-def do(
+def tried(
     state: State,
     commands: Sequence[str],
     *,
@@ -155,7 +149,7 @@ def do(
     dry_run: bool = False,
     origins: Sequence[int] = (),
 ) -> Outcome:
-    """Does commands after the journal. Keeps all or nothing, or with `keep_accepted` what was accepted.
+    """Does commands after the journal. All is to be kept or nothing, or with `keep_accepted` what was accepted.
 
     `origins` has the line that each command comes from: the commands of one line are never kept in part.
     """
@@ -164,12 +158,16 @@ def do(
     found = new_reviews(state.engine, state.base, state.journal_text, commands, run, state.reviews)
     half = halved(run, origins)
     kept = not dry_run and bool(commands) and (keep_accepted and not half or not run.refused)
-    if kept:
-        texts = {files.JOURNAL: run.journal, files.LINE: run.plan}
-        if found.items:
-            texts[files.REVIEWS] = state.reviews.plus(found).text()
-        state.folder.write(texts)
     return Outcome(tuple(commands), run, kept, found, half)
+
+
+def keep(state: State, outcome: Outcome) -> None:
+    """Writes what is to be kept. What is shown of it has to be asked for before: a question may fail."""
+    if outcome.kept:
+        texts = {files.JOURNAL: outcome.run.journal, files.LINE: outcome.run.plan}
+        if outcome.new_reviews.items:
+            texts[files.REVIEWS] = state.reviews.plus(outcome.new_reviews).text()
+        state.folder.write(texts)
 
 
 def halved(run: Run, origins: Sequence[int]) -> bool:

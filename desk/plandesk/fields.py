@@ -5,20 +5,16 @@ docs/FIELDS.md has the formats. What it prints is taken line by line here, and j
 
 from __future__ import annotations
 
-import os
-import shlex
-import shutil
 from collections.abc import Sequence
 from dataclasses import dataclass
-from pathlib import Path
 
 from plandesk.errors import Fault
 from plandesk.process import run_program
+from plandesk.programs import find_program, hint_of
 
 NAME = "balisefields"
-PROGRAM = Path(__file__).resolve().parents[2] / "crates" / NAME / "out" / NAME
-"""Where the repository builds it."""
-HINT = "set BALISEFIELDS to the program"
+WHAT = "the program that turns digits into fields and fields into digits"
+HINT = hint_of(NAME)
 LINES_OF_A_PLAN = ("plan 1", "group")
 """Lines that are printed as they are."""
 WHOLE_FAULTS = ("2", "3", "4")
@@ -82,19 +78,4 @@ def split_items(lines: Sequence[str]) -> list[list[str]]:
 
 def find_fields() -> FieldProgram:
     """What BALISEFIELDS names, else balisefields beside the engine, on the path, or as it was built in the repository."""
-    words = shlex.split(os.environ.get("BALISEFIELDS", ""))
-    if not words:
-        found = _beside_engine() or shutil.which(NAME) or (str(PROGRAM) if PROGRAM.exists() else "")
-        if not found:
-            what = "the program that turns digits into fields and fields into digits, isn't beside baliseplan or on the path"
-            raise Fault(f"{NAME}, {what}", HINT)
-        words = [found]
-    return FieldProgram(tuple(words))
-
-
-def _beside_engine() -> str:
-    """The program in the folder of the engine, if it is there."""
-    words = shlex.split(os.environ.get("BALISEPLAN", "")) or ["baliseplan"]
-    engine = shutil.which(words[0]) if len(words) == 1 else None
-    folders = [Path(engine).parent, Path(engine).resolve().parent] if engine else []
-    return next((found for folder in folders if (found := shutil.which(NAME, path=str(folder)))), "")
+    return FieldProgram(find_program(NAME, WHAT))

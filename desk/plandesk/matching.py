@@ -27,17 +27,14 @@ class GroupPair:
     turned: bool = False
 
 
-def by_tags(before: Tags, after: Tags, first: Sequence[Group], second: Sequence[Group]) -> list[GroupPair]:
+def by_tags(before: Tags, after: Tags) -> list[GroupPair]:
     """The pairs of two states of one session: exact, since a tag never changes."""
     pairs = []
     for tag in in_order(before.groups, after.groups):
         a, b = before.groups.get(tag), after.groups.get(tag)
-        old = first[a].sizes if a is not None else []
-        new = second[b].sizes if b is not None else []
-        telegrams = []
-        for number in range(max(len(old), len(new))):
-            was, now = before.telegrams.get((tag, number)), after.telegrams.get((tag, number))
-            telegrams.append(TelegramPair(was[1] if was else None, now[1] if now else None))
+        old = before.shapes[a].pigs if a is not None else {}
+        new = after.shapes[b].pigs if b is not None else {}
+        telegrams = [TelegramPair(old.get(number), new.get(number)) for number in range(max(len(old), len(new)))]
         telegrams.sort(key=lambda pair: (pair.after if pair.after is not None else pair.before) or 0)
         pairs.append(_with_turn(GroupPair(a, b, tuple(telegrams))))
     return pairs

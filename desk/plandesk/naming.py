@@ -1,7 +1,7 @@
 """Today's names of what a tag stands for.
 
-The identity of a group, the number of a packet: these come from the plan first read and from the words of the journal
-alone. Places (PIG and PKT) come from a probe (tags.py).
+The identity of a group that is gone, and the number of a packet that is, come from the plan first read and from the words
+of the journal alone. Places (PIG and PKT) are what balisefacts says (tags.py).
 """
 
 from __future__ import annotations
@@ -10,6 +10,7 @@ from collections.abc import Callable
 from dataclasses import dataclass, field
 from functools import cached_property
 
+from plandesk.identities import Identities
 from plandesk.journal import Entry, Journal
 from plandesk.tags import Tags
 from plandesk.view import Groups, bits_of, packet_links
@@ -21,8 +22,12 @@ class Names:
 
     base_of: Callable[[], Groups]
     today: Groups
-    journal: Journal
+    identities: Identities
     tags: Tags = field(repr=False)
+
+    @property
+    def journal(self) -> Journal:
+        return self.identities.journal
 
     @cached_property
     def base(self) -> Groups:
@@ -32,37 +37,14 @@ class Names:
     def group(self, tag: str) -> str:
         """C.N as it is today, or as it was last."""
         at = self.tags.groups.get(tag)
-        return self.today.names[at] if at is not None else self.last_name(tag)
+        return self.today.names[at] if at is not None else self.identities.last(tag)
 
     def group_gone(self, tag: str) -> bool:
         return tag not in self.tags.groups
 
-    def last_name(self, tag: str) -> str:
-        """C.N by the base plan and the journal alone: as the group came, and by the renumberings that stand."""
-        country, number = self._first_identity(tag)
-        for entry in self._renumberings.get(tag, ()):
-            if entry.serial not in self.journal.gone:
-                number = entry.value
-        return f"{country}.{number}"
-
-    def _first_identity(self, tag: str) -> tuple[int, int]:
-        at = int(tag[1:])
-        if tag[0] == "b":
-            return self.base[at].country, self.base[at].number
-        bits = bits_of(self.journal.by_serial[at].digits[0][:13], 52)
-        return int(bits[25:35], 2), int(bits[35:49], 2)
-
-    @cached_property
-    def _renumberings(self) -> dict[str, list[Entry]]:
-        found: dict[str, list[Entry]] = {}
-        for entry in self.journal.entries:
-            if entry.kind == "renumber":
-                found.setdefault(entry.group, []).append(entry)
-        return found
-
     def packet_number(self, group: str, telegram: int, packet: str) -> int:
         """NID_PACKET, which no edit changes."""
-        at = self.tags.packets.get((group, telegram, packet))
+        at = self.tags.packet((group, telegram, packet))
         if at is not None:
             return self.today[at[0]].telegrams[at[1]].packets[at[2]].number
         place = int(packet[1:])
@@ -91,7 +73,7 @@ class Names:
         if last is not None or after is not None:
             return last if last is not None else after
         assert entry.telegram is not None
-        at = self.tags.packets.get((entry.group, entry.telegram, entry.packet))
+        at = self.tags.packet((entry.group, entry.telegram, entry.packet))
         if at is not None:
             return self.today[at[0]].telegrams[at[1]].packets[at[2]].scale
         if entry.packet[0] == "b" and entry.group[0] == "b":
@@ -110,9 +92,9 @@ class Names:
     def place(self, group: str, telegram: int, packet: str = "") -> str:
         """The words that a command takes: `5.250 1 0`."""
         if packet:
-            at = self.tags.packets.get((group, telegram, packet))
+            at = self.tags.packet((group, telegram, packet))
             return f"{self.group(group)} {at[1]} {at[2]}" if at else ""
-        there = self.tags.telegrams.get((group, telegram))
+        there = self.tags.telegram(group, telegram)
         return f"{self.group(group)} {there[1]}" if there else ""
 
     def link_target(self, at: tuple[int, int, int], k: int) -> str:

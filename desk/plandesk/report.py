@@ -95,7 +95,7 @@ def of_groups(state: State, diffs: Sequence[GroupDiff], request: Request | None)
 
 
 def pictures(state: State, diffs: Sequence[GroupDiff]) -> dict[str, Any]:
-    pairs = matching.by_tags(tags_of_base(state.base_groups), state.tags, state.base_groups, state.groups)
+    pairs = matching.by_tags(tags_of_base(state.base_groups), state.tags)
     by_place = {(diff.before, diff.after): diff for diff in diffs}
     places = {at: (pair.before, pair.after) for at, pair in enumerate(pairs)}
     changed = {at: by_place[place] for at, place in places.items() if place in by_place}

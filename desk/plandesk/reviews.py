@@ -16,7 +16,8 @@ from typing import Self
 
 from plandesk.engine import Engine, Run
 from plandesk.errors import BadInput, Usage
-from plandesk.tags import PacketPath, packet_paths
+from plandesk.facts import find_facts
+from plandesk.tags import PacketPath, tags_of
 
 
 @dataclass(frozen=True)
@@ -92,11 +93,12 @@ def new_reviews(
         lines = list(dict.fromkeys(reply.reviews))
         if not lines:
             continue
-        places = [line.split(" ") for line in lines]
-        paths = packet_paths(engine, base, journal, commands[: at + 1], [words[:3] for words in places])
-        for words, path in zip(places, paths, strict=True):
+        then = run if at + 1 == len(commands) else engine.run(base, journal, commands[: at + 1])
+        tags = tags_of(find_facts(), base, then, {line.split(" ")[0] for line in lines})
+        for line in lines:
             number += 1
-            what, *rest = words[3:]
+            name, pig, pkt, what, *rest = line.split(" ")
+            path = tags.path((then.groups.places[name], int(pig), int(pkt)))
             k, value = (0, rest[0]) if what == "opaque" else (int(rest[0]), rest[1])
             found.append(Review(number, False, reply.number, path, what, k, int(value)))
     return Reviews(tuple(found))

@@ -81,8 +81,8 @@ def _detail(entry: Entry, names: Names) -> str:
     if entry.telegram is None:
         return ""
     tag = _packet_tag(entry)
-    telegram = names.tags.telegrams.get((entry.group, entry.telegram))
-    packet = names.tags.packets.get((entry.group, entry.telegram, tag)) if tag else None
+    telegram = names.tags.telegram(entry.group, entry.telegram)
+    packet = names.tags.packet((entry.group, entry.telegram, tag)) if tag else None
     gone = telegram is None or bool(tag) and packet is None
     where = f"telegram {entry.telegram}" if gone or telegram is None else f"balise {telegram[1]}"
     if tag:
@@ -106,7 +106,7 @@ class ReviewWords:
 def review_words(review: Review, names: Names) -> ReviewWords:
     """A review by today's place and value."""
     group, telegram, packet = review.path
-    at = names.tags.packets.get(review.path)
+    at = names.tags.packet(review.path)
     place = names.place(group, telegram, packet) or names.group(group)
     if review.opaque:
         what = f"{review.value} {packet_name(review.value)}: look at it by hand"

@@ -66,7 +66,7 @@ def telegram_item(group: Group, pig: int, digits: str) -> list[str]:
 
 
 def _header(group: Group, pig: int, telegram: Telegram) -> list[tuple[str, int]]:
-    known = dict(telegram.header) | {"Q_UPDOWN": 1, "Q_MEDIA": 0, "N_PIG": pig, "N_TOTAL": len(group.sizes) - 1}
+    known = dict(telegram.header) | {"Q_UPDOWN": 1, "Q_MEDIA": 0, "N_PIG": pig, "N_TOTAL": len(group.telegrams) - 1}
     known |= {"NID_C": group.country, "NID_BG": group.number}
     return [(name, known[name]) for name in HEADER]
 

@@ -17,6 +17,8 @@ HEADER = ("M_VERSION", "M_DUP", "M_MCOUNT", "Q_LINK")
 IDENTITY = re.compile(r'\{"country":(\d+),"number":(\d+),')
 NAMES_A_GROUP = '["NID_BG",'
 KEPT = '"known":false'
+PACKETS, PACKET = '"packets":', '"known":'
+"""What each telegram has once in a view, and each packet."""
 
 
 class Field(NamedTuple):
@@ -97,11 +99,6 @@ class Group:
     def telegrams(self) -> tuple[Telegram, ...]:
         return tuple(Telegram(each) for each in self._telegrams)
 
-    @property
-    def sizes(self) -> list[int]:
-        """How many packets each telegram has."""
-        return [len(each["packets"]) for each in self._telegrams]
-
 
 @dataclass(frozen=True)
 class Link:
@@ -154,6 +151,10 @@ class Groups(Sequence[Group]):
         if found is None:
             raise ValueError(line[:60])
         return f"{found[1]}.{found[2]}"
+
+    def sizes(self, at: int) -> tuple[int, ...]:
+        """How many packets each telegram of a group has, by the text alone."""
+        return tuple(telegram.count(PACKET) for telegram in self.lines[at].split(PACKETS)[1:])
 
     @cached_property
     def places(self) -> dict[str, int]:
@@ -217,6 +218,12 @@ def telegrams_of(plan: str) -> tuple[tuple[str, ...], ...]:
         else:
             groups[-1].append(line)
     return tuple(tuple(group) for group in groups)
+
+
+def identity_of(digits: str) -> tuple[int, int]:
+    """NID_C and NID_BG of a telegram: its bits 25 to 48."""
+    bits = int(digits[6:13], 16)
+    return bits >> 17 & 1023, bits >> 3 & 16383
 
 
 def bits_of(digits: str, length: int) -> str:

@@ -6,6 +6,7 @@ import os
 import sys
 from collections.abc import Callable
 from pathlib import Path
+from typing import Any
 
 import pytest
 from click.testing import CliRunner, Result
@@ -16,13 +17,16 @@ sys.path[:0] = [str(TOP / "desk"), str(REFERENCE)]
 sys.dont_write_bytecode = True
 
 from plandesk.cli import main  # noqa: E402
-from plandesk import fields  # noqa: E402
 from plandesk.engine import PROGRAM, Engine, find_engine  # noqa: E402
+from plandesk.programs import built  # noqa: E402
+
+from refusals import Refused  # noqa: E402
 
 if not os.environ.get("BALISEPLAN") and not PROGRAM.exists():
     os.environ["BALISEPLAN"] = f"/usr/bin/python3 -B {REFERENCE / 'baliseplan.py'}"
-if not os.environ.get("BALISEFIELDS") and not fields.PROGRAM.exists():
-    os.environ["BALISEFIELDS"] = f"/usr/bin/python3 -B {REFERENCE / 'balisefields.py'}"
+for name in ("balisefields", "balisefacts"):
+    if not os.environ.get(name.upper()) and not built(name).exists():
+        os.environ[name.upper()] = f"/usr/bin/python3 -B {REFERENCE / name}.py"
 os.environ["PLANDESK_WAIT"] = "20"
 
 Desk = Callable[..., Result]
@@ -87,6 +91,20 @@ def files(line: Path) -> tuple[str, str, str]:
     """The texts of the folder that a command may change."""
     journal, plan, reviews = ((line / name).read_text() for name in ("journal", "line.plan", "reviews"))
     return journal, plan, reviews
+
+
+def has_to_go(session: Any, serial: int) -> set[int]:
+    """What strikes of the reference name one after another, until the last one is accepted."""
+    found: set[int] = set()
+    while True:
+        state = session
+        try:
+            for each in [*sorted(found, reverse=True), serial]:
+                state = state.without(each)
+        except Refused as refused:
+            found.add(int(str(refused).split(" ")[2]))
+        else:
+            return found
 
 
 def plain(output: str) -> str:

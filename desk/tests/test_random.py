@@ -1,14 +1,15 @@
-"""Random plans and commands. The reference is the oracle for tags and dependents, which the desk asks the engine for."""
+"""Random plans and commands. The reference is the oracle for tags and dependents, which the desk asks balisefacts for."""
 
 from __future__ import annotations
 
 import os
+from collections.abc import Sequence
 from io import BytesIO
 from pathlib import Path
 from typing import Any
 
 import pytest
-from conftest import call
+from conftest import call, has_to_go
 from plandesk.changes import session_diff
 from plandesk.compose import compose
 from plandesk.desk import State, load
@@ -19,7 +20,6 @@ from plandesk.sentences import sentence
 
 import random_inputs
 import run as reference_run
-import session as reference_session
 
 COUNT = int(os.environ.get("PLANDESK_RANDOM", "60"))
 """Sessions; the check gives fewer with --quick."""
@@ -56,7 +56,8 @@ def test_a_random_session(seed: int, tmp_path: Path, engine: Engine) -> None:
     for entry in state.journal.entries:
         assert str(sentence(entry, state.names))
     for tag, at in state.tags.groups.items():
-        assert state.names.last_name(tag) == state.groups[at].name
+        assert state.identities.last(tag) == state.groups[at].name
+        assert list(state.groups.sizes(at)) == [len(telegram.packets) for telegram in state.groups[at].telegrams]
     changed = session_diff(state)
     before, after = state.base, state.run.plan
     assert bool(changed) or sorted(before.split("group\n")) == sorted(after.split("group\n"))
@@ -76,39 +77,36 @@ def check_tags(state: State, oracle: Any) -> None:
         for pig, telegram in enumerate(group.telegrams)
         for pkt, packet in enumerate(telegram.packets)
     }
-    assert packets == state.tags.packets
+    for path, place in packets.items():
+        assert (state.tags.packet(path), state.tags.path(place)) == (place, path)
+        assert state.tags.telegram(*path[:2]) == place[:2]
+    shapes = state.tags.shapes
+    assert sum(sum(shape.sizes) for shape in shapes.values()) == len(packets)
+    assert [len(group.telegrams) for group in groups] == [len(shapes[at].telegrams) for at in range(len(groups))]
 
 
 def check_dependents(state: State, oracle: Any) -> None:
-    """The desk's list is what all pairs that depend on each other come to; and its strikes are accepted."""
-    if not state.journal.standing:
-        return
-    standing = oracle.standing
-    pairs: dict[int, set[int]] = {}
-    for i, one in enumerate(standing):
-        for other in standing[i + 1 :]:
-            if not reference_session.are_apart(one, other) and not reference_session.stands_after(one, other):
-                pairs.setdefault(one.serial, set()).add(other.serial)
-    anchored = {entry.serial for entry in state.journal.entries if entry.kind in ("insert", "add", "move")}
-    for one in standing:
-        found = set(state.dependents.all_of(one.serial))
-        if not found & anchored and one.serial not in anchored:
-            assert found == reached(pairs, one.serial)  # else a strike re-anchors later edits, and other pairs meet
-        commands = [f"strike {serial}" for serial in [*state.dependents.all_of(one.serial), one.serial]]
+    """What the desk would strike is just what has to go, and its strikes are accepted."""
+    standing = [entry.serial for entry in state.journal.standing]
+    for serial in standing:
+        found = state.dependents.all_of(serial)
+        assert set(found) == has_to_go(oracle.levels[-1], serial)
+        check_reasons(state, serial, found)
+    for serial in standing[:: max(1, len(standing) // 4)]:
+        commands = [f"strike {each}" for each in (*state.dependents.all_of(serial), serial)]
         assert not state.engine.run(state.base, state.run.journal, commands, view=False).refused
-        if found:
-            short = [f"strike {serial}" for serial in [*state.dependents.all_of(one.serial)[:-1], one.serial]]
+        if len(commands) > 1:
+            short = [*commands[:-2], commands[-1]]
             assert state.engine.run(state.base, state.run.journal, short, view=False).refused
 
 
-def reached(pairs: dict[int, set[int]], serial: int) -> set[int]:
-    seen: set[int] = set()
-    waiting = [serial]
-    while waiting:
-        for later in pairs.get(waiting.pop(), set()) - seen:
-            seen.add(later)
-            waiting.append(later)
-    return seen
+def check_reasons(state: State, serial: int, found: Sequence[int]) -> None:
+    """Each edit that would go has a reason: an earlier one that goes, and a place of it."""
+    kinds = {entry.serial: entry.kind for entry in state.journal.standing}
+    for each in found:
+        earlier, place = state.dependents.reason(each, {serial, *found})
+        assert earlier in (serial, *found) and earlier < each
+        assert place or {kinds[earlier], kinds[each]} == {"insert", "delete"}
 
 
 def random_plan(seed: int, engine: Engine) -> str | None:

@@ -51,7 +51,7 @@ def test_help_and_version() -> None:
         assert call(name, "--help").exit_code == 0
     for page in PAGES.values():
         page_text = page.read_text().replace("\\-", "-")
-        for word in ("BALISEFIELDS", "BALISEPLAN_REFERENCE", "PLANDESK_WAIT", "130"):
+        for word in ("BALISEFIELDS", "BALISEFACTS", "BALISEPLAN_REFERENCE", "PLANDESK_WAIT", "130"):
             assert word in text and word in page_text
     assert VERSION in call("--version").output
     assert f'version = "{VERSION}"' in (DESK / "pyproject.toml").read_text()

@@ -116,11 +116,12 @@ def test_a_strike_names_what_depends(desk: Desk, line: Path) -> None:
     result = desk("strike", "1")
     assert result.exit_code == 1
     assert "2 later edits depend on 1" in result.output
-    assert "V_TSR 0 → 12 (0 km/h → 60 km/h)" in result.output
+    assert "V_TSR 0 → 12 (0 km/h → 60 km/h) needs 1: V_TSR 0 of 5.200 1 1" in plain(result.output)
     assert "plandesk strike 1 --with-dependents" in result.output
     assert files(line) == before
     assert json.loads(desk("strike", "1", "--json").output) == {
         "struck": [], "order": [3, 2, 1], "dependents": [2, 3], "set_for_it": [],
+        "needs": {"2": {"edit": 1, "place": "b1/1/n1.Q_SCALE.0"}, "3": {"edit": 1, "place": "b1/1/n1.V_TSR.0"}},
     }
     assert desk("strike", "1", "--with-dependents").exit_code == 0
     assert (line / "journal").read_text().endswith("undone 3\nundone 2\nundone 1\n")

@@ -9,8 +9,9 @@ from pathlib import Path
 
 import pytest
 from conftest import TOP, Desk, call, files
-from plandesk import fields
+from plandesk import fields, programs
 from plandesk.engine import find_engine
+from plandesk.facts import find_facts
 
 WRONG = """#!{python}
 import subprocess, sys
@@ -126,10 +127,11 @@ def test_it_is_missing(desk: Desk, line: Path, tmp_path: Path, monkeypatch: pyte
     engine = find_engine().name
     (tmp_path / "packet").write_text(REVOKED)
     monkeypatch.setenv("BALISEPLAN", engine)
+    monkeypatch.setenv("BALISEFACTS", find_facts().name)
     monkeypatch.delenv("BALISEFIELDS", raising=False)
     monkeypatch.setenv("PATH", str(tmp_path / "nothing"))
-    monkeypatch.setattr(fields, "PROGRAM", tmp_path / "nothing" / "balisefields")
-    monkeypatch.setattr(fields, "_beside_engine", lambda: "")
+    monkeypatch.setattr(programs, "built", lambda name: tmp_path / "nothing" / name)
+    monkeypatch.setattr(programs, "beside_engine", lambda name: "")
     before = files(line)
     said = "balisefields, the program that turns digits into fields and fields into digits, isn't beside baliseplan or on the path"
     for words in (["fields", "5.200"], ["do", f"insert 5.200 1 0 @{tmp_path}/packet"]):
@@ -161,11 +163,11 @@ def test_it_is_found_beside_the_engine(tmp_path: Path, monkeypatch: pytest.Monke
         ("path", str(tmp_path / "archive" / "baliseplan"), beside),
         ("path", "python3 -B baliseplan.py", on_path),
         ("path", "", on_path),
-        ("nothing", "", str(fields.PROGRAM)),
+        ("nothing", "", str(programs.built("balisefields"))),
     ):
         monkeypatch.setenv("PATH", ":".join(str(tmp_path / each) for each in path.split(":")))
         monkeypatch.setenv("BALISEPLAN", engine)
-        if found != str(fields.PROGRAM) or fields.PROGRAM.exists():
+        if found != str(programs.built("balisefields")) or programs.built("balisefields").exists():
             assert fields.find_fields().name == found
     monkeypatch.setenv("BALISEFIELDS", "python3 -B balisefields.py")
     assert fields.find_fields().words == ("python3", "-B", "balisefields.py")

@@ -27,6 +27,7 @@ bad, 3 a fault (disk, memory, no engine), 64 wrong arguments, 130 stopped by han
 \b
 BALISEPLAN            the engine, where it isn't `baliseplan` on the path
 BALISEFIELDS          balisefields, where it isn't beside the engine or on the path
+BALISEFACTS           balisefacts, the same
 BALISEPLAN_REFERENCE  the reference program, for verify and report
 PLANDESK_WAIT         seconds to wait for another plandesk in the folder (10)"""
 

@@ -39,8 +39,8 @@ def reasons(state: State, outcome: Outcome) -> dict[int, str]:
     return found
 
 
-def tell(state: State, after: State, outcome: Outcome, where: Sequence[str], dry_run: bool) -> None:
-    tell_replies(after, outcome, reasons(state, outcome), where)
+def tell(state: State, after: State, outcome: Outcome, names: Names, where: Sequence[str], dry_run: bool) -> None:
+    tell_replies(names, outcome, reasons(state, outcome), where)
     if outcome.new_reviews.items and (outcome.kept or dry_run):
         number = out.count(len(outcome.new_reviews.items), "line")
         out.line()
@@ -55,19 +55,18 @@ def tell(state: State, after: State, outcome: Outcome, where: Sequence[str], dry
         warn_not_followed(after, outcome)
 
 
-def tell_replies(after: State, outcome: Outcome, why: dict[int, str], where: Sequence[str]) -> None:
+def tell_replies(names: Names, outcome: Outcome, why: dict[int, str], where: Sequence[str]) -> None:
     shown = list(enumerate(outcome.pairs))
     if len(shown) > MOST_SHOWN:
         shown = [(at, pair) for at, pair in shown if pair[1].refused][:MOST_SHOWN]
     rows: list[list[out.Cell]] = []
-    names = names_for(after, outcome)
     for at, (command, reply) in shown:
         text = Text(out.short(command))
         if reply.refused:
             place = Text(where[at] if where else "", "dim")
             rows.append([Text("refused", "bold red"), text, Text(why[at], "red"), place])
         else:
-            rows.append([Text(reply.text, "green"), text, Text(said(after, names, reply.number, command), "dim")])
+            rows.append([Text(reply.text, "green"), text, Text(said(names, reply.number, command), "dim")])
     out.table(rows)
     if len(shown) < len(outcome.pairs):
         accepted = len(outcome.pairs) - outcome.refused
@@ -79,14 +78,14 @@ def names_for(after: State, outcome: Outcome) -> Names:
     lines = [command.split(" ") for command, reply in outcome.pairs if not reply.refused]
     if len(lines) == 1 and lines[0][0] == "renumber":
         return after.names_of({f"{lines[0][1].split('.')[0]}.{lines[0][2]}"})
-    if any(words[0] not in KEEPS_GROUP for words in lines):
+    if outcome.new_reviews.items or any(words[0] not in KEEPS_GROUP for words in lines):
         return after.names
     return after.names_of({words[1] for words in lines})
 
 
-def said(after: State, names: Names, serial: int, command: str) -> str:
+def said(names: Names, serial: int, command: str) -> str:
     """An edit in words; its place only where the command hasn't it."""
-    entry = after.journal.by_serial.get(serial)
+    entry = names.journal.by_serial.get(serial)
     if entry is None:
         return ""
     words: Sentence = sentence(entry, names)

@@ -3,6 +3,7 @@
 from __future__ import annotations
 
 from collections.abc import Sequence
+from dataclasses import replace
 from pathlib import Path
 from typing import Any
 
@@ -56,8 +57,10 @@ def reviews(
 
 def ticked(folder: Folder, numbers: Sequence[int], done: bool) -> State:
     state = load(folder)
-    folder.write({files.REVIEWS: state.reviews.marked(numbers, done).text()})
-    return load(folder)
+    state = replace(state, reviews=state.reviews.marked(numbers, done))
+    state.names  # what is shown is asked for before anything is kept
+    folder.write({files.REVIEWS: state.reviews.text()})
+    return state
 
 
 def print_commands(state: State, shown: Sequence[Review]) -> None:

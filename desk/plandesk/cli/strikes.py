@@ -2,7 +2,7 @@
 
 from __future__ import annotations
 
-from collections.abc import Sequence
+from collections.abc import Collection, Sequence
 
 import click
 from rich.text import Text
@@ -12,6 +12,7 @@ from plandesk.cli.base import complete_serial, in_folder, json_option, load, mai
 from plandesk.desk import State
 from plandesk.errors import OK, REFUSED, Refusal
 from plandesk.folder import Folder
+from plandesk.places import place_words, room_words
 from plandesk.sentences import sentence
 
 
@@ -24,24 +25,30 @@ from plandesk.sentences import sentence
 def strike(folder: Folder, serials: tuple[int, ...], with_dependents: bool, dry_run: bool, as_json: bool) -> int:
     """Take back edit N, and keep the later ones. `plandesk redo` brings it back.
 
-    If later edits depend on N they are listed, and nothing is changed. --with-dependents strikes them too.
+    If later edits depend on N they are listed, each with an edit that it needs and the place where they meet,
+    and nothing is changed. --with-dependents strikes them too.
     """
     state = load(folder)
     check_standing(state, serials)
-    wanted = set(serials)
-    for serial in serials:
-        wanted |= set(state.dependents_of(serial))
+    wanted = {*serials, *state.dependents.all_of(*serials)}
     order = sorted(wanted, reverse=True)
     more = [serial for serial in order if serial not in serials]
     stay = set_for(state, wanted)
     refused = bool(more) and not with_dependents
     if not refused:
-        outcome = desk.do(state, [f"strike {serial}" for serial in order], dry_run=dry_run)
+        outcome = desk.tried(state, [f"strike {serial}" for serial in order], dry_run=dry_run)
         if outcome.run.refused:
             raise Refusal("the engine refused: " + next(r.text for _, r in outcome.pairs if r.refused))
-    if as_json:
+    names = None if as_json else state.names
+    if not refused:
+        desk.keep(state, outcome)
+    if names is None:
         struck = [] if refused or dry_run else order
-        out.dump({"struck": struck, "order": order, "dependents": more[::-1], "set_for_it": stay})
+        why = {str(serial): state.dependents.reason(serial, wanted) for serial in more[::-1]}
+        meets = {serial: {"edit": earlier, "place": place} for serial, (earlier, place) in why.items()}
+        out.dump(
+            {"struck": struck, "order": order, "dependents": more[::-1], "needs": meets, "set_for_it": stay}
+        )
     elif refused:
         tell_dependents(state, serials, order, more[::-1])
     else:
@@ -57,18 +64,27 @@ def check_standing(state: State, serials: Sequence[int]) -> None:
             raise Refusal(what, "`plandesk log` lists the edits")
 
 
-def table(state: State, numbers: Sequence[int]) -> None:
+def table(state: State, numbers: Sequence[int], struck: Collection[int] = ()) -> None:
+    """Edits in words; with those that are to be struck, what each needs of them."""
     rows: list[list[out.Cell]] = []
     for number in numbers:
         words = sentence(state.journal.by_serial[number], state.names)
-        rows.append([str(number), Text(words.place, "cyan"), words.what])
+        why = reason_words(state, number, struck) if struck else ""
+        rows.append([str(number), Text(words.place, "cyan"), words.what, Text(why, "dim")])
     out.table(rows, indent="  ", right=frozenset({0}))
+
+
+def reason_words(state: State, serial: int, struck: Collection[int]) -> str:
+    """Which of the struck edits an edit needs, and the place where they meet."""
+    earlier, place = state.dependents.reason(serial, struck)
+    words = place_words(place, state.names) if place else room_words(state.journal.by_serial[serial], state.names)
+    return f"needs {earlier}: {words}"
 
 
 def tell_dependents(state: State, serials: Sequence[int], order: Sequence[int], more: Sequence[int]) -> None:
     verb = "depends" if len(more) == 1 else "depend"
     out.line(Text(f"{out.count(len(more), 'later edit')} {verb} on {out.listed(serials)}", "bold red"), ":")
-    table(state, more)
+    table(state, more, set(order))
     out.line()
     command = f"`plandesk strike {' '.join(map(str, serials))} --with-dependents`"
     out.line("Nothing was changed. ", Text(f"{command} strikes {out.listed(order)}.", "dim"))

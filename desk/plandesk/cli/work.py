@@ -10,7 +10,7 @@ from rich.text import Text
 
 from plandesk import command_lines, desk, folder as files, out
 from plandesk.cli.base import in_folder, json_option, load, main
-from plandesk.cli.outcome import outcome_data, tell
+from plandesk.cli.outcome import names_for, outcome_data, tell
 from plandesk.desk import State
 from plandesk.errors import OK, REFUSED, Refusal, Usage
 from plandesk.folder import Folder
@@ -45,14 +45,16 @@ def do(
     lines, where = given_lines(words, source)
     state = load(folder)
     written = Writer(state.engine, state.base, state.journal_text).write_out(lines)
-    outcome = desk.do(
+    outcome = desk.tried(
         state, written.commands, keep_accepted=keep_accepted, dry_run=dry_run, origins=written.origins
     )
     after = desk.after_of(state, outcome)
-    if as_json:
+    names = None if as_json else names_for(after, outcome)
+    desk.keep(state, outcome)
+    if names is None:
         out.dump(outcome_data(state, after, outcome))
     else:
-        tell(state, after, outcome, [where[at] for at in written.origins] if where else [], dry_run)
+        tell(state, after, outcome, names, [where[at] for at in written.origins] if where else [], dry_run)
     return REFUSED if outcome.run.refused else OK
 
 
@@ -99,14 +101,15 @@ def again(state: State, word: str, count: int, dry_run: bool, as_json: bool) -> 
     serials = next_serials(state, word, count)
     if word == "undo" and not dry_run and not as_json:
         ask_after_strike(state, serials)
-    outcome = desk.do(state, [word] * count, dry_run=dry_run)
+    outcome = desk.tried(state, [word] * count, dry_run=dry_run)
     if outcome.run.refused:
         raise Refusal("the engine refused: " + next(reply.text for _, reply in outcome.pairs if reply.refused))
     after = desk.after_of(state, outcome)
-    if as_json:
+    names = None if as_json else (after if word == "redo" else state).names
+    desk.keep(state, outcome)
+    if names is None:
         out.dump(outcome_data(state, after, outcome))
         return OK
-    names = (after if word == "redo" else state).names
     rows: list[list[out.Cell]] = []
     for serial in serials:
         words = f"would be {word}ne" if dry_run else f"{word}ne"

@@ -71,7 +71,8 @@ link_and_lower() {
     "$clang" "${flags[@]}" -ffreestanding -fno-builtin "$here/heap.c" -o "$work/heap.o"
     ln -s "$kit/toolchain/bin/ld.lld" "$work/wasm-ld"
     "$work/wasm-ld" -mwasm64 --no-entry --gc-sections --strip-all -z stack-size=1048576 --export-memory \
-        --export=baliseplan_run --export=baliseplan_size --export=baliseplan_explain --export=baliseplan_spell \
+        --export=baliseplan_run --export=baliseplan_size --export=baliseplan_facts --export=baliseplan_explain \
+        --export=baliseplan_spell \
         --export=baliseplan_abi --export=malloc \
         "$work/engine.o" "$work/heap.o" -o "$work/engine64.wasm"
     wasm-opt --enable-memory64 --enable-mutable-globals --enable-sign-ext --memory64-lowering -O1 \

@@ -40,6 +40,16 @@ void free(void *p)
 }
 
 void *memcpy(void *restrict, const void *restrict, size_t);
+void *memset(void *, int, size_t);
+
+/* The compiler calls it where a block is filled with zeros first. */
+void *calloc(size_t count, size_t size)
+{
+    if (size && count > LARGEST / size) return 0;
+    void *p = malloc(count * size);
+    if (p) memset(p, 0, count * size);
+    return p;
+}
 
 void *realloc(void *p, size_t n)
 {

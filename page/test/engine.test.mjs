@@ -9,7 +9,8 @@ import { base, engine, none } from './setup.mjs';
 test('it reaches nothing but its own memory', () => {
   assert.deepEqual(WebAssembly.Module.imports(engine.module), []);
   const names = WebAssembly.Module.exports(engine.module).map(({ name }) => name);
-  for (const name of ['baliseplan_abi', 'baliseplan_explain', 'baliseplan_run', 'baliseplan_spell', 'malloc', 'memory']) assert.ok(names.includes(name), name);
+  for (const name of ['baliseplan_abi', 'baliseplan_explain', 'baliseplan_facts', 'baliseplan_run', 'baliseplan_spell', 'malloc', 'memory'])
+    assert.ok(names.includes(name), name);
   const { exports } = new WebAssembly.Instance(engine.module, {});
   assert.equal(/** @type {any} */ (exports).baliseplan_abi(), 1);
 });

@@ -106,7 +106,7 @@ test('damaged files', () => {
 test('edits and differences', () => {
   for (const { about, base, commands, edits, differences } of examples('sessions.json')) {
     const made = session(base, commands);
-    assert.deepEqual(made.words.map(({ s, stands, where, what, detail }) => [s, stands, where, plain(what), plain(detail)]),
+    assert.deepEqual(made.words().map(({ s, stands, where, what, detail }) => [s, stands, where, plain(what), plain(detail)]),
       edits, about);
     assert.deepEqual(JSON.parse(plain(JSON.stringify(made.changes().map(shown)))), differences, about);
   }

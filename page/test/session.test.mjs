@@ -92,7 +92,7 @@ test('the session of docs/GUIDE.md: turn, reviews, strike with its chain', () =>
   assert.equal(later.edits[later.edits.length - 1].path, turned.reviews[1].path + '.D_LINK.0');
   assert.equal(later.edits[0].what, 'V_TSR 8 → 6 (40 km/h → 30 km/h)');
   assert.equal(later.edits[0].where, '5.250');
-  assert.deepEqual(session.chain(3), { strikes: [4, 5, 6, 7, 8, 3], whole: true, first: 4 });
+  assert.deepEqual(session.chain(3), { strikes: [8, 7, 6, 5, 4, 3], whole: true, first: 4 });
   assert.deepEqual(done(session, ['strike 1']).replies.map(({ text }) => text), ['struck 1']);
   assert.deepEqual(session.run(['strike 3']).replies.map(({ text }) => text), ['refused 26 DependsOn 4']);
   const changes = session.changes();

@@ -1,5 +1,5 @@
 // @ts-check
-/** The proved engine behind three calls. No other module reads or writes its memory. */
+/** The proved engine as four calls. No other module reads or writes its memory. */
 
 /** The flags of a run, to be combined by |. */
 export const FLAG = Object.freeze({ quiet: 1, stop: 2, journal: 4, json: 8 });
@@ -8,6 +8,9 @@ export const FLAG = Object.freeze({ quiet: 1, stop: 2, journal: 4, json: 8 });
 export const STATUS = Object.freeze({
   accepted: 0, refused: 1, bad: 2, tooLong: 29, noMemory: 30, full: 32, usage: 64,
 });
+
+/** What facts are asked for: those of all edits that stand, or the tags of the plan. */
+export const FACTS = Object.freeze({ edits: 0, tags: 2 });
 
 /**
  * @typedef {object} Run
@@ -43,6 +46,15 @@ export class Engine {
   }
 
   /**
+   * Does what `balisefacts < input > output` does: of each edit that stands what depends on it, or with FACTS.tags what
+   * `balisefacts --tags` does: where tags stand (docs/FORMATS.md, Facts).
+   * @param {Uint8Array} input @param {number} [what] of FACTS
+   */
+  facts(input, what = FACTS.edits) {
+    return this.#withRoom('baliseplan_facts', input, [what, 0], input.length * 4 + 65536);
+  }
+
+  /**
    * Does what `balisefields < input > output` does: the fields of digits (docs/FIELDS.md).
    * @param {Uint8Array} input
    */
@@ -60,7 +72,7 @@ export class Engine {
 
   /**
    * Calls again with more room until the output fits.
-   * @param {string} name of the call @param {Uint8Array} input @param {number[]} flags none, or one
+   * @param {string} name of the call @param {Uint8Array} input @param {number[]} flags words between input and output
    * @param {number} first bytes for the output @returns {Run}
    */
   #withRoom(name, input, flags, first) {

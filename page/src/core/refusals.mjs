@@ -62,3 +62,14 @@ export function unknownVariable(command) {
   return !name || name in VARIABLES ? ''
     : `the engine knows no variable ${name}. It is misspelt, or of a packet that is kept bit for bit`;
 }
+
+/**
+ * A failure in words.
+ * @param {{number: number, name: string, file: 'base'|'journal'|'end'|'', line: number, text: string}} failure
+ */
+export function failureText(failure) {
+  const { name, what, usually } = explain(failure.number);
+  const file = { base: 'the plan', journal: 'the journal', end: '', '': '' }[failure.file];
+  const title = file ? `Line ${failure.line} of ${file}: ${what}` : what;
+  return { title, name: `${failure.number} ${name}`, usually, line: failure.text };
+}

@@ -15,7 +15,7 @@ import { meaning, packetName, scaleOf } from './variables.mjs';
  * @typedef {object} Look what the plan has
  * @property {(index: number) => string} now identity of the group at a place
  * @property {(tag: string) => string} was what a group was that isn't in the plan
- * @property {(index: number) => number} balises
+ * @property {(path: string) => number | undefined} number of a packet, also of one that is gone
  * @property {(group: number, pig: number, pkt: number) => [string, number][] | undefined} packet its fields
  */
 
@@ -48,6 +48,16 @@ function pathOf({ kind, s, words }) {
   return kind === 'insert' ? `${words[0]}/n${s}` : words[0];
 }
 
+/**
+ * The same with the variable.
+ * @param {import('./journal.mjs').Entry} entry
+ */
+function variablePath(entry) {
+  const [, name, k] = entry.words;
+  const path = pathOf(entry);
+  return entry.kind === 'set' ? `${path}.${name}.${k}` : entry.kind === 'seth' ? `${path}.${name}` : path;
+}
+
 /** @param {string} path @param {Edit['place']} place @param {number | undefined} number of the packet */
 function detailWords(path, place, number) {
   const [, t, p] = path.split('/');
@@ -58,27 +68,25 @@ function detailWords(path, place, number) {
 }
 
 /**
- * @param {import('./journal.mjs').Entry} entry @param {import('./journal.mjs').Places} places @param {Look} look
+ * @param {import('./journal.mjs').Entry} entry @param {import('./tags.mjs').Tags} tags @param {Look} look
  * @returns {Edit}
  */
-function entryInWords(entry, places, look) {
+function entryInWords(entry, tags, look) {
   const { s, kind, stands, line, words } = entry;
   const path = pathOf(entry);
-  const place = places.find(path, look.balises);
-  const number = places.known.get(path)?.number;
+  const place = tags.find(path);
+  const number = look.number(path);
   const where = place ? look.now(place.group) : look.was(path.split('/')[0]);
   /** @type {Edit} */
-  const edit = { s, kind, stands, line, where, detail: detailWords(path, place, number), place, path, what: '' };
+  const edit = { s, kind, stands, line, where, detail: detailWords(path, place, number), place, path: variablePath(entry), what: '' };
   if (kind === 'set') {
     const [, name, k, value, old] = words;
     const fields = place?.pig != null && place.pkt != null ? look.packet(place.group, place.pig, place.pkt) : undefined;
     edit.what = `${name}${Number(k) > 0 ? ` (${k})` : ''} ${changeWords(name, old, value, scaleOf(fields ?? []))}`;
-    edit.path = `${path}.${name}.${k}`;
     if (place) edit.place = { ...place, name, k: Number(k) };
   } else if (kind === 'seth') {
     const [, name, value, old] = words;
     edit.what = `${name} ${changeWords(name, old, value)}`;
-    edit.path = `${path}.${name}`;
     if (place) edit.place = { ...place, name };
   } else edit.what = DID[kind](String(number ?? '?'), words);
   return edit;
@@ -86,6 +94,27 @@ function entryInWords(entry, places, look) {
 
 /**
  * The entries in words.
- * @param {import('./journal.mjs').Journal} journal @param {import('./journal.mjs').Places} places @param {Look} look
+ * @param {import('./journal.mjs').Journal} journal @param {import('./tags.mjs').Tags} tags @param {Look} look
  */
-export const inWords = (journal, places, look) => journal.entries.map((entry) => entryInWords(entry, places, look));
+export const inWords = (journal, tags, look) => journal.entries.map((entry) => entryInWords(entry, tags, look));
+
+/**
+ * The entries by their lines, as they are shown until their words are there.
+ * @param {import('./journal.mjs').Journal} journal @returns {Edit[]}
+ */
+export const byLines = (journal) => journal.entries.map((entry) => {
+  const { s, kind, stands, line } = entry;
+  return { s, kind, stands, line, what: line, where: '', detail: '', place: null, path: variablePath(entry) };
+});
+
+/**
+ * Entries by their lines, with the words that they had before: most are still right.
+ * @param {Edit[]} edits @param {Edit[]} before
+ */
+export function withLastWords(edits, before) {
+  const known = new Map(before.map((edit) => [edit.line, edit]));
+  return edits.map((edit) => {
+    const { what, where, detail } = known.get(edit.line) ?? edit;
+    return { ...edit, what, where, detail };
+  });
+}

@@ -2,7 +2,8 @@
 /** The state of the page and what can be done with it. Views listen to its events and call its actions. */
 import { faultWords } from '../core/faults.mjs';
 import { pendingSummaries } from '../core/links.mjs';
-import { explain, unknownVariable } from '../core/refusals.mjs';
+import { explain, failureText, unknownVariable } from '../core/refusals.mjs';
+import { withLastWords } from '../core/words.mjs';
 import { saveText } from './disk.mjs';
 import { Keeper } from './keeper.mjs';
 import { plural } from './dom.mjs';
@@ -22,17 +23,6 @@ import { plural } from './dom.mjs';
  */
 
 const DECODED_AT_ONCE = 4000;
-
-/**
- * A failure in words.
- * @param {import('../worker/session.mjs').Failure} failure
- */
-export function failureText(failure) {
-  const { name, what, usually } = explain(failure.number);
-  const file = { base: 'the plan', journal: 'the journal', end: '', '': '' }[failure.file];
-  const title = file ? `Line ${failure.line} of ${file}: ${what}` : what;
-  return { title, name: `${failure.number} ${name}`, usually, line: failure.text };
-}
 
 export class App {
   /** @param {import('./worker_calls.mjs').WorkerCalls} worker */
@@ -143,7 +133,8 @@ export class App {
       else if (at === 0 && removed === this.groups.length) this.groups = groups;
       else this.groups = [...this.groups.slice(0, at), ...groups, ...this.groups.slice(at + removed)];
     }
-    const { edits, stack, next, journal, changed, ms } = update;
+    const { stack, next, journal, changed, ms } = update;
+    const edits = update.inWords ? update.edits : withLastWords(update.edits, this.edits);
     Object.assign(this, { edits, stack, next, journal, runMs: ms, changed: new Set(changed) });
     const first = this.reviews.length;
     this.reviews.push(...update.reviews.map((review, i) => ({ ...review, done: false, id: first + i })));
@@ -153,8 +144,19 @@ export class App {
       this.read = this.groups.some((group) => group.pending) ? 0 : 1;
     }
     this.emit('plan');
+    if (!update.inWords) this.#findWords();
     if (!this.whole) this.#decode();
     else if (update.splices.length > 0) this.#findDangling();
+  }
+
+  /** The entries in words, where an update has them by their lines alone: after what the views ask for at once. */
+  async #findWords() {
+    const { version } = this;
+    await null;
+    const edits = await this.worker.call('words');
+    if (version !== this.version) return;
+    this.edits = edits;
+    this.emit('words');
   }
 
   async #findDangling() {

@@ -3,7 +3,7 @@
  * The report of a check: verdict, facts, what differs, the change request, the edits, and the checksums. It prints well.
  */
 import { metresText } from '../core/variables.mjs';
-import { failureText } from './app.mjs';
+import { failureText } from '../core/refusals.mjs';
 import { groupDiff } from './diff_view.mjs';
 import { button, h, icon, plural, put } from './dom.mjs';
 import { fieldsView } from './fields_view.mjs';

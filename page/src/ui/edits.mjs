@@ -71,7 +71,7 @@ const nothingChosen = (count) => (count === 0
  * @param {(serial: number) => void} choose
  */
 function editDetail(app, edit, chain, choose) {
-  const others = (chain?.strikes ?? []).filter((s) => s !== edit.s);
+  const others = (chain?.strikes ?? []).filter((s) => s !== edit.s).reverse(); // by rising serial
   const top = app.stack[app.stack.length - 1];
   const state = !edit.stands ? h('p.muted', null, 'It doesn’t stand. ',
     top === edit.s ? 'Redo brings it back.' : `Redo brings back ${top} first.`)

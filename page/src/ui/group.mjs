@@ -70,6 +70,7 @@ export function groupPanel(app) {
   }
 
   app.on('select', show);
+  app.on('words', () => { if (app.view === 'edit' && !document.querySelector('.editor')) show(); });
   app.on('links', () => { if (!complete && app.view === 'edit' && !document.querySelector('.editor')) show(); });
   return panel;
 }

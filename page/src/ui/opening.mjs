@@ -5,7 +5,7 @@
 import { clean } from '../core/damage.mjs';
 import { kindOf, partsOf } from '../core/files.mjs';
 import { textOf } from '../core/texts.mjs';
-import { failureText } from './app.mjs';
+import { failureText } from '../core/refusals.mjs';
 import { ask } from './dialogs.mjs';
 import { h, plural } from './dom.mjs';
 import { fieldsView } from './fields_view.mjs';

@@ -47,6 +47,7 @@ export function sidePanel(app) {
   const refresh = () => { paint(); panes[tab].show(); };
   app.on('plan', refresh);
   app.on('reviews', refresh);
+  app.on('words', refresh);
   app.on('side', choose);
   app.on('edit', (serial) => { choose('edits'); app.emit('pane', 'side'); panes.edits.choose(serial); });
   choose('edits');

@@ -64,7 +64,7 @@ export class Checker {
    */
   #describe(answer) {
     const { made, cleaned } = this;
-    answer.edits = made.words;
+    answer.edits = made.words();
     answer.changes = made.changes();
     answer.rewritten = cleaned.journal.length > 0 && made.journal !== textOf(cleaned.journal);
     if (!answer.failures.delivered) answer.differs = planDiff(made.decoder, made.groups, this.other.groups);

@@ -152,7 +152,7 @@ class Trials {
  * @param {Trials} trials @returns {Finding | null}
  */
 function older(trials) {
-  const standing = trials.made.words.filter(({ stands }) => stands);
+  const standing = trials.made.read.entries.filter(({ stands }) => stands);
   for (let count = 1; count <= Math.min(standing.length, 40) && !trials.over; count += 1)
     if (trials.give(new Array(count).fill('undo'))) {
       const serials = standing.slice(-count).map(({ s }) => s);
@@ -176,7 +176,7 @@ const more = (s) => ({
  */
 function entryMore(trials, answer) {
   const touched = new Set(answer.differs.flatMap(({ before, after }) => [before, after]));
-  const candidates = trials.made.words.filter(({ stands, where }) => stands && touched.has(where)).reverse();
+  const candidates = trials.made.words().filter(({ stands, where }) => stands && touched.has(where)).reverse();
   for (const { s } of candidates) {
     if (trials.over) return null;
     if (trials.give([`strike ${s}`])) return more(s);

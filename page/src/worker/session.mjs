@@ -5,12 +5,14 @@
  */
 import { splitAtTurns } from '../core/commands.mjs';
 import { diffGroup } from '../core/diff.mjs';
-import { FLAG, STATUS } from '../core/engine.mjs';
+import { FACTS, FLAG, STATUS } from '../core/engine.mjs';
+import { factsOf, reached } from '../core/facts.mjs';
 import { placeOfLine } from '../core/files.mjs';
-import { Places, groupsNamed, readJournal, shapeOf } from '../core/journal.mjs';
+import { groupOrder, groupsNamed, numbersIn, packetNumbers, readJournal } from '../core/journal.mjs';
+import { Tags } from '../core/tags.mjs';
 import { badOf, bytesOf, groupTexts, inputOf, repliesOf, splitOutput, textOf } from '../core/texts.mjs';
-import { inWords } from '../core/words.mjs';
-import { Decoder, balisesOf, idOf } from './decoder.mjs';
+import { byLines, inWords } from '../core/words.mjs';
+import { Decoder, idOf } from './decoder.mjs';
 import { Overview } from './overview.mjs';
 import { loneDiff, planDiff } from './plan_diff.mjs';
 import { explainCommand, explainRefused, isOfDigits } from './speller.mjs';
@@ -28,7 +30,8 @@ import { explainCommand, explainRefused, isOfDigits } from './speller.mjs';
  * @property {true} kept
  * @property {Reply[]} replies
  * @property {import('./overview.mjs').Splice[]} splices changes of the list of groups, the last first
- * @property {string} journal @property {import('../core/words.mjs').Edit[]} edits
+ * @property {string} journal
+ * @property {import('../core/words.mjs').Edit[]} edits @property {boolean} inWords whether these have their words
  * @property {number[]} stack @property {number} next @property {number} ms time in the engine
  * @property {Review[]} reviews new ones
  * @property {number[]} changed groups that differ from the base plan
@@ -37,6 +40,8 @@ import { explainCommand, explainRefused, isOfDigits } from './speller.mjs';
 
 /** More entries than these are shown by their lines only. */
 export const MOST_IN_WORDS = 20000;
+/** With more groups than these an update has the entries by their lines: where tags stand takes the engine as long as an edit. */
+const MOST_AT_ONCE = 20000;
 
 /** Of a refused line this much is shown: the digits of the longest telegram. */
 const MOST_SHOWN = 208;
@@ -56,16 +61,19 @@ export class Session {
   /** @param {import('../core/engine.mjs').Engine} engine */
   constructor(engine) {
     this.engine = engine;
+    this.mostAtOnce = MOST_AT_ONCE;
     this.decoder = new Decoder(engine);
     this.overview = new Overview(this.decoder);
     this.base = new Uint8Array(0);
     this.journal = '';
     this.plan = '';
     /** @type {string[]} */ this.baseGroups = [];
-    this.places = new Places(0, new Map());
-    /** @type {Map<string, import('../core/journal.mjs').Shape>} by tag of a base group, or digits of an added one */
-    this.shapes = new Map();
-    /** @type {import('../core/words.mjs').Edit[]} the entries of the journal in words */ this.words = [];
+    this.read = readJournal(this.journal);
+    /** @type {string[]} tags of the groups in plan order */ this.order = [];
+    /** @type {Tags | null} as the engine gave them for this plan and journal */ this.asked = null;
+    /** @type {import('../core/words.mjs').Edit[] | null} the entries in words, once they were asked for */ this.told = null;
+    /** @type {Map<string, import('../core/journal.mjs').Numbers>} by tag of a base group, or digits of an added one */
+    this.came = new Map();
     /** @type {Map<string, Group>} views by the text of a group, so that the same text is decoded once */
     this.views = new Map();
   }
@@ -172,16 +180,23 @@ export class Session {
 
   /** @param {import('../core/texts.mjs').Output} parts @param {Reply[]} replies @param {number} ms @returns {Update} */
   #take(parts, replies, ms) {
-    const splices = this.overview.update(groupTexts(parts.plan));
-    this.plan = parts.plan;
-    this.journal = parts.journal;
-    const words = this.#words();
-    this.words = words.edits;
+    const texts = groupTexts(parts.plan);
+    const read = readJournal(parts.journal);
+    const order = groupOrder(this.baseGroups.length, read);
+    if (order.length !== texts.length) throw new Error('the groups of the journal don’t fit the plan');
+    const inTime = texts.length <= this.mostAtOnce || read.entries.length === 0;
+    const needed = (inTime && read.entries.length > 0) || replies.some(({ reviews }) => reviews.length > 0);
+    // Asked for first: where the engine fails, nothing has changed.
+    const asked = needed ? this.#askTags(parts.journal, order) : null;
+    const splices = this.overview.update(texts);
+    Object.assign(this, { plan: parts.plan, journal: parts.journal, read, order, asked, told: null });
+    const { stack, next } = read;
+    const edits = inTime ? this.words() : byLines(read);
     /** @type {number[]} */
     const changed = [];
     for (let i = 0; i < this.groups.length; i += 1) if (this.groups[i] !== this.#baseOf(i)) changed.push(i);
     return {
-      kept: true, replies, splices, journal: this.journal, ...words, reviews: this.#reviews(replies), changed, ms,
+      kept: true, replies, splices, journal: this.journal, stack, next, edits, inWords: inTime, reviews: this.#reviews(replies), changed, ms,
     };
   }
 
@@ -194,7 +209,7 @@ export class Session {
     const bases = indexes.map((i) => this.#baseOf(i));
     const before = this.decoder.decoded(bases.flatMap((text) => text ?? []));
     let at = 0;
-    return now.map((each, i) => ({ ...each, tag: this.places.order[indexes[i]], base: bases[i] === null ? null : before[at++] }));
+    return now.map((each, i) => ({ ...each, tag: this.order[indexes[i]], base: bases[i] === null ? null : before[at++] }));
   }
 
   /**
@@ -202,7 +217,7 @@ export class Session {
    * @param {number} index
    */
   #baseOf(index) {
-    const tag = this.places.order[index] ?? '';
+    const tag = this.order[index] ?? '';
     return tag.startsWith('b') ? this.baseGroups[Number(tag.slice(1))] : null;
   }
 
@@ -213,50 +228,63 @@ export class Session {
     for (const [i, text] of this.groups.entries()) if (text !== this.#baseOf(i)) indexes.push(i);
     const diffs = this.look(indexes).map(({ base, ...now }, i) =>
       ({ index: indexes[i], ...(base ? diffGroup(base, now) : loneDiff('added', now)) }));
-    const here = new Set(this.places.order);
+    const here = new Set(this.order);
     const gone = this.baseGroups.filter((_, i) => !here.has('b' + i));
     return [...diffs, ...this.decoder.decoded(gone).map((each) => ({ index: -1, ...loneDiff('removed', each) }))];
   }
 
   /**
-   * The shapes of the groups that the journal names, as they came into the plan.
-   * @param {import('../core/journal.mjs').Journal} journal
+   * Where tags stand now. The engine is asked once for a plan and journal, when something needs it.
    */
-  #shapesNamed(journal) {
-    const missing = groupsNamed(journal).filter((tag) => tag.startsWith('b') && !this.shapes.has(tag));
+  get tags() {
+    this.asked ??= this.#askTags(this.journal, this.order);
+    return this.asked;
+  }
+
+  /** @param {string} journal @param {string[]} order the tags of the groups after it */
+  #askTags(journal, order) {
+    const tags = new Tags(this.#factsText(journal, [], FACTS.tags));
+    if (tags.order.length !== order.length || tags.order.some((tag, i) => tag !== order[i]))
+      throw new Error('the engine’s tags don’t fit the plan');
+    return Object.assign(tags, { order }); // the same, and held once
+  }
+
+  /**
+   * The numbers of packets in the groups that the journal names, as these came into the plan.
+   */
+  #numbersNamed() {
+    const missing = groupsNamed(this.read).filter((tag) => tag.startsWith('b') && !this.came.has(tag));
     const views = this.decoder.views(missing.map((tag) => this.baseGroups[Number(tag.slice(1))]));
-    for (const [i, view] of views.entries()) this.shapes.set(missing[i], shapeOf(view));
-    const named = new Map([...this.shapes].filter(([tag]) => tag.startsWith('b')));
-    for (const { kind, s, words } of journal.entries) {
+    for (const [i, view] of views.entries()) this.came.set(missing[i], numbersIn(view));
+    const named = new Map([...this.came].filter(([tag]) => tag.startsWith('b')));
+    for (const { kind, s, words } of this.read.entries) {
       if (kind !== 'add') continue;
       const digits = words.slice(1).join('\n') + '\n';
-      const shape = this.shapes.get(digits) ?? shapeOf(this.decoder.views([digits])[0]);
-      this.shapes.set(digits, shape);
-      named.set('n' + s, shape);
+      const numbers = this.came.get(digits) ?? numbersIn(this.decoder.views([digits])[0]);
+      this.came.set(digits, numbers);
+      named.set('n' + s, numbers);
     }
     return named;
   }
 
   /** The entries of the journal in words. */
-  #words() {
-    const journal = readJournal(this.journal);
-    const { stack, next } = journal;
-    const named = this.#shapesNamed(journal);
-    this.places = new Places(this.baseGroups.length, named);
-    for (const entry of journal.entries) this.places.follow(entry);
-    if (this.places.order.length !== this.groups.length) throw new Error('the tags of the journal don’t fit the plan');
-    if (journal.entries.length > MOST_IN_WORDS) {
-      const edits = journal.entries.map(({ s, kind, stands, line }) => ({ s, kind, stands, line, what: line, where: '', detail: '', place: null, path: '' }));
-      return { stack, next, edits };
-    }
-    const views = this.#viewsAt([...new Set([...named.keys()].map((tag) => this.places.groupAt(tag)))].filter((i) => i >= 0));
-    const edits = inWords(journal, this.places, {
+  words() {
+    const { entries } = this.read;
+    this.told ??= entries.length === 0 || entries.length > MOST_IN_WORDS ? byLines(this.read) : this.#inWords();
+    return this.told;
+  }
+
+  #inWords() {
+    const came = this.#numbersNamed();
+    const numbers = packetNumbers(this.read, came);
+    const { tags } = this;
+    const views = this.#viewsAt([...new Set([...came.keys()].map((tag) => tags.groupAt(tag)))].filter((i) => i >= 0));
+    return inWords(this.read, tags, {
       now: (index) => idOf(this.groups[index], views.get(index)),
       was: (tag) => (tag.startsWith('b') ? idOf(this.baseGroups[Number(tag.slice(1))]) : 'group ' + tag),
-      balises: (index) => balisesOf(this.groups[index] ?? ''),
+      number: (path) => numbers.get(path),
       packet: (group, pig, pkt) => views.get(group)?.telegrams[pig]?.packets[pkt]?.fields,
     });
-    return { stack, next, edits };
   }
 
   /**
@@ -282,7 +310,7 @@ export class Session {
     return turn.reviews.map((line) => {
       const [, id, pig, pkt, name, k, value] = line.split(' ');
       const index = /** @type {number} */ (at.get(id));
-      const path = this.places.pathOf(index, Number(pig), Number(pkt), balisesOf(this.groups[index]));
+      const path = this.tags.pathOf(index, Number(pig), Number(pkt));
       return name === 'opaque'
         ? { turn: turn.serial, path, name: '', k: 0, value: Number(k), opaque: true }
         : { turn: turn.serial, path, name, k: Number(k), value: Number(value), opaque: false };
@@ -295,30 +323,48 @@ export class Session {
    */
   find(paths) {
     return paths.map((path) => {
-      const place = this.places.find(path, (index) => balisesOf(this.groups[index] ?? ''));
+      const place = this.tags.find(path);
       return place && { ...place, id: this.overview.ids[place.group] };
     });
   }
 
   /**
-   * The strikes that take one edit out, the later ones that depend on it first.
+   * What the engine says after a journal and some commands.
+   * @param {string} journal @param {string[]} commands @param {number} what of FACTS
+   */
+  #factsText(journal, commands, what) {
+    const { status, output } = this.engine.facts(inputOf(this.base, bytesOf(journal), commands), what);
+    if (status !== STATUS.accepted && status !== STATUS.refused) throw new Error(`the engine ended with ${status}`);
+    return textOf(output);
+  }
+
+  /**
+   * The strikes that take one edit out, the later ones that depend on it first. A strike may bring up one more that
+   * depends on it, so the engine is asked again with the strikes done.
    * @param {number} serial @param {number} [most] runs at most
    * @returns {{strikes: number[], whole: boolean, first: number}} first: the first edit that depends on it, or 0
    */
   chain(serial, most = 300) {
-    const waiting = [serial];
-    /** @type {number[]} */
-    const strikes = [];
+    /** @type {Set<number>} */
+    const found = new Set();
     let first = 0;
-    for (let runs = 0; waiting.length > 0 && runs < most; runs += 1) {
-      const last = this.trial([...strikes, waiting[waiting.length - 1]].map((s) => 'strike ' + s)).replies.pop();
-      if (last?.kind === 'struck') strikes.push(/** @type {number} */ (waiting.pop()));
-      else if (last?.number === 26) {
-        waiting.push(last.first);
-        first ||= last.first;
-      } else break;
+    for (let runs = 0; runs < most; runs += 1) {
+      const { named, dependents } = factsOf(this.#factsText(this.journal, strikesOf(found), FACTS.edits));
+      const more = reached(dependents, [serial, ...named]);
+      more.delete(serial);
+      first ||= dependents.get(serial)?.[0] ?? 0;
+      if (more.size === 0) return { strikes: [...descending(found), serial], whole: true, first };
+      for (const later of more) found.add(later);
     }
-    return { strikes, whole: waiting.length === 0, first };
+    return { strikes: descending(found), whole: false, first };
   }
 }
 
+/** @param {Iterable<number>} serials */
+const descending = (serials) => [...serials].sort((a, b) => b - a);
+
+/**
+ * Commands that strike edits, the last one first.
+ * @param {Iterable<number>} serials
+ */
+const strikesOf = (serials) => descending(serials).map((s) => 'strike ' + s);

@@ -69,6 +69,7 @@ const CALLS = {
   changes: () => session.changes(),
   chain: ({ serial, most }) => session.chain(serial, most),
   find: ({ paths }) => session.find(paths),
+  words: () => session.words(),
   plan: () => session.plan,
   spell: ({ items }) => spell(engine, items),
   explain: ({ line }) => explain(engine, line),

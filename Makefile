@@ -1,5 +1,6 @@
 # make            proves and builds the program                 crates/baliseplan/out/baliseplan
 # make fields     the program that explains digits as fields    crates/balisefields/out/balisefields
+# make facts      the program that tells facts of a session     crates/balisefacts/out/balisefacts
 # make library    proves and builds the library                 out/libbaliseplan.a
 # make shared     the same as a shared object                   out/libbaliseplan.so
 # make wheel      the module for Python, with the library in it out/wheel/
@@ -42,7 +43,7 @@ shared_object := out/libbaliseplan.so.$(abi)
 sources := library/run_alloc.c library/texts.c
 pages := $(wildcard docs/*.md docs/*.svg) CHANGELOG.md
 
-.PHONY: all program fields library shared page wheel packed packed-shared dist packed-dist check-dist dist-twice check \
+.PHONY: all program fields facts library shared page wheel packed packed-shared dist packed-dist check-dist dist-twice check \
     install uninstall clean
 all: program
 
@@ -53,6 +54,9 @@ program:
 # The run of its example ends with the status that is stored with that.
 fields:
 	cd crates/balisefields && { cat stdin 2> /dev/null | rt run > /dev/null; [ "$$?" = "$$(cat status 2> /dev/null || echo 0)" ]; }
+
+facts:
+	cd crates/balisefacts && rt run < ../../examples/temporary_speed.plan > /dev/null
 
 library:
 	cd crates/balise_c && rt lib
@@ -97,7 +101,7 @@ packed-wheel:
 	$(PYTHON) -m pip wheel --quiet --no-deps --no-build-isolation --no-index -w out/wheel out/package
 
 # What is packed was built here just before, and BUILD names the kit. `make packed-dist` packs what is there.
-dist: program shared $(patsubst crates/balise%,%,$(wildcard crates/balisefields))
+dist: program shared $(patsubst crates/balise%,%,$(wildcard crates/balisefields crates/balisefacts))
 	$(MAKE) --no-print-directory packed-dist KIT="$$(rt version | tr '\n' ' ')"
 
 packed-dist:
@@ -122,9 +126,10 @@ install:
 	    "$(DESTDIR)$(DATADIR)/bash-completion/completions" "$(DESTDIR)$(DATADIR)/zsh/site-functions" \
 	    "$(DESTDIR)$(DATADIR)/fish/vendor_completions.d"
 	$(INSTALL) -m 755 $(program) "$(DESTDIR)$(BINDIR)/baliseplan"
-	if [ -f crates/balisefields/out/balisefields ]; then \
-	    $(INSTALL) -m 755 crates/balisefields/out/balisefields "$(DESTDIR)$(BINDIR)/balisefields" && \
-	    $(INSTALL) -m 644 man/balisefields.1 "$(DESTDIR)$(MANDIR)/man1/balisefields.1"; fi
+	for name in balisefields balisefacts; do \
+	    [ -f crates/$$name/out/$$name ] || continue; \
+	    $(INSTALL) -m 755 crates/$$name/out/$$name "$(DESTDIR)$(BINDIR)/$$name" && \
+	    $(INSTALL) -m 644 man/$$name.1 "$(DESTDIR)$(MANDIR)/man1/$$name.1" || exit 1; done
 	$(INSTALL) -m 644 man/baliseplan.1 "$(DESTDIR)$(MANDIR)/man1/baliseplan.1"
 	$(INSTALL) -m 644 man/baliseplan.3 "$(DESTDIR)$(MANDIR)/man3/baliseplan.3"
 	$(INSTALL) -m 644 $(pages) "$(DESTDIR)$(DOCDIR)"
@@ -136,12 +141,19 @@ install:
 	    -e 's|@INCLUDEDIR@|$(subst &,\&,$(INCLUDEDIR))|' \
 	    -e 's|@VERSION@|$(version)|' baliseplan.pc.in > "$(DESTDIR)$(LIBDIR)/pkgconfig/baliseplan.pc"
 	chmod 644 "$(DESTDIR)$(LIBDIR)/pkgconfig/baliseplan.pc"
-	$(INSTALL) -m 644 completions/baliseplan.bash "$(DESTDIR)$(DATADIR)/bash-completion/completions/baliseplan"
-	$(INSTALL) -m 644 completions/baliseplan.zsh "$(DESTDIR)$(DATADIR)/zsh/site-functions/_baliseplan"
-	$(INSTALL) -m 644 completions/baliseplan.fish "$(DESTDIR)$(DATADIR)/fish/vendor_completions.d/baliseplan.fish"
+	for name in baliseplan balisefacts; do \
+	    [ -f "$(DESTDIR)$(BINDIR)/$$name" ] || continue; \
+	    $(INSTALL) -m 644 completions/$$name.bash "$(DESTDIR)$(DATADIR)/bash-completion/completions/$$name" && \
+	    $(INSTALL) -m 644 completions/$$name.zsh "$(DESTDIR)$(DATADIR)/zsh/site-functions/_$$name" && \
+	    $(INSTALL) -m 644 completions/$$name.fish \
+	        "$(DESTDIR)$(DATADIR)/fish/vendor_completions.d/$$name.fish" || exit 1; done
 
 uninstall:
 	rm -f "$(DESTDIR)$(BINDIR)/balisefields" "$(DESTDIR)$(MANDIR)/man1/balisefields.1" \
+	    "$(DESTDIR)$(BINDIR)/balisefacts" "$(DESTDIR)$(MANDIR)/man1/balisefacts.1" \
+	    "$(DESTDIR)$(DATADIR)/bash-completion/completions/balisefacts" \
+	    "$(DESTDIR)$(DATADIR)/zsh/site-functions/_balisefacts" \
+	    "$(DESTDIR)$(DATADIR)/fish/vendor_completions.d/balisefacts.fish" \
 	    "$(DESTDIR)$(BINDIR)/baliseplan" "$(DESTDIR)$(INCLUDEDIR)/baliseplan.h" \
 	    "$(DESTDIR)$(MANDIR)/man1/baliseplan.1" "$(DESTDIR)$(MANDIR)/man3/baliseplan.3" \
 	    "$(DESTDIR)$(LIBDIR)/libbaliseplan.a" "$(DESTDIR)$(LIBDIR)/libbaliseplan.so" \

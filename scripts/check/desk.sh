@@ -69,6 +69,8 @@ elif [ $needed = 0 ]; then
     check "killed in a loop" tests tests/test_kill.py
     check "deliveries" tests tests/test_verify.py
     check "wrong engines are found" tests tests/test_wrong_engine.py
+    check "what depends on what" tests tests/test_depend.py
+    check "where tags are" tests tests/test_tags.py
     check "fields and faults of digits" tests tests/test_fields.py tests/test_faults.py
     check "a wrong or missing balisefields" tests tests/test_wrong_fields.py
     check "random sessions and pairs" tests tests/test_random.py

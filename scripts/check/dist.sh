@@ -85,7 +85,7 @@ cp "$package" "$archive" dist_root.sh "$root/tmp/"
 cp runs.py example_pages.py example_shell.py examples.py "$root/tmp/checks/scripts/check/"
 for name in docs examples; do ln -s "/usr/share/doc/baliseplan/$name" "$root/tmp/checks/$name"; done
 mkdir "$root/tmp/checks/man"
-tar -xzf "$archive" -C "$root/tmp/checks/man" --strip-components=3 --wildcards '*/man/man1/baliseplan.1'
+tar -xzf "$archive" -C "$root/tmp/checks/man" --strip-components=3 --wildcards '*/man/man1/baliseplan.1' '*/man/man1/balisefacts.1'
 export root
 "${apart[@]}" bash -c 'mount -t proc proc "$root/proc" &&
     mount -t tmpfs -o mode=1777 shared "$root/dev/shm" && exec env -i \

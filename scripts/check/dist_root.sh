@@ -41,6 +41,9 @@ rm -rf "$1" && mkdir "$1" && cd "$1"
 "$2" do set 5.200 1 0 V_TSR 0 30km/h renumber 5.200 250 turn 5.300
 "$2" fields 5.100 0 0 > links
 "$2" do replace 5.100 0 0 @links
+! "$2" strike 4
+"$2" log > said
+grep -q "needs 4" said
 "$2" verify base.plan journal line.plan | tee said
 grep -q "They belong together. Both programs make it." said
 sed "s/^a1007f80a0fa/a1007f00a0fa/" line.plan > changed.plan
@@ -59,7 +62,7 @@ ldd run | grep -q "libbaliseplan.so.* => /"
 ! ldd run_static | grep baliseplan'
 
 manuals='
-for page in 1:baliseplan 1:balisefields 3:baliseplan 1:plandesk; do
+for page in 1:baliseplan 1:balisefields 1:balisefacts 3:baliseplan 1:plandesk; do
     man --where "${page%%:*}" "${page#*:}"
     man "${page%%:*}" "${page#*:}" | grep -q .
 done'

@@ -2,7 +2,7 @@
 # Runs all that has to hold before a change goes in: the gate, and all other tests of the repository. `make check` runs it.
 # usage: scripts/check/everything.sh [--all-of-it]
 # --all-of-it: what can't be run counts as wrong.
-# The program and the tests that refuse memory are proved once more, in this checkout, since the gate leaves none here.
+# The programs and the tests that refuse memory are proved once more, in this checkout, since the gate leaves none here.
 # What each part prints is in out/checks, also while it runs. Ends with 0; with 1 if a part is wrong; with 2 if one could
 # not be run.
 set -u
@@ -36,6 +36,10 @@ built_program() {
     make --no-print-directory -C "$top" program || return 1
 }
 
+built_others() {
+    make --no-print-directory -C "$top" fields facts || return 1
+}
+
 # The tests of memory as programs: rt leaves them in the folder `out` of their crates.
 memory_tests() {
     local crate
@@ -48,6 +52,7 @@ memory_tests() {
 main() {
     part "gate: rt ci" with_kit env -C "$top" rt ci
     part "program: proved once more, and built in out/" with_kit built_program
+    part "programs for fields and facts: proved once more, and built in out/" with_kit built_others
     part "tests of memory: proved once more, and built in out/" with_kit memory_tests
     quick_parts
     of_program "desk" bash desk.sh "$program" --quick

@@ -1,4 +1,4 @@
-"""The examples of the pages: docs/FORMATS.md, docs/GUIDE.md and man/baliseplan.1."""
+"""The examples of the pages: docs/FORMATS.md, docs/GUIDE.md, man/baliseplan.1 and man/balisefacts.1."""
 
 import re
 from collections.abc import Iterator
@@ -20,7 +20,7 @@ class Shell:
 
 @dataclass(frozen=True)
 class Run:
-    """One run of the program by the formats' page. If it isn't whole, the end of the output isn't told."""
+    """One run of a program by the formats' page. If it isn't whole, the end of the output isn't told."""
 
     name: str
     flags: list[str]
@@ -28,6 +28,8 @@ class Run:
     status: int
     due: list[str]
     is_whole: bool = False
+    of_facts: bool = False
+    """Whether the program is balisefacts."""
 
 
 @dataclass(frozen=True)
@@ -107,10 +109,11 @@ def formats(page: str) -> Iterator[Run]:
         kind, words = block.words[0], block.words[1:]
         if kind == "plan" and len(words) == 1:
             plans[words[0]] = block.lines
-        elif kind == "input" and words and blocks and blocks[0].words[0] == "output":
-            output = blocks.pop(0)
+        elif kind in ("input", "facts") and words and blocks and blocks[0].words[0] == "output":
+            output, of_facts = blocks.pop(0), kind == "facts"
             status = int(output.words[1]) if output.words[1:] else 0
-            yield Run(f"line {block.line}", words[1:], block.lines, status, output.lines, is_whole=True)
+            before = [*plans.get(words[0], ()), "edits"] if of_facts else []
+            yield Run(f"line {block.line}", words[1:], before + block.lines, status, output.lines, True, of_facts)
         elif kind in ("replies", "each") and words and words[0] in plans:
             yield from short_runs(block, plans[words[0]])
         else:

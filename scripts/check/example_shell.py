@@ -22,14 +22,19 @@ def as_program(words: list[str], folder: Path) -> Path:
     return program
 
 
-def with_fields(folder: Path) -> None:
-    """A program `balisefields` there: the one in the checkout or on the path, else the reference for it."""
-    built = TOP / "crates" / "balisefields" / "out" / "balisefields"
-    found = str(built) if built.exists() else shutil.which("balisefields")
-    words = [found] if found else [sys.executable, "-B", str(TOP / "reference" / "balisefields.py")]
-    program = folder / "balisefields"
-    program.write_text(f'#!/bin/sh\nexec {shlex.join(words)} "$@"\n')
-    program.chmod(0o755)
+def words_of(name: str) -> list[str]:
+    """What starts another program of the repository: the one in the checkout or on the path, else the reference for it."""
+    built = TOP / "crates" / name / "out" / name
+    found = str(built) if built.exists() else shutil.which(name)
+    return [found] if found else [sys.executable, "-B", str(TOP / "reference" / f"{name}.py")]
+
+
+def with_others(folder: Path) -> None:
+    """The other programs, there."""
+    for name in ("balisefields", "balisefacts"):
+        program = folder / name
+        program.write_text(f'#!/bin/sh\nexec {shlex.join(words_of(name))} "$@"\n')
+        program.chmod(0o755)
 
 
 def ran_in_shell(words: list[str], shell: Shell, folder: Path) -> list[str]:
@@ -39,7 +44,7 @@ def ran_in_shell(words: list[str], shell: Shell, folder: Path) -> list[str]:
     for name, text in shell.files:
         (run_in / name).write_text(text)
     programs = as_program(words, folder).parent
-    with_fields(programs)
+    with_others(programs)
     path = os.pathsep.join([str(programs), str(TOP / "desk" / "bin"), os.environ["PATH"]])
     # What Python compiles goes to the folder, so that it isn't compiled by each block, and the checkout stays clean.
     more = {"PATH": path, "LC_ALL": "C", "PYTHONPYCACHEPREFIX": str(folder / "cache"), "examples": str(TOP / "examples")}

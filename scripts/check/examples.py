@@ -9,7 +9,7 @@ PROGRAM may have words of its own: examples.py "python3 reference/baliseplan.py"
     rows       the worked rows, checks/rows/NAME.in, in the same way
     formats    the examples of docs/FORMATS.md, whose last section says which blocks are some
     guide      the blocks of docs/GUIDE.md in one shell, as a reader pastes them, and the picture that they make
-    manual     the commands of man/baliseplan.1, in one shell
+    manual     the commands of man/baliseplan.1 and of man/balisefacts.1, in a shell for each
     strike     docs/strike.svg
 
 Where no status is stored it is 0. Standard error has a line for a fault and a text for arguments, and nothing else.
@@ -26,7 +26,7 @@ from dataclasses import dataclass
 from pathlib import Path
 
 from example_pages import Shell, formats, guide, manual
-from example_shell import as_program, ran_in_shell
+from example_shell import as_program, ran_in_shell, words_of
 from runs import Missing, Printed, ended, need, program_words, run
 
 TOP = Path(__file__).resolve().parents[2]
@@ -43,6 +43,8 @@ class Stored:
     status: int
     due: str
     shown: Callable[[Printed], str] = lambda done: done.output.decode("latin-1")
+    program: tuple[str, ...] = ()
+    """What starts the program, where it is another one."""
 
 
 Found = tuple[str, list[str]]
@@ -57,7 +59,7 @@ def compared(due: str, got: str) -> list[str]:
 
 
 def judged(words: list[str], example: Stored) -> Found:
-    done = run([*words, *example.flags], example.text)
+    done = run([*(example.program or words), *example.flags], example.text)
     found = compared(example.due, example.shown(done))
     if done.status != example.status:
         found.append(f"status {done.status}, and {example.status} is stored: {done.error.decode('latin-1')}")
@@ -79,7 +81,8 @@ def of_formats() -> Iterator[Stored]:
     for one in formats((TOP / "docs" / "FORMATS.md").read_text()):
         text = "".join(line + "\n" for line in one.lines).encode("latin-1")
         due = "".join(line + "\n" for line in one.due)
-        yield Stored(one.name, tuple(one.flags), text, one.status, due, whole if one.is_whole else head)
+        program = tuple(words_of("balisefacts")) if one.of_facts else ()
+        yield Stored(one.name, tuple(one.flags), text, one.status, due, whole if one.is_whole else head, program)
 
 
 def whole(done: Printed) -> str:
@@ -126,7 +129,8 @@ def of_kind(kind: str, words: list[str]) -> Iterator[Found]:
     elif kind == "guide":
         yield from in_shell(words, guide((TOP / "docs" / "GUIDE.md").read_text()), "docs/line.svg")
     elif kind == "manual":
-        yield from in_shell(words, manual((TOP / "man" / "baliseplan.1").read_text()))
+        for page in ("baliseplan.1", "balisefacts.1"):
+            yield from in_shell(words, manual((TOP / "man" / page).read_text()))
     else:
         stored = {
             "examples": lambda: files_of(TOP / "examples", "*.plan"),

@@ -3,7 +3,9 @@
 # print with a program.
 # usage: scripts/check/library.sh PROGRAM [COUNT] [--built]
 # The examples and rows are compared with each of the 16 sets of flags, COUNT damaged ones (2,000) with one set each,
-# and COUNT random inputs with their own. Fields are compared with the program balisefields, where it was built, on the
+# and COUNT random inputs with their own. Facts are compared with the program balisefacts, where it was built, on the same
+# examples and rows with each way to ask, and a quarter of COUNT damaged and random inputs each; else with the reference,
+# on a tenth of that. Fields are compared with the program balisefields, where it was built, on the
 # examples of docs/FIELDS.md, a quarter of COUNT random inputs each way, and a quarter of COUNT damaged ones; else with
 # the reference, on a tenth of that. With --built what stands in out/ is checked, and no kit is needed.
 # Ends with 0; with 1 if something doesn't build, differs or fails, which it shows; with 2 if PROGRAM or a tool is
@@ -36,6 +38,10 @@ cd ../..
 of_fields=crates/balisefields/out/balisefields fields_count=$((count / 4))
 if [ ! -x "$of_fields" ]; then
     of_fields="$(printf %q "$python") reference/balisefields.py" fields_count=$((count / 40))
+fi
+of_facts=crates/balisefacts/out/balisefacts facts_count=$((count / 4))
+if [ ! -x "$of_facts" ]; then
+    of_facts="$(printf %q "$python") reference/balisefacts.py" facts_count=$((count / 40))
 fi
 folder=$(mktemp -d)
 trap 'rm -rf "$folder"' EXIT
@@ -75,7 +81,7 @@ checks "changed numbers of the library" "$python" scripts/check/library_numbers.
 # C: an optimised build, one that inlines nothing, and the header in C++ from the oldest to the newest.
 strict=(-pedantic -Wall -Wextra -Werror)
 flags=(-Iinclude out/libbaliseplan.a)
-for caller in run fields calls; do
+for caller in run facts fields calls; do
     build "examples/c/$caller.c" \
         cc -std=c99 -O2 "${strict[@]}" "examples/c/$caller.c" "${flags[@]}" -o "$folder/$caller"
 done
@@ -95,7 +101,7 @@ passes "examples/c/calls.c without inlining" "$folder/calls0"
 # The last input has an output that is longer than the first room of an allocated one.
 { cat examples/line.base; echo edits; yes 'turn 5.300' | head -n 300; } > "$folder/long.plan"
 for plan in examples/*.plan "$folder/long.plan"; do
-    for set in 0 15; do
+    for set in 0 15 facts; do
         passes "$plan with each allocation refused" "$folder/heap" "$plan" "$set"
     done
 done
@@ -120,6 +126,9 @@ checks "what is installed" scripts/check/library_install.sh "$program"
 checks "the comparison with the program" "$python" scripts/check/library_runs.py "$count" "$program" \
     "$folder/run" "$folder/cargo/release/baliseplan"
 
+checks "the comparison with a program for facts" "$python" scripts/check/library_facts.py "$facts_count" \
+    "$of_facts" "$folder/facts" "$folder/cargo/release/balisefacts"
+
 checks "the comparison with a program for fields" "$python" scripts/check/library_fields.py "$fields_count" \
     "$of_fields" "$folder/fields" "$folder/cargo/release/balisefields"
 
@@ -140,6 +149,7 @@ finds() {
 }
 for wrong in drops ends; do
     finds "$wrong" "$folder/run" library_runs.py "$program"
+    finds "$wrong" "$folder/facts" library_facts.py "$of_facts"
     finds "$wrong" "$folder/fields" library_fields.py "$of_fields"
 done
 

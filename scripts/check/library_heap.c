@@ -1,7 +1,7 @@
 /* Refuses each allocation of a call in turn, and looks at what the call leaves. Linked with the library and with
  * --wrap=malloc,--wrap=calloc,--wrap=realloc,--wrap=free, so that the library allocates by the four functions below.
  *
- * usage: library_heap FILE FLAGS, of the editor, or library_heap FILE explain, or library_heap FILE spell
+ * usage: library_heap FILE FLAGS, of the editor, or library_heap FILE facts, explain or spell
  * Prints the most that a call allocates. Ends with 0; with 1 if a byte wasn't freed, or was written where none should
  * be, or the answer or the output is wrong; with 2 if FILE can't be used.
  */
@@ -88,6 +88,8 @@ struct run {
 
 static int32_t into(const struct run *run, uint8_t *output, size_t *written)
 {
+    if (!strcmp(run->call, "facts"))
+        return baliseplan_facts(run->input, run->input_len, BALISEPLAN_ALL_EDITS, 0, output, run->room, written);
     if (!strcmp(run->call, "explain"))
         return baliseplan_explain(run->input, run->input_len, output, run->room, written);
     if (!strcmp(run->call, "spell"))
@@ -97,6 +99,8 @@ static int32_t into(const struct run *run, uint8_t *output, size_t *written)
 
 static int32_t allocated(const struct run *run, uint8_t **output, size_t *len)
 {
+    if (!strcmp(run->call, "facts"))
+        return baliseplan_facts_alloc(run->input, run->input_len, BALISEPLAN_ALL_EDITS, 0, output, len);
     if (!strcmp(run->call, "explain"))
         return baliseplan_explain_alloc(run->input, run->input_len, output, len);
     if (!strcmp(run->call, "spell"))
@@ -181,7 +185,8 @@ int main(int argc, char **argv)
     if (ferror(file) || !feof(file))
         return 2;
     fclose(file);
-    run.room = 20 * run.input_len + 4096;
+    /* Facts grow with the square of the edits. */
+    run.room = 20 * run.input_len + (strcmp(run.call, "facts") ? 4096 : 1 << 20);
     run.whole = calloc(run.room + 1, 1);
     run.output = calloc(run.room + 1, 1);
     if (!run.whole || !run.output)

@@ -77,10 +77,16 @@ share/fish/vendor_completions.d/baliseplan.fish
 share/man/man1/baliseplan.1
 share/man/man3/baliseplan.3
 share/zsh/site-functions/_baliseplan'
-# balisefields is installed where it was built.
-if [ -f crates/balisefields/out/balisefields ]; then
-    files=$(printf '%s\n' "$files" bin/balisefields share/man/man1/balisefields.1 | sort)
+# The other programs are installed where they were built.
+for name in balisefields balisefacts; do
+    [ -f "crates/$name/out/$name" ] || continue
+    files=$(printf '%s\n' "$files" "bin/$name" "share/man/man1/$name.1")
+done
+if [ -f crates/balisefacts/out/balisefacts ]; then
+    files=$(printf '%s\n' "$files" share/bash-completion/completions/balisefacts \
+        share/fish/vendor_completions.d/balisefacts.fish share/zsh/site-functions/_balisefacts)
 fi
+files=$(sort <<< "$files")
 
 # Places with spaces, a folder of its own for libraries, and what is left after an uninstall.
 odd=(make program="$program" DESTDIR="$folder/a package" PREFIX="/opt/plans and balises")

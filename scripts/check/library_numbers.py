@@ -18,10 +18,12 @@ ROOT = Path(__file__).resolve().parents[2]
 HEADER = "include/baliseplan.h"
 PYTHON = "examples/python/baliseplan/__init__.py"
 PYTHON_FAULTS = "examples/python/baliseplan/errors.py"
+PYTHON_FACTS = "examples/python/baliseplan/_facts.py"
 RUST = "examples/rust/src/lib.rs"
 HELP = "crates/baliseplan_help/stdout"
 MAKEFILE = "what `make -n packed-shared` prints"
 WORDS = ("QUIET", "STOP", "JOURNAL", "JSON")
+FACTS = {"ALL_EDITS": r"Facts::Edits", "ONE_EDIT": r"Facts::Edit\(serial\)", "TAGS": r"Facts::Tags"}
 FAULTS = {"INPUT_TOO_LONG": "InputTooLong", "OUT_OF_MEMORY": "OutOfMemory", "READ_FAULT": "ReadFault",
           "OUTPUT_FULL": "WriteFault"}
 
@@ -64,8 +66,15 @@ def numbers() -> dict[str, list[Place]]:
         crate = ("crates/balise_c/src/answer.rt", rf"^\s*RunFault::{printed} => (\d+),")
         python = (PYTHON_FAULTS, rf'(\d+): "{printed}"')
         found[f"the fault {printed}"] = [define(name), python, (RUST, rust), (RUST, answer), crate]
-    found["the status of a bad input"] = [define("BAD_INPUT"), (PYTHON, r"^BAD_INPUT = (\d+)$"),
+    found["the status of a bad input"] = [define("BAD_INPUT"), (PYTHON_FAULTS, r"^BAD_INPUT = (\d+)$"),
                                           (RUST, r"^\s*(\d+) => Ok\(Status::BadInput\),")]
+    for at, (word, facts) in enumerate(FACTS.items()):
+        before = r", ".join([r"\d+"] * at + [r"(\d+)"])
+        in_python, in_rust = rf"^ALL_EDITS, .* = {before}", rf"^\s*{facts} => \((\d+), \w+\)"
+        found[f"the number of facts {word}"] = [define(word), (PYTHON_FACTS, in_python), (RUST, in_rust)]
+        if word != "TAGS":  # the crate takes any further number for it, once the call has looked
+            place = ("crates/balise_c/src/fact_numbers.rt", rf"^\s*(\d+) => {facts},")
+            found[f"the number of facts {word}"].append(place)
     usage = ("crates/balise_c/src/lib.rt", r"const USAGE: i32 = (\d+);")
     found["the answer to an unknown flag"] = [define("USAGE"), usage]
     found["the first bit that is no flag"] = [

@@ -3,6 +3,8 @@
 
 usage: planted.py [--most COUNT] [--size small|medium] [--from SEED]
 
+planted_facts.py does the same with faults of facts.
+
 Each fault is one text of reference/ replaced by another in a copy of that folder. Copy and reference answer the same
 random inputs, of one seed after another, until output or status differ. It prints for each fault after how many inputs
 that was, and which seed it was. The inputs are made by the reference, so they are the same for all faults.
@@ -18,7 +20,7 @@ import shutil
 import subprocess
 import sys
 import tempfile
-from collections.abc import Iterator
+from collections.abc import Iterator, Sequence
 from dataclasses import dataclass
 from io import BytesIO
 from pathlib import Path
@@ -29,9 +31,10 @@ REFERENCE = Path(__file__).resolve().parents[2] / "reference"
 # A copy answers inputs one after another. An error of its own is an answer too.
 ANSWERING = """
 import pickle, sys
+from importlib import import_module
 from io import BytesIO
 sys.path.insert(0, sys.argv[1])
-from baliseplan import answer
+answer = import_module(sys.argv[2]).answer
 while True:
     arguments, text = pickle.load(sys.stdin.buffer)
     try:
@@ -143,24 +146,42 @@ class Unusable(Exception):
     """There is no reference, or a fault can't be planted in it."""
 
 
+@dataclass(frozen=True)
+class Program:
+    """A program of reference/, by its module, and the function that makes the inputs of a seed, by module and name."""
+
+    module: str
+    inputs: tuple[str, str]
+
+
+EDITOR = Program("baliseplan", ("compare", "given_once"))
+
+
 class Compared:
     """Random inputs and what the reference answers, made once and kept."""
 
-    def __init__(self, first: int, size: str) -> None:
+    def __init__(self, program: Program, first: int, size: str) -> None:
         sys.path.insert(0, str(REFERENCE))
-        self._reference: Any = importlib.import_module("baliseplan")
-        self._inputs: Any = importlib.import_module("random_inputs")
-        self._first, self._size = first, size
-        self._made: list[tuple[tuple[list[str], bytes], Shown]] = []
+        self.program = program
+        self._reference: Any = importlib.import_module(program.module)
+        self._inputs: Any = getattr(importlib.import_module(program.inputs[0]), program.inputs[1])
+        self._first, self._size, self._seeds = first, size, 0
+        self._made: list[tuple[int, tuple[list[str], bytes], Shown]] = []
+
+    def _make(self) -> None:
+        """Makes the inputs of the next seed."""
+        seed = self._first + self._seeds
+        for made in self._inputs(seed, self._size):
+            due = self._reference.answer(list(made.arguments), BytesIO(made.text).read)
+            self._made.append((seed, (list(made.arguments), made.text), (due.output, due.status)))
+        self._seeds += 1
 
     def upto(self, most: int) -> Iterator[tuple[int, tuple[list[str], bytes], Shown]]:
         """Each input with its seed and what is due."""
         for number in range(most):
-            if number == len(self._made):
-                made = self._inputs.make_input(self._first + number, self._size)
-                due = self._reference.answer(list(made.arguments), BytesIO(made.text).read)
-                self._made.append(((list(made.arguments), made.text), (due.output, due.status)))
-            yield self._first + number, *self._made[number]
+            while number >= len(self._made):
+                self._make()
+            yield self._made[number]
 
 
 def plant(fault: Fault, folder: Path) -> None:
@@ -178,7 +199,7 @@ def found(fault: Fault, compared: Compared, most: int) -> tuple[int, int] | None
     with tempfile.TemporaryDirectory() as temporary:
         folder = Path(temporary) / "reference"
         plant(fault, folder)
-        words = [sys.executable, "-B", "-c", ANSWERING, str(folder)]
+        words = [sys.executable, "-B", "-c", ANSWERING, str(folder), compared.program.module]
         with subprocess.Popen(
             words, stdin=subprocess.PIPE, stdout=subprocess.PIPE, stderr=subprocess.DEVNULL
         ) as copy:
@@ -194,28 +215,29 @@ def found(fault: Fault, compared: Compared, most: int) -> tuple[int, int] | None
     return None
 
 
-def main() -> int:
+def plant_all(faults: Sequence[Fault], program: Program) -> int:
+    """Plants faults in copies of a program one after another. The status."""
     parser = argparse.ArgumentParser(description="Plants faults in copies of the reference.")
     parser.add_argument("--most", type=int, default=2000, help="how many inputs each gets at most")
     parser.add_argument("--size", choices=("medium", "small"), default="small")
     parser.add_argument("--from", dest="first", metavar="SEED", type=int, default=1)
     asked = parser.parse_args()
     try:
-        if not (REFERENCE / "baliseplan.py").exists():
-            raise Unusable(f"there is no {REFERENCE}/baliseplan.py")
-        compared = Compared(asked.first, asked.size)
+        if not (REFERENCE / f"{program.module}.py").exists():
+            raise Unusable(f"there is no {REFERENCE}/{program.module}.py")
+        compared = Compared(program, asked.first, asked.size)
         hidden = 0
-        for fault in FAULTS:
+        for fault in faults:
             at = found(fault, compared, asked.most)
             hidden += at is None
             after = f"not in {asked.most} inputs" if at is None else f"{at[0]:5d} inputs (seed {at[1]})"
             print(f"{after:30s} {fault.name}", flush=True)
     except Unusable as reason:
-        print(f"planted.py: {reason}", file=sys.stderr)
+        print(f"{parser.prog}: {reason}", file=sys.stderr)
         return 2
-    print(f"planted: {len(FAULTS)} faults, {hidden} not found")
+    print(f"planted: {len(faults)} faults, {hidden} not found")
     return 1 if hidden else 0
 
 
 if __name__ == "__main__":
-    sys.exit(main())
+    sys.exit(plant_all(FAULTS, EDITOR))

@@ -4,6 +4,8 @@
 examples=../../examples
 rows=../../checks/rows
 reference=../../reference
+fields=../../crates/balisefields/out/balisefields
+facts=../../crates/balisefacts/out/balisefacts
 
 # with_modules MODULES COMMAND ..: runs a command with a Python that has the modules, as the word PYTHON of the command
 with_modules() {
@@ -19,16 +21,22 @@ with_modules() {
 
 # of_program NAME COMMAND ..: a part that runs the program
 of_program() {
-    local name=$1
-    shift
-    part "$name" with_program "$@"
+    of_built "$program" "$@"
 }
 
-with_program() {
-    if [ ! -x "$program" ]; then
-        echo "missing: $program (make program builds it)" >&2
+# of_built PROGRAM NAME COMMAND ..: a part that runs another one of the repository
+of_built() {
+    local built=$1 name=$2
+    shift 2
+    part "$name" with_built "$built" "$@"
+}
+
+with_built() {
+    if [ ! -x "$1" ]; then
+        echo "missing: $1 (make builds it)" >&2
         return 2
     fi
+    shift
     "$@"
 }
 
@@ -47,9 +55,11 @@ parts_of_repository() {
     part "tests of the reference" env -C "$reference" python3 -m unittest -q test_reference
     part "laws of the reference" with_modules "pytest hypothesis" PYTHON -m pytest -q -p no:cacheprovider "$reference/test_laws.py"
     part "tests of the reference for fields" env -C "$reference" python3 -m unittest -q test_fields test_spelling
+    part "tests of the reference for facts" env -C "$reference" python3 -m unittest -q test_facts
     part "worked rows by the reference" python3 examples.py "python3 $reference/baliseplan.py" rows
     part "faults planted in the reference" python3 planted.py
     part "faults planted in the reference for fields" python3 planted_fields.py
+    part "faults planted in the reference for facts" python3 planted_facts.py
     part "types of the scripts" bash types.sh
     part "growths of memory in tests" python3 test_growths.py
 }
@@ -65,14 +75,22 @@ parts_of_program() {
     of_program "library and its callers" bash library.sh "$program"
 }
 
-# parts_of_fields TO: compares the program for fields, where it was built, on random items of the seeds from 1.
+# parts_of_fields TO: compares the program for fields on random items of the seeds from 1.
 parts_of_fields() {
-    local fields=../../crates/balisefields/out/balisefields kind
-    [ -x "$fields" ] || return 0
+    local kind words
     for kind in sound damaged; do
-        local words=(python3 "$reference/compare_fields.py" "$fields" 1 "$1" -j "$(nproc)")
+        words=(python3 "$reference/compare_fields.py" "$fields" 1 "$1" -j "$(nproc)")
         [ "$kind" = sound ] || words+=(--damaged)
-        part "random telegrams and packets explained and spelled, $kind" "${words[@]}"
+        of_built "$fields" "random telegrams and packets explained and spelled, $kind" "${words[@]}"
+    done
+}
+
+# parts_of_facts SMALL MEDIUM: compares the program for facts on the random inputs of the seeds from 1.
+parts_of_facts() {
+    local size
+    for size in "small $1" "medium $2"; do
+        of_built "$facts" "facts of random inputs, ${size% *}" python3 "$reference/compare_facts.py" "$facts" 1 "${size#* }" \
+            --size "${size% *}" -j "$(nproc)" --keep "$kept"
     done
 }
 
@@ -87,7 +105,8 @@ quick_parts() {
         groups-of-eight telegrams-without-end lines-of-telegrams nothing-to-undo drops-of-the-first
     random small 20000
     random medium 400
-    parts_of_fields 20000
+    parts_of_fields 5000
+    parts_of_facts 2000 50
 }
 
 all_parts() {
@@ -101,4 +120,5 @@ all_parts() {
     random small 100000
     random medium 5000
     parts_of_fields 100000
+    parts_of_facts 20000 1000
 }

@@ -18,6 +18,7 @@ from concurrent.futures import ThreadPoolExecutor
 from dataclasses import dataclass
 from pathlib import Path
 
+import planted_facts
 import planted_fields
 from planted import FAULTS
 from runs import NOT_RUN, RIGHT, WRONG, Missing, ended, need
@@ -132,6 +133,7 @@ def of_tests(folder: Path) -> Iterator[Task]:
     laws = ("-m", "pytest", "-q", "-p", "no:cacheprovider", "test_laws.py")
     strike = "a strike leaves later edits on the anchor that is gone"
     yield from of_fields(folder)
+    yield from of_facts(folder)
     yield "test_laws.py", "strikes wrongly", reference(folder / "2", debian_python(), strike, *laws), WRONG, "120"
 
 
@@ -184,8 +186,35 @@ def of_fields(folder: Path) -> Iterator[Task]:
     missing = "Missing has the line of the last field"
     tests = ("-m", "unittest", "-q", "test_spelling.FieldsToDigits")
     yield "test_spelling.py", missing, reference(folder / "4", PYTHON, missing, *tests), WRONG, "120"
-    right = shlex.join([PYTHON, str(TOP / "reference" / "balisefields.py")])
-    for program, does, due, seconds in (
+    right = reference_program("balisefields.py")
+    for program, does, due, seconds in right_and_wrong(right):
+        words = [PYTHON, "../../reference/compare_fields.py", program, "1", "40", "--show", "1", "-j", "1"]
+        yield "compare_fields.py", does, words, due, seconds
+    # The script hands no argument on, so it has no way back.
+    for end, does, due in (("", "has no way back", RIGHT), (" | sed 2d", "explains, and drops a line", WRONG)):
+        words = [PYTHON, "../../reference/compare_fields.py", script(right + end), "1", "40", "--explain-only", "-j", "1"]
+        yield "compare_fields.py", does, words, due, "30"
+
+
+def of_facts(folder: Path) -> Iterator[Task]:
+    """The checks of facts, in the same way."""
+    for number, (fault, tests) in enumerate(
+        (("dependents without the last", "Edits"), ("needs and changes are exchanged", "Places"), ("a telegram has the tag of its place", "Tags"))
+    ):
+        words = reference(folder / f"facts_{number}", PYTHON, fault, "-m", "unittest", "-q", f"test_facts.{tests}")
+        yield "test_facts.py", fault, words, WRONG, "120"
+    for program, does, due, seconds in right_and_wrong(reference_program("balisefacts.py")):
+        words = [PYTHON, "../../reference/compare_facts.py", program, "1", "3", "-j", "1", "--keep", str(folder / "facts")]
+        yield "compare_facts.py", does, words, due, seconds
+
+
+def reference_program(name: str) -> str:
+    return shlex.join([PYTHON, str(TOP / "reference" / name)])
+
+
+def right_and_wrong(right: str) -> tuple[tuple[str, str, int, str], ...]:
+    """A program of the reference, and wrong ones of it: what each does, the status that is due, and what a run may take."""
+    return (
         (right, "is right", RIGHT, "30"),
         ("true", "prints nothing", WRONG, "30"),
         ("cat", "prints what it reads", WRONG, "30"),
@@ -193,13 +222,7 @@ def of_fields(folder: Path) -> Iterator[Task]:
         (script(f'{right} "$@"; exit 77'), "always ends with 77", WRONG, "30"),
         (script(f'{right} "$@"; status=$?; echo >&2; exit $status'), "prints to standard error", WRONG, "30"),
         (script("exec sleep 100"), "hangs", WRONG, "1"),
-    ):
-        words = [PYTHON, "../../reference/compare_fields.py", program, "1", "40", "--show", "1", "-j", "1"]
-        yield "compare_fields.py", does, words, due, seconds
-    # The script hands no argument on, so it has no way back.
-    for end, does, due in (("", "has no way back", RIGHT), (" | sed 2d", "explains, and drops a line", WRONG)):
-        words = [PYTHON, "../../reference/compare_fields.py", script(right + end), "1", "40", "--explain-only", "-j", "1"]
-        yield "compare_fields.py", does, words, due, "30"
+    )
 
 
 def script(text: str) -> str:
@@ -244,7 +267,7 @@ def reference(top: Path, python: str, planted: str, *tests: str) -> list[str]:
     for name in ("checks", "docs", "examples", "scripts", "man"):
         (top / name).symlink_to(TOP / name)
     shutil.copytree(TOP / "reference", top / "reference", ignore=shutil.ignore_patterns("__pycache__", ".*"))
-    faults = (*FAULTS, *planted_fields.SOUND, *planted_fields.DAMAGED)
+    faults = (*FAULTS, *planted_fields.SOUND, *planted_fields.DAMAGED, *planted_facts.FAULTS)
     fault = next(fault for fault in faults if fault.name == planted)
     module = top / "reference" / fault.module
     module.write_text(module.read_text().replace(fault.old, fault.new))

@@ -9,8 +9,8 @@ python=$(bash python.sh mypy pytest hypothesis) || exit 2
 failed=0
 mypy=("$python" -m mypy --strict --cache-dir "$(mktemp -d)")
 env -C ../../reference "${mypy[@]}" . || failed=1
-# Two modules have the name baliseplan: the reference, and the one that these two scripts import.
-callers=(library_runs.py library_fields.py)
+# Two modules have the name baliseplan: the reference, and the one that these scripts import.
+callers=(library_runs.py library_fields.py library_facts.py)
 mapfile -t scripts < <(printf '%s\n' *.py | grep -vxF "$(printf '%s\n' "${callers[@]}")")
 MYPYPATH=../../reference:../dist "${mypy[@]}" "${scripts[@]}" ../bench/hostile_loads.py || failed=1
 MYPYPATH=../../examples/python:../../reference "${mypy[@]}" "${callers[@]}" || failed=1

@@ -156,7 +156,7 @@ def main() -> None:
     parser.add_argument("--libraries", type=Path, default=TOP / "out")
     parser.add_argument("programs", type=Path, nargs="*")
     given = parser.parse_args()
-    crates = [name for name in ("baliseplan", "balisefields") if (TOP / "crates" / name).is_dir()]
+    crates = [name for name in ("baliseplan", "balisefields", "balisefacts") if (TOP / "crates" / name).is_dir()]
     programs = given.programs or [TOP / "crates" / name / "out" / name for name in crates]
     for file in (*programs, given.libraries / "libbaliseplan.a"):
         if not file.is_file():

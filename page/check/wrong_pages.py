@@ -26,7 +26,7 @@ class Wrong:
     old: str
     new: str
     check: tuple[str, ...]  # what has to fail
-    says: str  # what the failure names
+    says: str  # what the failure names; with a bar between, one of these
     quick: bool = False
 
 
@@ -61,7 +61,7 @@ PAGES = (
           flows("edit"), "insert by fields"),
     Wrong("makes a field of a form another one", "core/items.mjs", "`${name} ${value}`", "`${name} ${value ^ (name === 'Q_GDIR')}`",
           flows("edit"), "many parts"),
-    Wrong("shows an answer that comes too late", "ui/forms.mjs", "    if (mine !== latest) return;\n", "", flows("edit"), "a late answer"),
+    Wrong("shows an answer that comes too late", "ui/forms.mjs", "    if (mine !== latest) return;\n", "", flows("edit"), "a late answer|typed wrong in the form"),
     Wrong("shows a fault one bit off", "core/items.mjs", "bit: Number(bit), due });", "bit: Number(bit) + 1, due });", flows("files"), "a bad plan"),
     Wrong("reads the digits of a packet as of another version", "worker/speller.mjs", "packetItem(version, fields.map", "packetItem(16, fields.map", test("random"), "random session"),
     Wrong("finds that all belongs together", "worker/checker.mjs", "if (made.plan !== other.plan) return nameDifference(this, answer);",
@@ -104,7 +104,7 @@ def is_found(wrong: Wrong, program: str) -> bool:
         words = [program if word == "PROGRAM" else word for word in wrong.check]
         run = subprocess.run(words, cwd=folder, env={**os.environ, "BALISEPLAN": program}, capture_output=True, text=True)
         faults = [line for line in run.stdout.split("\n") if not line.lstrip().startswith(("ok", "# Subtest"))]
-        found = run.returncode != 0 and any(wrong.says in line for line in faults)
+        found = run.returncode != 0 and any(says in line for says in wrong.says.split("|") for line in faults)
         if not found:
             print(run.stdout[-1500:], run.stderr[-500:])
         return found

@@ -50,7 +50,7 @@ memory_tests() {
 
 # A function is read whole before it is run. So the file may change while it runs, which takes long.
 main() {
-    part "gate: rt ci" with_kit env -C "$top" rt ci
+    part "gate: rt ci" with_kit env -C "$top" RT_JOBS="${RT_JOBS:-$(nproc)}" rt ci
     part "program: proved once more, and built in out/" with_kit built_program
     part "programs for fields and facts: proved once more, and built in out/" with_kit built_others
     part "tests of memory: proved once more, and built in out/" with_kit memory_tests

@@ -40,6 +40,7 @@ first=$(python3 make_load.py commands 1 | sed -n '/^edits$/{n;p;}')
 { cat "$folder/small"; echo edits; for _ in 1 2 3 4 5 6 7 8 9 10; do echo "$first"; done; } > "$folder/ten"
 python3 make_load.py plan 590000 > "$folder/large"
 echo "ten groups and ten commands: a call $("$folder/calls" "$folder/ten" 2000), a start $(started "$folder/ten" 200)"
+echo "facts of these ten: a call $("$folder/calls" "$folder/ten" 2000 facts)"
 echo "a plan of 590,000 groups: a call $("$folder/calls" "$folder/large" 1), a start $(started "$folder/large" 1)"
 reference=../../reference
 for seed in {1..100}; do python3 $reference/random_fields.py "$seed"; done > "$folder/digits"

@@ -1,6 +1,6 @@
-/* Times calls of the library: library_calls FILE COUNT [explain | spell]: microseconds of processor time for one call,
- * the least of five rounds of COUNT calls each, over the input of the file. First with an output that just fits, then
- * with one that the library allocates. */
+/* Times calls of the library: library_calls FILE COUNT [facts | explain | spell]: microseconds of processor time for one
+ * call, the least of five rounds of COUNT calls each, over the input of the file. First with an output that just fits,
+ * then with one that the library allocates. */
 #include <stdio.h>
 #include <stdlib.h>
 #include <string.h>
@@ -39,6 +39,12 @@ static void run(const struct text *input, struct text *output)
     baliseplan_run(input->bytes, input->len, 0, output->bytes, output->len, &written);
 }
 
+static void facts(const struct text *input, struct text *output)
+{
+    size_t written = 0;
+    baliseplan_facts(input->bytes, input->len, BALISEPLAN_ALL_EDITS, 0, output->bytes, output->len, &written);
+}
+
 static void explain(const struct text *input, struct text *output)
 {
     size_t written = 0;
@@ -54,6 +60,11 @@ static void spell(const struct text *input, struct text *output)
 static void run_alloc(const struct text *input, struct text *output)
 {
     baliseplan_run_alloc(input->bytes, input->len, 0, &output->bytes, &output->len);
+}
+
+static void facts_alloc(const struct text *input, struct text *output)
+{
+    baliseplan_facts_alloc(input->bytes, input->len, BALISEPLAN_ALL_EDITS, 0, &output->bytes, &output->len);
 }
 
 static void explain_alloc(const struct text *input, struct text *output)
@@ -73,7 +84,10 @@ struct calls {
 };
 
 static const struct calls ALL[] = {
-    {"run", run, run_alloc}, {"explain", explain, explain_alloc}, {"spell", spell, spell_alloc}};
+    {"run", run, run_alloc},
+    {"facts", facts, facts_alloc},
+    {"explain", explain, explain_alloc},
+    {"spell", spell, spell_alloc}};
 
 /* The calls of a name; null where there are none. */
 static const struct calls *calls_of(const char *name)
@@ -109,7 +123,7 @@ int main(int argc, char **argv)
     const struct calls *calls = calls_of(argc == 4 ? argv[3] : "run");
     input.bytes = count > 0 && calls ? read_all(argv[1], &input.len) : NULL;
     if (!input.bytes) {
-        fputs("usage: library_calls FILE COUNT [explain | spell]\n", stderr);
+        fputs("usage: library_calls FILE COUNT [facts | explain | spell]\n", stderr);
         return 2;
     }
     calls->alloc(&input, &output);

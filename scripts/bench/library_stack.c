@@ -1,7 +1,7 @@
 /* Measures the stack that a call of the library takes: library_stack FILE ..: the most of baliseplan_run_alloc over the
- * files with each of the 16 sets of flags, in bytes, that of baliseplan_explain_alloc and of baliseplan_spell_alloc over
- * them, and what a thread takes that calls nothing. The stack is filled with one byte before the call, and looked at
- * after it. */
+ * files with each of the 16 sets of flags, in bytes, that of baliseplan_facts_alloc with facts of all edits and with
+ * tags, that of baliseplan_explain_alloc and of baliseplan_spell_alloc, and what a thread takes that calls nothing. The
+ * stack is filled with one byte before the call, and looked at after it. */
 #define _GNU_SOURCE
 #include <pthread.h>
 #include <stdio.h>
@@ -30,6 +30,16 @@ static void *run(void *given)
     uint8_t *output;
     size_t len;
     baliseplan_run_alloc(call->input, call->len, call->flags, &output, &len);
+    baliseplan_free(output);
+    return NULL;
+}
+
+static void *facts(void *given)
+{
+    struct call *call = given;
+    uint8_t *output;
+    size_t len;
+    baliseplan_facts_alloc(call->input, call->len, call->flags, 0, &output, &len);
     baliseplan_free(output);
     return NULL;
 }
@@ -93,16 +103,20 @@ int main(int argc, char **argv)
         fputs("usage: library_stack FILE ..\n", stderr);
         return 2;
     }
-    size_t of_run = 0, of_explain = 0, of_spell = 0, own = taken(stack, nothing, NULL);
+    size_t of_run = 0, of_facts = 0, of_explain = 0, of_spell = 0, own = taken(stack, nothing, NULL);
     for (int at = 1; at < argc; at++) {
         struct call given = read_all(argv[at]);
         for (given.flags = 0; given.flags <= BALISEPLAN_FLAGS; given.flags++)
             of_run = larger(of_run, taken(stack, run, &given));
+        given.flags = BALISEPLAN_ALL_EDITS;
+        of_facts = larger(of_facts, taken(stack, facts, &given));
+        given.flags = BALISEPLAN_TAGS;
+        of_facts = larger(of_facts, taken(stack, facts, &given));
         of_explain = larger(of_explain, taken(stack, explain, &given));
         of_spell = larger(of_spell, taken(stack, spell, &given));
         free(given.input);
     }
-    printf("%zu bytes at most, to explain %zu, to spell %zu, of which a thread that calls nothing takes %zu\n", of_run,
-           of_explain, of_spell, own);
+    printf("%zu bytes at most, for facts %zu, to explain %zu, to spell %zu; a thread that calls nothing takes %zu\n", of_run,
+           of_facts, of_explain, of_spell, own);
     return 0;
 }

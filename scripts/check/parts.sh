@@ -2,9 +2,10 @@
 # Runs parts one after another: how each ended, its time and what it printed last. For all.sh and everything.sh.
 #
 # A part is right (status 0), wrong (1) or NOT RUN (2: something that it needs is missing, which it says). Parts whose
-# names match the expression WITHOUT, of the environment, are NOT RUN either.
+# names match the expression WITHOUT, of the environment, are NOT RUN either. A part that mostly waits runs beside those
+# after it, where there are four processors.
 
-part_names=() part_commands=() part_ends=() wrong_ends=()
+part_names=() part_commands=() part_ends=() wrong_ends=() waiting_parts=()
 right=0 wrong=0 not_run=0
 logs=${CHECK_LOGS:-}
 
@@ -17,6 +18,12 @@ part() {
         shift
         part_commands+=("$(printf '%q ' "$@")")
     fi
+}
+
+# waiting_part NAME COMMAND ..: a part that mostly waits
+waiting_part() {
+    [ "$(nproc)" -lt 4 ] || waiting_parts[${#part_names[@]}]=begun
+    part "$@"
 }
 
 left_out() {
@@ -72,33 +79,69 @@ wrong_part() {
     wrong_ends+=("$1:"$'\n'"$( (printed "$2.err" 4 && printed "$2.out" 10) | cut -c 1-160)")
 }
 
-run_part() {
-    local index=$1 place log status=0 since=$SECONDS
-    place="[$((index + 1))/${#part_names[@]}]"
-    log=$(printf '%s/%02d' "$logs" "$((index + 1))")
+# log_of INDEX: the files of a part, without their endings
+log_of() {
+    printf '%s/%02d' "$logs" "$(($1 + 1))"
+}
+
+# begin_part INDEX: runs its command in a process group of its own, which leaves its status and its seconds
+begin_part() {
+    local log
+    log=$(log_of "$1")
+    rm -f "$log.end"
     : > "$log.out"
     : > "$log.err"
-    [ -t 2 ] || echo "$place runs: ${part_names[index]}"
-    follow "$log" "$place" "${part_names[index]}" &
-    eval "${part_commands[index]}" > "$log.out" 2> "$log.err" < /dev/null || status=$?
+    [ -t 2 ] || echo "[$(($1 + 1))/${#part_names[@]}] runs: ${part_names[$1]}"
+    set -m
+    {
+        begun=$SECONDS status=0
+        eval "${part_commands[$1]}" > "$log.out" 2> "$log.err" || status=$?
+        echo "$status $((SECONDS - begun))" > "$log.end"
+    } < /dev/null &
+    groups[$1]=$!
+    set +m
+}
+
+# end_part INDEX: waits for it, and judges it
+end_part() {
+    local log status=1 seconds=0
+    log=$(log_of "$1")
+    follow "$log" "[$(($1 + 1))/${#part_names[@]}]" "${part_names[$1]}" &
+    wait "${groups[$1]}"
     kill -KILL $! 2> /dev/null
     wait $! 2> /dev/null
-    judge "$index" "$status" "$((SECONDS - since))" "$log"
+    unset "groups[$1]"
+    [ ! -e "$log.end" ] || read -r status seconds < "$log.end"
+    judge "$1" "$status" "$seconds" "$log"
+}
+
+# stop_parts: ends all that was begun
+stop_parts() {
+    local group
+    for group in "${groups[@]}"; do
+        kill -KILL -- "-$group" 2> /dev/null
+    done
+    # shellcheck disable=SC2046
+    kill -KILL $(jobs -p) 2> /dev/null
 }
 
 # run_parts: runs all parts, and prints a line for each and one verdict. Ends with 0, 1 if one is wrong, else 2
 run_parts() {
-    local index temporary=
+    local index temporary='' groups=()
     if [ -z "$logs" ]; then
         logs=$(mktemp -d)
         temporary=$logs
     fi
     # A job that is begun and ended at once may still have the traps of this shell.
     # shellcheck disable=SC2064
-    trap "[ \$BASHPID != $$ ] || { kill -KILL \$(jobs -p) 2> /dev/null; rm -rf '$temporary'; }" EXIT
+    trap "[ \$BASHPID != $$ ] || { stop_parts; rm -rf '$temporary'; }" EXIT
     trap '[ "$BASHPID" != $$ ] || { echo "stopped: not all parts were run"; exit 130; }' INT TERM
     for index in "${!part_names[@]}"; do
-        run_part "$index"
+        begin_part "$index"
+        [ -n "${waiting_parts[index]:-}" ] || end_part "$index"
+    done
+    for index in "${!waiting_parts[@]}"; do
+        end_part "$index"
     done
     verdict
 }

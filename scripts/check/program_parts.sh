@@ -94,10 +94,16 @@ parts_of_facts() {
     done
 }
 
+part_of_page() {
+    waiting_part "page" with_built "$program" bash page.sh "$program"
+}
+
+# quick_parts [BUILT]: BUILT says that the library is built already. Then the page begins first, which takes longest.
 quick_parts() {
     parts_of_repository
+    [ -z "${1:-}" ] || part_of_page
     parts_of_program
-    of_program "page" bash page.sh "$program"
+    [ -n "${1:-}" ] || part_of_page
     of_program "refused growths" python3 refuse_growths.py "$program" "$examples" "$rows" --own-flags
     of_program "failing reads and writes" python3 fail_devices.py "$program" "$examples"
     of_program "damage" python3 damage_inputs.py "$program" "$examples/turned_group.plan" "$examples/journal_read.plan"
@@ -112,7 +118,7 @@ quick_parts() {
 all_parts() {
     parts_of_repository
     parts_of_program
-    of_program "page" bash page.sh "$program"
+    part_of_page
     of_program "refused growths" python3 refuse_growths.py "$program" "$examples" "$rows"
     of_program "failing reads and writes" python3 fail_devices.py "$program" "$examples" "$rows"
     of_program "damage" python3 damage_inputs.py "$program" "$examples" "$rows"

@@ -37,7 +37,7 @@ built_program() {
 }
 
 built_others() {
-    make --no-print-directory -C "$top" fields facts library || return 1
+    make --no-print-directory -C "$top" fields facts || return 1
 }
 
 # The tests of memory as programs: rt leaves them in the folder `out` of their crates.
@@ -52,9 +52,9 @@ memory_tests() {
 main() {
     part "gate: rt ci" with_kit env -C "$top" RT_JOBS="${RT_JOBS:-$(nproc)}" rt ci
     part "program: proved once more, and built in out/" with_kit built_program
-    part "library, programs for fields and facts: proved once more, and built in out/" with_kit built_others
+    part "programs for fields and facts: proved once more, and built in out/" with_kit built_others
     part "tests of memory: proved once more, and built in out/" with_kit memory_tests
-    quick_parts built
+    quick_parts
     of_program "desk" bash desk.sh "$program" --quick
     # Further tests of the repository, a line each:
     #     part NAME COMMAND ..

@@ -98,12 +98,11 @@ part_of_page() {
     waiting_part "page" with_built "$program" bash page.sh "$program"
 }
 
-# quick_parts [BUILT]: BUILT says that the library is built already. Then the page begins first, which takes longest.
+# The page comes after the library, which it builds its engine of.
 quick_parts() {
     parts_of_repository
-    [ -z "${1:-}" ] || part_of_page
     parts_of_program
-    [ -n "${1:-}" ] || part_of_page
+    part_of_page
     of_program "refused growths" python3 refuse_growths.py "$program" "$examples" "$rows" --own-flags
     of_program "failing reads and writes" python3 fail_devices.py "$program" "$examples"
     of_program "damage" python3 damage_inputs.py "$program" "$examples/turned_group.plan" "$examples/journal_read.plan"

@@ -9,6 +9,7 @@
 # make check-dist what a user of these meets, in a bare Debian
 # make dist-twice whether two clones give the same bytes
 # make check      everything that has to hold before a change goes in: the gate, and all other tests (scripts/check/README.md)
+# make mutations  tries the mutations that the gate leaves out, which takes an hour or more
 # make install    puts what was built below PREFIX (and DESTDIR, where it is given): programs, manual, pages, header,
 #                 libraries, pkg-config file and completions
 # make uninstall  removes these
@@ -43,7 +44,7 @@ shared_object := out/libbaliseplan.so.$(abi)
 sources := library/run_alloc.c library/texts.c
 pages := $(wildcard docs/*.md docs/*.svg) CHANGELOG.md
 
-.PHONY: all program fields facts library shared page wheel packed packed-shared dist packed-dist check-dist dist-twice check \
+.PHONY: all program fields facts library shared page wheel packed packed-shared dist packed-dist check-dist dist-twice check mutations \
     install uninstall clean
 all: program
 
@@ -117,6 +118,10 @@ dist-twice:
 # ALL_OF_IT=yes: what can't be run counts as failed. WITHOUT=gate: leaves out the parts whose names match, and says so.
 check:
 	@WITHOUT='$(WITHOUT)' scripts/check/everything.sh $(if $(ALL_OF_IT),--all-of-it)
+
+# CRATES="balise_plan balise_edits": those of some crates alone
+mutations:
+	scripts/check/more_mutations.py $(CRATES)
 
 install:
 	@for file in $(program) out/libbaliseplan.a $(shared_object); do \

@@ -9,7 +9,7 @@ reads no program. In each page
 - a page that is named without a link, as docs/GUIDE.md, has to exist, seen from the top or from the page's folder;
 - so has a file or folder of the repository, or of some crate, that is named in code, as `examples/line.jq` or
   `src/lib.rt`, if it isn't built;
-- a mutation that is named in code, as `balise_bits/spare_bits_ignored`, has to stand in that crate's must-fail/;
+- a mutation that is named in code, as `balise_bits/spare_bits_ignored`, has to stand in that crate's must-fail/ or more-mutations/;
 - outside of code none of the expressions of WORDS may stand: each has a plainer one beside it.
 
 Status 0: all is right. 1: something isn't, one line each. 2: FOLDER has no pages.
@@ -44,7 +44,7 @@ WORDS = {
 NO_PAGE = {"NAME.md"}
 FOLDERS = "checks|completions|crates|data|desk|docs|examples|include|man|page|reference|scripts"
 PLACE = re.compile(rf"(?:\.\./)*((?:{FOLDERS})/[\w./-]*)")
-IN_CRATE = re.compile(r"(?:must-fail|proofs|specs|src)/[\w./-]*")
+IN_CRATE = re.compile(r"(?:must-fail|more-mutations|proofs|specs|src)/[\w./-]*")
 MUTATION = re.compile(r"(balise_\w+)/(\w+)")
 
 
@@ -89,7 +89,8 @@ def is_there(top: Path, word: str) -> bool:
         return "/out/" in word or (top / place[1]).exists()
     if mutation is not None:
         crate = top / "crates" / mutation[1]
-        return not crate.exists() or (crate / "must-fail" / f"{mutation[2]}.edit").exists()
+        folders = ("must-fail", "more-mutations")
+        return not crate.exists() or any((crate / folder / f"{mutation[2]}.edit").exists() for folder in folders)
     return True
 
 

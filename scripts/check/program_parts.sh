@@ -49,6 +49,7 @@ random() {
 parts_of_repository() {
     part "links and words of the pages" python3 pages.py
     part "traces from rules to calls and tests" python3 traces.py
+    part "mutations beside the gate still fit" python3 more_mutations.py --look
     part "tests of the traces" with_modules "pytest" PYTHON -m pytest -q -p no:cacheprovider test_traces.py
     part "layout of the manual" bash manual.sh
     part "table of the variables" python3 ../tables/variables.py --check

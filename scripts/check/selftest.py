@@ -147,8 +147,15 @@ TRACES = (
 Where the page is written anew, it is what the sources say, and something has no row."""
 
 
+MORE_MUTATIONS = (
+    ("has a line changed that a mutation changes", "crates/balise_view/src/packet.rt", "self.known.serialize(out)?;", "true.serialize(out)?;"),
+    ("has a mutation in both folders", "crates/balise_view/must-fail/known_always.edit", "", "file: src/packet.rt\n"),
+)
+"""Damaged repositories: what is wrong, a file, and the text in it that is replaced; with none, all of the file."""
+
+
 def of_traces(folder: Path) -> Iterator[Task]:
-    """traces.py over copies of the repository."""
+    """traces.py and more_mutations.py over copies of the repository."""
     right = traced(folder / "traces", "")
     yield "traces.py", "is right", [PYTHON, "traces.py", str(right)], RIGHT, "30"
     for number, (kind, name, old, new, option) in enumerate(TRACES):
@@ -162,6 +169,13 @@ def of_traces(folder: Path) -> Iterator[Task]:
             taken = "".join(line for line in lines if not line.startswith(old))
             damaged.write_text(taken if new is None else text.replace(old, new))
         yield "traces.py", kind, [PYTHON, "traces.py", *option.split(), str(top)], WRONG, "30"
+    look = [PYTHON, "more_mutations.py", "--look", "--top"]
+    yield "more_mutations.py", "is right", [*look, str(right)], RIGHT, "30"
+    for number, (kind, name, old, new) in enumerate(MORE_MUTATIONS):
+        top = traced(folder / f"mutations_{number}", name)
+        damaged = top / name
+        damaged.write_text(damaged.read_text().replace(old, new) if old else new)
+        yield "more_mutations.py", kind, [*look, str(top)], WRONG, "30"
 
 
 def traced(top: Path, changed: str) -> Path:

@@ -1,11 +1,7 @@
--- The program's command line, as clap reads it: four arguments without values, and clap's own --help. It has no version, so that --version is an unknown word.
-use Rattle.std.specs.Prelude.{◌≡◌, List, [], Some, codes}
-use Rattle.clap.specs.Words.{App, Rule, Text, fault_of, first_of, matches_of, new_app, new_rule, with_rule}
-use Rattle.clap.specs.declared.builder.ArgAction.TheVariants.{SetTrue}
-
--- an argument `--NAME` that takes no value
-abbrev pub flag_rule : Text → Rule
-flag_rule name = record (new_rule name) { long = Some name; action = Some SetTrue }
+-- The command line of `baliseplan`, as clap reads it: four arguments without values, and clap's own --help. It has no version, so that --version is an unknown word.
+use Rattle.std.specs.Prelude.{◌≡◌, List, [], codes}
+use Rattle.clap.specs.Words.{App, Text, fault_of, new_app, with_rule}
+use Rattle.balise_arguments.specs.CommandLines.{IsGiven, flag_rule}
 
 unfoldable pub program : App
 program = with_rule (with_rule (with_rule (with_rule (new_app (codes "baliseplan"))
@@ -13,7 +9,7 @@ program = with_rule (with_rule (with_rule (with_rule (new_app (codes "baliseplan
 
 -- clap finds the argument among the words
 abbrev pub IsUsed : Text → List Text → Type 0
-IsUsed name words = first_of name (matches_of program words) ≡ Some (codes "true")
+IsUsed name words = IsGiven program name words
 
 -- clap has nothing against the words
 abbrev pub AreAccepted : List Text → Type 0

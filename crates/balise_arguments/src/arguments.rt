@@ -1,13 +1,14 @@
 //! Reads the arguments.
 
-ghost use Rattle.std.specs.Prelude.{◌≡◌, ◌↔◌, IfErr, IfOk, IsTrue, OnOk, Some, codes, false, map};
-ghost use Rattle.clap.specs.Words.{app_of, first_value, found_of, new_app, rule_of};
-ghost use Rattle.balise_arguments.specs.Arguments.{flag_rule, program, AreAccepted, IsUsed};
+ghost use Rattle.std.specs.Prelude.{◌≡◌, ◌↔◌, IfErr, IfOk, IsTrue, OnOk, codes, map};
+ghost use Rattle.clap.specs.Words.{app_of, new_app};
+ghost use Rattle.balise_arguments.specs.Arguments.{program, AreAccepted, IsUsed};
 ghost use Rattle.balise_arguments.specs.Faults.{IsFaultOf};
 
+use crate::command_line::{flag, is_used};
 use crate::fault::ArgsFault;
 use crate::options::Flags;
-use clap::{Arg, ArgAction, ArgMatches, Command};
+use clap::Command;
 use std::alloc::{AllocError, Global};
 
 const ABOUT: &str =
@@ -40,7 +41,7 @@ pub fn flags<'a>(alloc: Global, words: &'a [&'a str]) -> Result<Flags, ArgsFault
     ensures journal { IfOk result (λ f. IsTrue f.journal ↔ IsUsed (codes "journal") (map (λ w. w.now) words.now)) }
     ensures json { IfOk result (λ f. IsTrue f.json ↔ IsUsed (codes "json") (map (λ w. w.now) words.now)) }
     ensures ok { OnOk result (AreAccepted (map (λ w. w.now) words.now)) }
-    ensures fault { IfErr result (IsFaultOf (map (λ w. w.now) words.now)) }
+    ensures fault { IfErr result (IsFaultOf program (map (λ w. w.now) words.now)) }
 {
     let Ok(command) = command(alloc) else {
         return Err(ArgsFault::Memory);
@@ -80,22 +81,4 @@ fn described<'a>(alloc: Global) -> Command<'a>
         .about(ABOUT)
         .override_usage(USAGE)
         .after_help(AFTER_OPTIONS)
-}
-
-// An argument `--NAME` that takes no value.
-fn flag<'a>(alloc: Global, name: &'a str, help: &'a str) -> Arg<'a>
-    ensures rule { rule_of result ≡ flag_rule name.entry.now }
-    ensures local { result.global ≡ false }
-{
-    Arg::new(alloc, name)
-        .long(name)
-        .action(ArgAction::SetTrue)
-        .help(help)
-}
-
-// Whether clap found the argument among the words.
-fn is_used(matches: &ArgMatches<'_>, name: &str) -> bool
-    ensures { IsTrue result ↔ (first_value (found_of matches.now) name.now ≡ Some (codes "true")) }
-{
-    matches.get_str(name) == Some("true")
 }

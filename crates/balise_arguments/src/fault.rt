@@ -1,11 +1,11 @@
-//! Why there are no flags.
+//! Why words ask for nothing.
 
 ghost use Rattle.balise_arguments.specs.Faults.{IsFor};
 
 use clap::Error;
 use clap::error::ErrorKind;
 
-/// Why there are no flags. Its `Display` is the text for the user, with a line feed at its end.
+/// Why words ask for nothing that a program does. Its `Display` is the text for the user, with a line feed at its end.
 #[derive(Debug, Drop, thiserror::Error)]
 pub enum ArgsFault {
     /// Help was asked for. The text is for standard output, and nothing is wrong.
@@ -21,7 +21,7 @@ pub enum ArgsFault {
 
 impl ArgsFault {
     /// The fault that an error of clap is.
-    pub(crate) fn of(error: Error) -> ArgsFault
+    pub fn of(error: Error) -> ArgsFault
         ensures { IsFor error result }
     {
         match error.kind() {

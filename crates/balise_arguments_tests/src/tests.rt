@@ -1,3 +1,4 @@
 //! The tests, by topic.
 
 mod arguments;
+mod command_lines;

@@ -7,7 +7,7 @@ use Rattle.balise_cli.specs.declared.asked.Asked.{Asked}
 use Rattle.balise_text.specs.Texts.{Text}
 use Rattle.balise_cli.specs.Ends.{DidLines, WritesBeginning, WritesOutput, WritesSome, WritesStanding}
 use Rattle.balise_cli.specs.Output.{Ending, Phase}
-use Rattle.balise_cli.specs.Program.{Runs}
+use Rattle.balise_cli.specs.Runs.{Runs}
 use Rattle.balise_text.specs.declared.run_fault.RunFault.{RunFault}
 use Rattle.balise_cli.specs.declared.status.Status.{Status}
 

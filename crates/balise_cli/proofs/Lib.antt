@@ -16,6 +16,7 @@ pub mod Stopped
 pub mod Printables
 pub mod JournalTexts
 pub mod Headline
+pub mod AllOfRuns
 pub mod OneStanding
 pub mod Shortage
 pub mod Flushed

@@ -8,6 +8,6 @@ pub mod Laws
 pub mod Private
 pub mod Phases
 pub mod Progress
+pub mod Runs
 pub mod Exits
 pub mod Program
-pub mod CommandLine

@@ -83,7 +83,7 @@ abbrev pub Begins : Plan → Head → Result JournalReader Refusal → Type 0
 Begins p head (Ok r) = (opened_at p head.next ≡ Some r.opening.state) × (r.section ≡ Entries head.version)
 Begins p head (Err r) = (opened_at p head.next ≡ None) × (r ≡ JournalMismatch)
 
--- Memory may run out at a line of the plan in a group alone: for a telegram, which isn't a ninth; or for the group where it ends there, if it has no fault.
+-- Memory may run out at a line of the plan in a group alone: for one of the first eight telegrams, or for the group where it ends there, if it has no fault.
 abbrev pub LineMayRunOut : Phase → Bool → Type 0
 LineMayRunOut (InGroup p g ys) true = length ys < most_telegrams
 LineMayRunOut (InGroup p g ys) false = IsOk (with_read p ys)

@@ -9,7 +9,7 @@ use Rattle.balise_plan.specs.GroupReading.{most_telegrams, with_telegram, with_r
 use Rattle.balise_text.specs.DigitWords.{bits_due}
 use Rattle.balise_text.specs.Texts.{Text}
 
--- the telegrams of a group with that of one line more; a ninth line isn't looked at
+-- the telegrams of a group with that of one line more; a line over eight isn't looked at
 abbrev pub with_line : Group → Text → Result Group Refusal
 with_line ys line = cond (nat_le most_telegrams (length ys)) (Err GroupSize) (and_then (read_hex (bits_due (length line)) line) (with_telegram ys))
 

@@ -22,8 +22,6 @@ mod running;
 mod status;
 
 // The program over its words and its three streams.
-mod command_line;
-mod on_system;
 mod program;
 
 pub use asked::{Asked, Closing};
@@ -33,8 +31,7 @@ pub use balise_history::Refusal;
 pub use balise_lines::Counted;
 pub use balise_program::{Exit, exit_after_arguments, report, stop_without_memory};
 pub use balise_text::RunFault;
-pub use command_line::launch;
 pub use exit::exit_of;
-pub use program::{start, work, work_facts};
+pub use program::{Baliseplan, launch, start, work, work_facts};
 pub use running::{run, run_facts};
 pub use status::Status;

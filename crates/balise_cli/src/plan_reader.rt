@@ -41,7 +41,7 @@ pub(crate) struct PlanReader {
     stage: PlanStage,
 }
 
-// Adds the telegram of a line. A ninth line isn't looked at.
+// Adds the telegram of a line. A line over eight isn't looked at.
 fn add_telegram(alloc: Global, group: &mut GroupReader, line: &[u8]) -> Result<(), Refusal>
     ensures ok { OnOk result (with_line group.old line.now ≡ Ok group.new) }
     ensures fault { IfErr result (λ r. ((r ≡ Refusal.OutOfMemory) × (length group.old < most_telegrams)) ⊎ (with_line group.old line.now ≡ Err r)) }
@@ -146,7 +146,7 @@ impl PlanReader {
     }
 
     /// Reads the line of this number: the plan goes on after it, or ends there. Memory can run out in a group alone: for
-    /// a telegram that isn't a ninth, or for a group that has no fault and ends there.
+    /// a telegram that is one of the first eight, or for a group that has no fault and ends there.
     pub(crate) fn read(
         &mut self,
         alloc: Global,

@@ -1,17 +1,23 @@
 //! The program over its words, its input and its two outputs.
 
-ghost use Rattle.std.specs.Prelude.{map};
+ghost use Rattle.std.specs.Prelude.{◌≡◌, ◌≢◌, IfErr, IfOk, OnErr, map, string_bytes};
+ghost use Rattle.std.specs.Vec.Iter.{into_iter_items};
+ghost use Rattle.std.specs.IoError.{error_kind};
+ghost use Rattle.balise_program.specs.Reporting.{StopsAtBadText, StopsWithoutMemory};
+ghost use Rattle.balise_program.specs.Starting.{MayStart, Starts};
 ghost use Rattle.balise_cli.specs.Asking.{asked_by, facts_asked};
-ghost use Rattle.balise_cli.specs.Program.{DoesWords, Starts, Works};
+ghost use Rattle.balise_cli.specs.Program.{Asks, PlanWork, Works};
 
 use crate::asked::{Asked, asked_by, facts_asked};
 use crate::exit::exit_of;
 use crate::running::{AtEnd, run_lines};
-use balise_arguments::{Flags, flags};
+use balise_arguments::{ArgsFault, Flags, flags};
 use balise_facts::Facts;
-use balise_program::{Counted, Exit, exit_after_arguments, report, show};
+use balise_program::{Counted, Exit, Program};
 use std::alloc::Global;
-use std::io::{BufWriter, Read, Write};
+use std::env::Args;
+use std::io;
+use std::io::{BufWriter, ErrorKind, Read, Write};
 
 // Runs, and then flushes, also where a fault ended the run.
 fn run_and_flush<R: Read, W: Write + Drop>(
@@ -54,22 +60,27 @@ pub fn work_facts<R: Read, W: Write + Drop>(
     run_and_flush(alloc, facts_asked(facts), reader, writer)
 }
 
-// Does what the words ask for, and doesn't report the fault that the program ends with.
-fn do_words<R: Read, W: Write + Drop, E: Write>(
-    alloc: Global,
-    words: &[&str],
-    reader: &mut Counted<R>,
-    writer: &mut Counted<BufWriter<W>>,
-    errors: &mut Counted<E>,
-) -> Exit
-    ensures { DoesWords R.remaining W.contents (map (λ w. w.now) words.now) reader.old reader.new writer.old writer.new errors.old errors.new result }
-{
-    match flags(alloc, words) {
-        Ok(flags) => work(alloc, flags, reader, writer),
-        Err(fault) => {
-            show(&fault, writer, errors);
-            exit_after_arguments(&fault)
-        }
+/// The program: it edits a plan.
+pub struct Baliseplan;
+
+impl Program for Baliseplan {
+    type Asked = Flags;
+
+    ghost asks = { Asks };
+
+    ghost works = { PlanWork };
+
+    fn ask<'a>(alloc: Global, words: &'a [&'a str]) -> Result<Flags, ArgsFault> {
+        flags(alloc, words)
+    }
+
+    fn work<R: Read, W: Write + Drop>(
+        alloc: Global,
+        flags: Flags,
+        reader: &mut Counted<R>,
+        writer: &mut Counted<BufWriter<W>>,
+    ) -> Exit {
+        work(alloc, flags, reader, writer)
     }
 }
 
@@ -83,9 +94,23 @@ pub fn start<R: Read, W: Write + Drop, E: Write>(
     writer: &mut Counted<BufWriter<W>>,
     errors: &mut Counted<E>,
 ) -> Exit
-    ensures { Starts R.remaining W.contents E.contents (map (λ w. w.now) words.now) reader.old reader.new writer.old writer.new errors.old errors.new result }
+    ensures { Starts Asks (PlanWork R.remaining W.contents) E.contents (map (λ w. w.now) words.now) reader.old reader.new writer.old writer.new errors.old errors.new result }
 {
-    let exit = do_words(alloc, words, reader, writer, errors);
-    let _ = report(errors, exit);
-    exit
+    balise_program::start::<Baliseplan, R, W, E>(alloc, words, reader, writer, errors)
+}
+
+/// Does what the command line asks for, as the system hands it over. A word that is no text is reported, with status 64.
+pub fn launch<R: Read, W: Write + Drop, E: Write>(
+    alloc: Global,
+    arguments: io::Result<Args>,
+    reader: &mut Counted<R>,
+    writer: &mut Counted<BufWriter<W>>,
+    errors: &mut Counted<E>,
+) -> Exit
+    ensures ok { IfOk arguments (λ args. MayStart Asks (PlanWork R.remaining W.contents) E.contents (map string_bytes (into_iter_items args)) reader.old reader.new writer.old writer.new errors.old errors.new result) }
+    ensures memory { IfErr arguments (λ e. error_kind e ≡ ErrorKind.OutOfMemory → StopsWithoutMemory E.contents errors.old errors.new result) }
+    ensures text { IfErr arguments (λ e. error_kind e ≢ ErrorKind.OutOfMemory → StopsAtBadText E.contents errors.old errors.new result) }
+    ensures idle { OnErr arguments ((reader.new ≡ reader.old) × (writer.new ≡ writer.old)) }
+{
+    balise_program::launch::<Baliseplan, R, W, E>(alloc, arguments, reader, writer, errors)
 }

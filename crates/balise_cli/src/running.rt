@@ -7,7 +7,8 @@ ghost use Rattle.balise_text.specs.Printing.{Prints};
 ghost use Rattle.balise_text.specs.RunFaults.{IsFault};
 ghost use Rattle.balise_cli.specs.Output.{Commands as AtCommands, Ended, Phase, TooLong};
 ghost use Rattle.balise_cli.specs.Phases.{journal_phase, plan_phase};
-ghost use Rattle.balise_cli.specs.Progress.{Ran, RunsOn};
+ghost use Rattle.balise_cli.specs.Progress.{RunsOn};
+ghost use Rattle.balise_cli.specs.Runs.{RunCounts, Runs};
 ghost use Rattle.balise_lines.specs.Reading.{OverAtEnd};
 ghost use Rattle.balise_rules.specs.Session.{State};
 ghost use Rattle.balise_text.specs.Replies.{bad_line};
@@ -71,18 +72,8 @@ pub fn run_facts<R: Read, W: Write>(
     writer: &mut Counted<W>,
     facts: Facts,
 ) -> Result<Status, RunFault>
-    ensures held { IfOk result (WritesStanding (facts_asked facts) (R.remaining reader.old.inner) (W.contents writer.old.inner) (W.contents writer.new.inner)) }
-    ensures ok { IfOk result (λ status. WritesOutput (facts_asked facts) (R.remaining reader.old.inner) (W.contents writer.old.inner) (W.contents writer.new.inner) (Ended status)) }
-    ensures read { IfOk result (λ status. DidLines (facts_asked facts) (R.remaining reader.old.inner) (R.remaining reader.new.inner) (W.contents writer.old.inner) (W.contents writer.new.inner) (ComesToEnd (facts_asked facts) (R.remaining reader.new.inner) status)) }
-    ensures unread { OnOk result (reader.new.failed ≡ reader.old.failed) }
-    ensures unwritten { OnOk result (writer.new.failed ≡ writer.old.failed) }
-    ensures long { IsErrOf result RunFault.InputTooLong → WritesOutput (facts_asked facts) (R.remaining reader.old.inner) (W.contents writer.old.inner) (W.contents writer.new.inner) TooLong }
-    ensures fault { IfErr result (IsFault reader.old.failed reader.new.failed writer.old.failed writer.new.failed) }
-    ensures memory { IsErrOf result RunFault.OutOfMemory → DidLines (facts_asked facts) (R.remaining reader.old.inner) (R.remaining reader.new.inner) (W.contents writer.old.inner) (W.contents writer.new.inner) (RunsOutOfMemory (facts_asked facts) (R.remaining reader.new.inner)) }
-    ensures complete { IsErrOf result RunFault.ReadFault → DidLines (facts_asked facts) (R.remaining reader.old.inner) (R.remaining reader.new.inner) (W.contents writer.old.inner) (W.contents writer.new.inner) NoneComplete }
-    ensures full { IsErrOf result RunFault.WriteFault → DidLines (facts_asked facts) (R.remaining reader.old.inner) (R.remaining reader.new.inner) (W.contents writer.old.inner) (W.contents writer.new.inner) (FailsToWrite (facts_asked facts) (R.remaining reader.new.inner)) }
-    ensures begun { OnErr result (WritesBeginning (facts_asked facts) (R.remaining reader.old.inner) (W.contents writer.old.inner) (W.contents writer.new.inner)) }
-    ensures some { OnErr result (WritesSome (facts_asked facts) (R.remaining reader.old.inner) (R.remaining reader.new.inner) (W.contents writer.old.inner) (W.contents writer.new.inner)) }
+    ensures runs { Runs (facts_asked facts) (R.remaining reader.old.inner) (R.remaining reader.new.inner) (W.contents writer.old.inner) (W.contents writer.new.inner) result }
+    ensures counts { RunCounts reader.old.failed reader.new.failed writer.old.failed writer.new.failed result }
 {
     run_lines(alloc, facts_asked(facts), AtEnd::GiveBack, reader, writer)
 }
@@ -95,7 +86,8 @@ pub(crate) fn run_lines<R: Read, W: Write>(
     reader: &mut Counted<R>,
     writer: &mut Counted<W>,
 ) -> Result<Status, RunFault>
-    ensures { Ran asked (R.remaining reader.old.inner) (R.remaining reader.new.inner) (W.contents writer.old.inner) (W.contents writer.new.inner) reader.old.failed reader.new.failed writer.old.failed writer.new.failed result }
+    ensures runs { Runs asked (R.remaining reader.old.inner) (R.remaining reader.new.inner) (W.contents writer.old.inner) (W.contents writer.new.inner) result }
+    ensures counts { RunCounts reader.old.failed reader.new.failed writer.old.failed writer.new.failed result }
 {
     let mut lines = Lines::new();
     let mut plan = PlanReader::new(alloc);

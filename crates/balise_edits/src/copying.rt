@@ -1,11 +1,11 @@
-//! Values once more.
+//! Copies of values.
 
 ghost use Rattle.std.specs.Prelude.{◌≡◌, IfOk, IsOkUnless};
 
 use balise_plan::{Bits, Packet};
 use balise_rules::{Id, Refusal};
 
-/// A packet once more.
+/// A copy of a packet.
 pub(crate) fn copy_packet(packet: &Packet) -> Result<Packet, Refusal>
     ensures ok { IfOk result (λ copied. copied ≡ packet.now) }
     ensures fault { IsOkUnless result Refusal.OutOfMemory }
@@ -16,7 +16,7 @@ pub(crate) fn copy_packet(packet: &Packet) -> Result<Packet, Refusal>
     }
 }
 
-/// A packet that has a place of its own once more.
+/// A copy of a boxed packet.
 pub(crate) fn copy_placed_packet(packet: &Box<Packet>) -> Result<Box<Packet>, Refusal>
     ensures ok { IfOk result (λ copied. copied.value ≡ packet.now.value) }
     ensures fault { IsOkUnless result Refusal.OutOfMemory }
@@ -25,7 +25,7 @@ pub(crate) fn copy_placed_packet(packet: &Box<Packet>) -> Result<Box<Packet>, Re
     Ok(Box::new(*Box::allocator(packet), copied)?)
 }
 
-/// The telegrams of a group once more.
+/// A copy of the telegrams of a group.
 pub(crate) fn copy_telegrams(telegrams: &Vec<Bits>) -> Result<Vec<Bits>, Refusal>
     ensures ok { IfOk result (λ copies. copies.items ≡ telegrams.now.items) }
     ensures fault { IsOkUnless result Refusal.OutOfMemory }
@@ -37,7 +37,7 @@ pub(crate) fn copy_telegrams(telegrams: &Vec<Bits>) -> Result<Vec<Bits>, Refusal
     Ok(copies)
 }
 
-/// Identities once more.
+/// A copy of identities.
 pub(crate) fn copy_names(names: &Vec<Id>) -> Result<Vec<Id>, Refusal>
     ensures ok { IfOk result (λ copies. copies.items ≡ names.now.items) }
     ensures fault { IsOkUnless result Refusal.OutOfMemory }

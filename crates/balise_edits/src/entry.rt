@@ -65,7 +65,7 @@ impl Entry {
         Entry { serial, home, done }
     }
 
-    /// The same entry once more.
+    /// A copy of the entry.
     pub fn copy(&self) -> Result<Entry, Refusal>
         ensures ok { IfOk result (λ entry. entry ≡ self.now) }
         ensures fault { IsOkUnless result Refusal.OutOfMemory }

@@ -198,7 +198,7 @@ impl Note {
         }
     }
 
-    /// The same note once more.
+    /// A copy of the note.
     pub(crate) fn copy(&self) -> Result<Note, Refusal>
         ensures ok { IfOk result (λ note. note_of note ≡ note_of self.now) }
         ensures kind { IfOk result (λ note. kind_in note ≡ kind_in self.now) }
@@ -302,7 +302,7 @@ impl Note {
     }
 }
 
-// Both identities of a link once more.
+// A copy of both identities of a link.
 fn copy_both(names: &Box<[Id; 2]>) -> Result<Box<[Id; 2]>, Refusal>
     ensures ok { IfOk result (λ copied. copied.value ≡ names.now.value) }
     ensures fault { IsOkUnless result Refusal.OutOfMemory }
@@ -310,7 +310,7 @@ fn copy_both(names: &Box<[Id; 2]>) -> Result<Box<[Id; 2]>, Refusal>
     Ok(Box::new(*Box::allocator(names), **names)?)
 }
 
-// Identities that have a place of their own once more.
+// A copy of boxed identities.
 fn copy_placed_names(names: &Box<Vec<Id>>) -> Result<Box<Vec<Id>>, Refusal>
     ensures ok { IfOk result (λ copied. copied.value.items ≡ names.now.value.items) }
     ensures fault { IsOkUnless result Refusal.OutOfMemory }

@@ -75,7 +75,7 @@ impl<N> TakenGroup<N> {
     }
 }
 
-/// A group that was put in once more, with these names.
+/// A copy of a group that was put in, with these names.
 pub(crate) fn copy_group_added<N: Drop>(
     added: &Box<AddedGroup<N>>,
     names: N,
@@ -88,7 +88,7 @@ pub(crate) fn copy_group_added<N: Drop>(
     Ok(Box::new(*Box::allocator(added), AddedGroup { own, names })?)
 }
 
-/// A packet that was taken out once more, with these names.
+/// A copy of a packet that was taken out, with these names.
 pub(crate) fn copy_packet_taken<N: Drop>(
     taken: &Box<TakenPacket<N>>,
     names: N,
@@ -108,7 +108,7 @@ pub(crate) fn copy_packet_taken<N: Drop>(
     Ok(Box::new(*Box::allocator(taken), copied)?)
 }
 
-/// A group that was taken out once more, with these names.
+/// A copy of a group that was taken out, with these names.
 pub(crate) fn copy_group_taken<N: Drop>(
     taken: &Box<TakenGroup<N>>,
     names: N,
@@ -130,7 +130,7 @@ pub(crate) fn copy_group_taken<N: Drop>(
     Ok(Box::new(*Box::allocator(taken), copied)?)
 }
 
-// A packet once more, if there is one.
+// A copy of a packet, if there is one.
 fn copy_packet_or_none(packet: &Option<Packet>) -> Result<Option<Packet>, Refusal>
     ensures ok { IfOk result (λ copied. copied ≡ packet.now) }
     ensures fault { IsOkUnless result Refusal.OutOfMemory }
@@ -141,7 +141,7 @@ fn copy_packet_or_none(packet: &Option<Packet>) -> Result<Option<Packet>, Refusa
     Ok(Some(copy_packet(packet)?))
 }
 
-// A group once more, if there is one.
+// A copy of a group, if there is one.
 fn copy_group_or_none(group: &Option<Group>) -> Result<Option<Group>, Refusal>
     ensures ok { IfOk result (λ copied. copied ≡ group.now) }
     ensures fault { IsOkUnless result Refusal.OutOfMemory }

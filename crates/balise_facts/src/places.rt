@@ -1,14 +1,15 @@
 //! Writes the lines of places. No memory is taken.
 
-ghost use Rattle.std.specs.Prelude.{◌∷◌, map};
+ghost use Rattle.std.specs.Prelude.{◌∷◌, [], codes, decimal, map};
 ghost use Rattle.balise_edits.specs.Places.{in_group, in_packet, in_telegram, path_of};
 ghost use Rattle.balise_facts.specs.FactTexts.{place_line};
 ghost use Rattle.balise_lines.specs.Writing.{Writes};
-ghost use Rattle.balise_rules.specs.Paths.{At, Nth};
+ghost use Rattle.balise_rules.specs.Paths.{At, Head, Nth, Of};
+ghost use Rattle.balise_text.specs.Places.{tag_text};
 ghost use Rattle.balise_text.specs.Texts.{text_of};
 
 use crate::tag_text::TagText;
-use balise_edits::{InGroup, InPacket, InTelegram, Path, Tag};
+use balise_edits::{InGroup, InPacket, InTelegram, Path, Tag, Var};
 use balise_lines::{Counted, WriteFault};
 use balise_text::put_texts;
 use itoa::Buffer;
@@ -89,46 +90,64 @@ fn put_in_telegram<W: Write>(
 ) -> Result<(), WriteFault>
     ensures { Writes W.contents writer.old writer.new result (place_line name.now (At g ∷ Nth t ∷ in_telegram part.now)) }
 {
-    let mut group = TagText::new();
-    let mut telegram = Buffer::new();
     match part {
-        InTelegram::Head(var) => put_texts(
-            writer,
-            &[
-                name,
-                b" ",
-                group.format(g),
-                b"/",
-                telegram.format(t).as_bytes(),
-                b"/head.",
-                var.name().as_bytes(),
-                b"\n",
-            ],
-        ),
-        InTelegram::First => put_texts(
-            writer,
-            &[
-                name,
-                b" ",
-                group.format(g),
-                b"/",
-                telegram.format(t).as_bytes(),
-                b"/^.after\n",
-            ],
-        ),
-        InTelegram::Last => put_texts(
-            writer,
-            &[
-                name,
-                b" ",
-                group.format(g),
-                b"/",
-                telegram.format(t).as_bytes(),
-                b"/$.front\n",
-            ],
-        ),
+        InTelegram::Head(var) => put_head(writer, name, g, t, *var),
+        InTelegram::First => put_telegram(writer, name, g, t, b"/^.after\n"),
+        InTelegram::Last => put_telegram(writer, name, g, t, b"/$.front\n"),
         InTelegram::Packet(p, part) => put_in_packet(writer, name, g, t, *p, part),
     }
+}
+
+// Writes the line of a name and a telegram, with this end.
+fn put_telegram<W: Write>(
+    writer: &mut Counted<W>,
+    name: &'static [u8],
+    g: Tag,
+    t: u32,
+    end: &'static [u8],
+) -> Result<(), WriteFault>
+    ensures { Writes W.contents writer.old writer.new result (text_of (name.now ∷ codes " " ∷ tag_text g ∷ codes "/" ∷ decimal t ∷ end.now ∷ [])) }
+{
+    let mut group = TagText::new();
+    let mut telegram = Buffer::new();
+    put_texts(
+        writer,
+        &[
+            name,
+            b" ",
+            group.format(g),
+            b"/",
+            telegram.format(t).as_bytes(),
+            end,
+        ],
+    )
+}
+
+// Writes the line of a name and a variable of a header.
+fn put_head<W: Write>(
+    writer: &mut Counted<W>,
+    name: &'static [u8],
+    g: Tag,
+    t: u32,
+    var: Var,
+) -> Result<(), WriteFault>
+    ensures { Writes W.contents writer.old writer.new result (place_line name.now (At g ∷ Nth t ∷ Head ∷ Of var ∷ [])) }
+{
+    let mut group = TagText::new();
+    let mut telegram = Buffer::new();
+    put_texts(
+        writer,
+        &[
+            name,
+            b" ",
+            group.format(g),
+            b"/",
+            telegram.format(t).as_bytes(),
+            b"/head.",
+            var.name().as_bytes(),
+            b"\n",
+        ],
+    )
 }
 
 // Writes the line of a name and a packet or a part of it.
@@ -142,66 +161,74 @@ fn put_in_packet<W: Write>(
 ) -> Result<(), WriteFault>
     ensures { Writes W.contents writer.old writer.new result (place_line name.now (At g ∷ Nth t ∷ At p ∷ in_packet part.now)) }
 {
+    match part {
+        InPacket::Whole => put_packet(writer, name, g, t, p, b"\n"),
+        InPacket::After => put_packet(writer, name, g, t, p, b".after\n"),
+        InPacket::Front => put_packet(writer, name, g, t, p, b".front\n"),
+        InPacket::Field(var, k) => put_field(writer, name, g, t, p, *var, *k),
+    }
+}
+
+// Writes the line of a name and a packet, with this end.
+fn put_packet<W: Write>(
+    writer: &mut Counted<W>,
+    name: &'static [u8],
+    g: Tag,
+    t: u32,
+    p: Tag,
+    end: &'static [u8],
+) -> Result<(), WriteFault>
+    ensures { Writes W.contents writer.old writer.new result (text_of (name.now ∷ codes " " ∷ tag_text g ∷ codes "/" ∷ decimal t ∷ codes "/" ∷ tag_text p ∷ end.now ∷ [])) }
+{
+    let mut group = TagText::new();
+    let mut telegram = Buffer::new();
+    let mut packet = TagText::new();
+    put_texts(
+        writer,
+        &[
+            name,
+            b" ",
+            group.format(g),
+            b"/",
+            telegram.format(t).as_bytes(),
+            b"/",
+            packet.format(p),
+            end,
+        ],
+    )
+}
+
+// Writes the line of a name and a field of a packet.
+fn put_field<W: Write>(
+    writer: &mut Counted<W>,
+    name: &'static [u8],
+    g: Tag,
+    t: u32,
+    p: Tag,
+    var: Var,
+    k: u32,
+) -> Result<(), WriteFault>
+    ensures { Writes W.contents writer.old writer.new result (place_line name.now (At g ∷ Nth t ∷ At p ∷ Of var ∷ Nth k ∷ [])) }
+{
     let mut group = TagText::new();
     let mut telegram = Buffer::new();
     let mut packet = TagText::new();
     let mut occurrence = Buffer::new();
-    match part {
-        InPacket::Whole => put_texts(
-            writer,
-            &[
-                name,
-                b" ",
-                group.format(g),
-                b"/",
-                telegram.format(t).as_bytes(),
-                b"/",
-                packet.format(p),
-                b"\n",
-            ],
-        ),
-        InPacket::After => put_texts(
-            writer,
-            &[
-                name,
-                b" ",
-                group.format(g),
-                b"/",
-                telegram.format(t).as_bytes(),
-                b"/",
-                packet.format(p),
-                b".after\n",
-            ],
-        ),
-        InPacket::Front => put_texts(
-            writer,
-            &[
-                name,
-                b" ",
-                group.format(g),
-                b"/",
-                telegram.format(t).as_bytes(),
-                b"/",
-                packet.format(p),
-                b".front\n",
-            ],
-        ),
-        InPacket::Field(var, k) => put_texts(
-            writer,
-            &[
-                name,
-                b" ",
-                group.format(g),
-                b"/",
-                telegram.format(t).as_bytes(),
-                b"/",
-                packet.format(p),
-                b".",
-                var.name().as_bytes(),
-                b".",
-                occurrence.format(*k).as_bytes(),
-                b"\n",
-            ],
-        ),
-    }
+    put_texts(
+        writer,
+        &[
+            name,
+            b" ",
+            group.format(g),
+            b"/",
+            telegram.format(t).as_bytes(),
+            b"/",
+            packet.format(p),
+            b".",
+            var.name().as_bytes(),
+            b".",
+            occurrence.format(k).as_bytes(),
+            b"\n",
+        ],
+    )
 }

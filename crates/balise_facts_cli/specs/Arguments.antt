@@ -1,14 +1,14 @@
 -- The program's command line, as clap reads it, what it asks for, and why words are refused.
-use Rattle.std.specs.Prelude.{◌≡◌, ◌≢◌, ◌⊎◌, ◌<◌, ◌^◌, ℕ, Bool, true, false, List, [], codes}
+use Rattle.std.specs.Prelude.{◌≡◌, ◌⊎◌, ◌<◌, ◌^◌, ℕ, Bool, true, false, List, [], codes}
 use Rattle.std.specs.Prelude.{Some, None, Option, Result, Ok, Err, ⊤}
 use Rattle.std.specs.Str.Parse.{IsNumeral, digits_value, without_leading_plus}
-use Rattle.clap.specs.Words.{App, IsAmong, Rule, Text, fault_of, first_of, kind_of, matches_of}
+use Rattle.clap.specs.Words.{App, Rule, Text, fault_of, first_of, kind_of, matches_of}
 use Rattle.clap.specs.Words.{new_app, new_rule, with_rule}
 use Rattle.clap.specs.declared.builder.ArgAction.TheVariants.{Set}
-use Rattle.clap.specs.declared.error.Error.{Error}
 use Rattle.clap.specs.declared.error.ErrorKind.{ErrorKind}
-use Rattle.clap.specs.declared.error.ErrorKind.TheVariants.{ArgumentConflict, DisplayHelp, ValueValidation}
-use Rattle.balise_arguments.specs.Arguments.{flag_rule}
+use Rattle.clap.specs.declared.error.ErrorKind.TheVariants.{ArgumentConflict, ValueValidation}
+use Rattle.balise_arguments.specs.CommandLines.{IsGiven, flag_rule}
+use Rattle.balise_arguments.specs.Faults.{IsFaultOf}
 use Rattle.balise_arguments.specs.declared.fault.ArgsFault.{ArgsFault}
 use Rattle.balise_arguments.specs.declared.fault.ArgsFault.TheVariants.{Help, Memory, Other}
 use Rattle.balise_facts.specs.declared.facts.Facts.{Facts}
@@ -28,7 +28,7 @@ edit_of words = first_of (codes "edit") (matches_of program words)
 
 -- clap finds --tags among the words
 abbrev pub IsTags : List Text → Type 0
-IsTags words = first_of (codes "tags") (matches_of program words) ≡ Some (codes "true")
+IsTags words = IsGiven program (codes "tags") words
 
 -- the text is a number of 32 bits in decimal, perhaps with a plus before it
 abbrev pub IsSerial : Text → Type 0
@@ -45,10 +45,6 @@ AskedFor words Tags = (edit_of words ≡ None) × IsTags words
 AskedFor words (Edit n) =
     (text : Text) × ((edit_of words ≡ Some text) × ¬ IsTags words × IsSerial text × (n ≡ serial_of text))
 
--- clap refuses the words so, and not because memory runs out
-abbrev pub IsKindOf : List Text → Error → Type 0
-IsKindOf words e = IsAmong (kind_of e) (fault_of program words)
-
 -- clap has nothing against the words, but they have both arguments, or what follows --edit is no serial
 abbrev pub IsMistake : List Text → ErrorKind → Type 0
 IsMistake words kind =
@@ -61,9 +57,9 @@ IsMistake words kind =
 -- time; and each other mistake.
 abbrev pub Asks : List Text → Result Facts ArgsFault → Type 0
 Asks words (Ok facts) = (fault_of program words ≡ []) × AskedFor words facts
-Asks words (Err (Help e)) = (kind_of e ≡ DisplayHelp) × IsKindOf words e
+Asks words (Err (Help e)) = IsFaultOf program words (Help e)
 Asks words (Err Memory) = ⊤
-Asks words (Err (Other e)) = ((kind_of e ≢ DisplayHelp) × IsKindOf words e) ⊎ IsMistake words (kind_of e)
+Asks words (Err (Other e)) = IsFaultOf program words (Other e) ⊎ IsMistake words (kind_of e)
 
 -- The same by what was found of the two arguments.
 

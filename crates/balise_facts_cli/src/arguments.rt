@@ -1,15 +1,13 @@
 //! Reads the arguments.
 
-ghost use Rattle.std.specs.Prelude.{◌≡◌, ◌↔◌, IfOk, IsTrue, None, Some, codes, false, map, option_map};
-ghost use Rattle.clap.specs.Words.{app_of, first_value, found_of, new_app, rule_of};
-ghost use Rattle.balise_arguments.specs.Arguments.{flag_rule};
-ghost use Rattle.balise_arguments.specs.Faults.{IsFor};
+ghost use Rattle.std.specs.Prelude.{◌≡◌, IfOk, None, Some, codes, false, map, option_map};
+ghost use Rattle.clap.specs.Words.{app_of, new_app, rule_of};
 ghost use Rattle.balise_facts_cli.specs.Arguments.{edit_rule, program, Asks, Chooses, IsFound};
 
-use balise_arguments::ArgsFault;
+use balise_arguments::{ArgsFault, flag, is_used};
 use balise_facts::Facts;
 use clap::error::ErrorKind;
-use clap::{Arg, ArgAction, ArgMatches, Command, Error};
+use clap::{Arg, ArgAction, Command};
 use std::alloc::{AllocError, Global};
 
 const ABOUT: &str =
@@ -47,7 +45,7 @@ pub(crate) fn check_words<'a>(alloc: Global, words: &'a [&'a str]) -> Result<Fac
             let tags = is_used(&matches, "tags");
             choose(&mut command, matches.get_str("edit"), tags)
         }
-        Err(error) => Err(fault_of(error)),
+        Err(error) => Err(ArgsFault::of(error)),
     }
 }
 
@@ -77,17 +75,6 @@ fn mistake(command: &mut Command<'_>, kind: ErrorKind, message: &str) -> ArgsFau
     }
 }
 
-// The fault that an error of clap is.
-fn fault_of(error: Error) -> ArgsFault
-    ensures { IsFor error result }
-{
-    match error.kind() {
-        ErrorKind::OutOfMemory => ArgsFault::Memory,
-        ErrorKind::DisplayHelp => ArgsFault::Help(error),
-        _ => ArgsFault::Other(error),
-    }
-}
-
 // The command line, for clap.
 #[tactic(auto, unfolding(crate::specs::Arguments::program))]
 fn command<'a>(alloc: Global) -> Result<Command<'a>, AllocError>
@@ -96,7 +83,7 @@ fn command<'a>(alloc: Global) -> Result<Command<'a>, AllocError>
     let command = described(alloc);
     let edit = edit(alloc);
     let command = command.arg(edit)?;
-    let tags = tags(alloc);
+    let tags = flag(alloc, "tags", TAGS);
     command.arg(tags)
 }
 
@@ -110,24 +97,6 @@ fn edit<'a>(alloc: Global) -> Arg<'a>
         .action(ArgAction::Set)
         .value_name("N")
         .help(EDIT)
-}
-
-// The argument `--tags`, which takes no value.
-fn tags<'a>(alloc: Global) -> Arg<'a>
-    ensures rule { rule_of result ≡ flag_rule (codes "tags") }
-    ensures local { result.global ≡ false }
-{
-    Arg::new(alloc, "tags")
-        .long("tags")
-        .action(ArgAction::SetTrue)
-        .help(TAGS)
-}
-
-// Whether clap found the argument among the words.
-fn is_used(matches: &ArgMatches<'_>, name: &str) -> bool
-    ensures { IsTrue result ↔ (first_value (found_of matches.now) name.now ≡ Some (codes "true")) }
-{
-    matches.get_str(name) == Some("true")
 }
 
 // The command line without its arguments.

@@ -2,4 +2,3 @@ pub mod Ways
 pub mod Arguments
 pub mod Exits
 pub mod Program
-pub mod CommandLine

@@ -1,16 +1,13 @@
 //! Reads the arguments.
 
-ghost use Rattle.std.specs.Prelude.{◌≡◌, ◌↔◌, IfOk, IsTrue, Some, codes, false, map};
-ghost use Rattle.clap.specs.Words.{app_of, first_value, found_of, new_app, rule_of};
-ghost use Rattle.balise_arguments.specs.Arguments.{flag_rule};
-ghost use Rattle.balise_arguments.specs.Faults.{IsFor};
+ghost use Rattle.std.specs.Prelude.{◌≡◌, IfOk, codes, map};
+ghost use Rattle.clap.specs.Words.{app_of, new_app};
 ghost use Rattle.balise_fields_cli.specs.Arguments.{program, Asks};
 ghost use Rattle.balise_fields_cli.specs.Ways.{way_of};
 
-use balise_arguments::ArgsFault;
+use balise_arguments::{ArgsFault, flag, is_used};
 use balise_fields_run::Way;
-use clap::error::ErrorKind;
-use clap::{Arg, ArgAction, ArgMatches, Command, Error};
+use clap::Command;
 use std::alloc::{AllocError, Global};
 
 const ABOUT: &str =
@@ -38,7 +35,7 @@ pub(crate) fn check_words<'a>(alloc: Global, words: &'a [&'a str]) -> Result<Way
     };
     match command.try_get_matches_from(words) {
         Ok(matches) => Ok(way_of(is_used(&matches, "spell"))),
-        Err(error) => Err(fault_of(error)),
+        Err(error) => Err(ArgsFault::of(error)),
     }
 }
 
@@ -49,17 +46,6 @@ fn way_of(spell: bool) -> Way
     if spell { Way::Spell } else { Way::Explain }
 }
 
-// The fault that an error of clap is.
-fn fault_of(error: Error) -> ArgsFault
-    ensures { IsFor error result }
-{
-    match error.kind() {
-        ErrorKind::OutOfMemory => ArgsFault::Memory,
-        ErrorKind::DisplayHelp => ArgsFault::Help(error),
-        _ => ArgsFault::Other(error),
-    }
-}
-
 // The command line, for clap.
 #[tactic(auto, unfolding(crate::specs::Arguments::program))]
 fn command<'a>(alloc: Global) -> Result<Command<'a>, AllocError>
@@ -68,24 +54,6 @@ fn command<'a>(alloc: Global) -> Result<Command<'a>, AllocError>
     let command = described(alloc);
     let spell = flag(alloc, "spell", SPELL);
     command.arg(spell)
-}
-
-// An argument `--NAME` that takes no value.
-fn flag<'a>(alloc: Global, name: &'a str, help: &'a str) -> Arg<'a>
-    ensures rule { rule_of result ≡ flag_rule name.entry.now }
-    ensures local { result.global ≡ false }
-{
-    Arg::new(alloc, name)
-        .long(name)
-        .action(ArgAction::SetTrue)
-        .help(help)
-}
-
-// Whether clap found the argument among the words.
-fn is_used(matches: &ArgMatches<'_>, name: &str) -> bool
-    ensures { IsTrue result ↔ (first_value (found_of matches.now) name.now ≡ Some (codes "true")) }
-{
-    matches.get_str(name) == Some("true")
 }
 
 // The command line without its argument.

@@ -1,61 +1,38 @@
-//! The program over its words, its input and its two outputs.
+//! What the program does with its words, its input and its output.
 
-ghost use Rattle.std.specs.Prelude.{map};
-ghost use Rattle.balise_fields_cli.specs.Program.{DoesWords, Starts, Works};
+ghost use Rattle.balise_fields_cli.specs.Arguments.{Asks};
+ghost use Rattle.balise_fields_cli.specs.Program.{Works};
 
 use crate::arguments::check_words;
 use crate::exit::exit_of;
 use balise_fields_run::{Way, run};
-use balise_program::{Counted, Exit, exit_after_arguments, report, show};
+use balise_program::{ArgsFault, Counted, Exit, Program};
 use std::alloc::Global;
 use std::io::{BufWriter, Read, Write};
 
-// Runs this way, and then flushes, also where a fault ended the run. States how the program ends after both.
-fn work<R: Read, W: Write + Drop>(
-    alloc: Global,
-    way: Way,
-    reader: &mut Counted<R>,
-    writer: &mut Counted<BufWriter<W>>,
-) -> Exit
-    ensures { Works way R.remaining W.contents reader.old reader.new writer.old writer.new result }
-{
-    let ended = run(alloc, way, reader, writer);
-    let flushed = writer.flush_buffer();
-    exit_of(ended, flushed.is_ok())
-}
+/// The program: it explains digits or, with `--spell`, encodes fields. The run ends with a flush, also where a fault
+/// ended it.
+pub struct Balisefields;
 
-// Does what the words ask for, and doesn't report the fault that the program ends with.
-fn do_words<R: Read, W: Write + Drop, E: Write>(
-    alloc: Global,
-    words: &[&str],
-    reader: &mut Counted<R>,
-    writer: &mut Counted<BufWriter<W>>,
-    errors: &mut Counted<E>,
-) -> Exit
-    ensures { DoesWords R.remaining W.contents (map (λ w. w.now) words.now) reader.old reader.new writer.old writer.new errors.old errors.new result }
-{
-    match check_words(alloc, words) {
-        Ok(way) => work(alloc, way, reader, writer),
-        Err(fault) => {
-            show(&fault, writer, errors);
-            exit_after_arguments(&fault)
-        }
+impl Program for Balisefields {
+    type Asked = Way;
+
+    ghost asks = { Asks };
+
+    ghost works = { Works };
+
+    fn ask<'a>(alloc: Global, words: &'a [&'a str]) -> Result<Way, ArgsFault> {
+        check_words(alloc, words)
     }
-}
 
-/// Does what the words of the command line ask for, of which the first is the program's name.
-///
-/// Help goes to the writer, and what is wrong with the words and the fault of a run to `errors`.
-pub(crate) fn start<R: Read, W: Write + Drop, E: Write>(
-    alloc: Global,
-    words: &[&str],
-    reader: &mut Counted<R>,
-    writer: &mut Counted<BufWriter<W>>,
-    errors: &mut Counted<E>,
-) -> Exit
-    ensures { Starts R.remaining W.contents E.contents (map (λ w. w.now) words.now) reader.old reader.new writer.old writer.new errors.old errors.new result }
-{
-    let exit = do_words(alloc, words, reader, writer, errors);
-    let _ = report(errors, exit);
-    exit
+    fn work<R: Read, W: Write + Drop>(
+        alloc: Global,
+        way: Way,
+        reader: &mut Counted<R>,
+        writer: &mut Counted<BufWriter<W>>,
+    ) -> Exit {
+        let ended = run(alloc, way, reader, writer);
+        let flushed = writer.flush_buffer();
+        exit_of(ended, flushed.is_ok())
+    }
 }

@@ -14,7 +14,7 @@ ghost use Rattle.balise_rules.specs.Telegram.{Telegram};
 use balise_edits::{Bits, Command, Edit, Plan, Telegram, packet_in};
 use balise_rules::{Address, Id, Place, Refusal, Tag};
 
-// What stands directly before the place that a packet shall have: none before the first.
+// What stands directly before the new place of a packet: nothing before the first.
 fn packet_before(telegram: &Telegram, at: usize) -> Result<Option<Tag>, Refusal>
     ensures { result ≡ ok_or (anchor_at at telegram.now.packets) Refusal.NoSuchPacket }
 {
@@ -27,7 +27,7 @@ fn packet_before(telegram: &Telegram, at: usize) -> Result<Option<Tag>, Refusal>
     }
 }
 
-// What stands directly before the place that a group shall have: none before the first.
+// What stands directly before the new place of a group: nothing before the first.
 fn group_before(plan: &Plan, at: usize) -> Result<Option<Tag>, Refusal>
     ensures { result ≡ ok_or (anchor_at at plan.now.groups) Refusal.NoSuchGroup }
 {

@@ -1,2 +1,3 @@
 pub mod Exits
 pub mod Reporting
+pub mod Starting

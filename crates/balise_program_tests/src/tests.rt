@@ -2,3 +2,4 @@
 
 mod ends;
 mod said;
+mod started;

@@ -1,9 +1,10 @@
 //! The program with `--spell`: fields from standard input are spelt as digits.
 #![tactic(auto)]
 
-use balise_fields_cli::launch_on_system;
+use balise_fields_cli::Balisefields;
+use balise_program::launch_on_system;
 use std::process::ExitCode;
 
 fn main(rt: HostRuntime) -> ExitCode {
-    launch_on_system!(rt)
+    launch_on_system!(rt, Balisefields)
 }

@@ -2,9 +2,10 @@
 //! and the view where they are asked for.
 #![tactic(auto)]
 
-use balise_cli::launch_on_system;
+use balise_cli::Baliseplan;
+use balise_program::launch_on_system;
 use std::process::ExitCode;
 
 fn main(rt: HostRuntime) -> ExitCode {
-    launch_on_system!(rt)
+    launch_on_system!(rt, Baliseplan)
 }

@@ -1,7 +1,7 @@
 //! The whole program over its words: what it writes on each stream, and what it ends with.
 
 use crate::tests::rows::{OTHERS, ROWS, Row};
-use balise_facts_cli::{Counted, Exit, Refusal, launch, stop_without_memory};
+use balise_facts_cli::{Balisefacts, Counted, Exit, Refusal, launch, stop_without_memory};
 use std::alloc::Global;
 use std::env::Args;
 use std::io;
@@ -45,7 +45,7 @@ fn check_row(rt: &impl Abort, alloc: Global, row: &Row, arguments: io::Result<Ar
     let mut reader = Counted::new(row.input.as_bytes());
     let mut writer = buffered(rt, alloc);
     let mut errors = Counted::new(Vec::new(alloc));
-    let exit = launch(alloc, arguments, &mut reader, &mut writer, &mut errors);
+    let exit = launch::<Balisefacts, _, _, _>(alloc, arguments, &mut reader, &mut writer, &mut errors);
     check_exit(rt, exit, row.code, row.fault);
     check_output(rt, &writer, row.output);
     check_errors(rt, &errors, row.errors);
@@ -65,7 +65,7 @@ fn check_other(rt: &impl Abort, alloc: Global, words: &[&str]) {
     let mut writer = buffered(rt, alloc);
     let mut errors = Counted::new(Vec::new(alloc));
     let words = Ok(owned(rt, alloc, words));
-    let exit = launch(alloc, words, &mut reader, &mut writer, &mut errors);
+    let exit = launch::<Balisefacts, _, _, _>(alloc, words, &mut reader, &mut writer, &mut errors);
     check_exit(rt, exit, 64, None);
     check_output(rt, &writer, "");
     assert!(rt; errors.inner().as_slice().starts_with(b"error: "));

@@ -1,7 +1,7 @@
 //! The whole program over its words: what it writes on each stream, and what it ends with.
 
 use crate::tests::devices::{Narrow, Slow};
-use balise_fields_cli::{Exit, Refusal, launch, stop_without_memory};
+use balise_fields_cli::{Balisefields, Exit, Refusal, launch, stop_without_memory};
 use balise_fields_run::Counted;
 use std::alloc::Global;
 use std::env::Args;
@@ -159,7 +159,7 @@ fn launch_row(
     errors: &mut Counted<Vec<u8>>,
 ) -> Exit {
     let mut reader = Slow::new(row.input.as_bytes(), 4096, row.fails_at.0);
-    launch(alloc, arguments, &mut reader, writer, errors)
+    launch::<Balisefields, _, _, _>(alloc, arguments, &mut reader, writer, errors)
 }
 
 fn check_exit(rt: &impl Abort, exit: Exit, code: u8, fault: Option<Refusal>) {

@@ -11,7 +11,7 @@ use balise_edits::Entry;
 use balise_rules::Refusal;
 use std::alloc::Global;
 
-// The same entries once more.
+// A copy of the entries.
 fn copies(alloc: Global, entries: &[Entry]) -> Result<Vec<Entry>, Refusal>
     ensures ok { IfOk result (λ v. v.items ≡ entries.now) }
     ensures fault { IsOkUnless result OutOfMemory }

@@ -1,6 +1,6 @@
 use Rattle.std.proofs.Common.{rules}
 use Rattle.clap.specs.Words.{app_of}
-use Rattle.balise_facts_cli.proofs.Words.{facts_asked, faulted, kind_at_err}
+use Rattle.balise_facts_cli.proofs.Words.{facts_asked, faulted}
 use Rattle.balise_facts_cli.proofs.arguments.check_words.Goals as goal
 
 pub returns-in-Ok-try_get_matches_from_mut : goal.returns-in-Ok-try_get_matches_from_mut
@@ -10,6 +10,4 @@ returns-in-Ok-try_get_matches_from_mut c =
     parsed.ensures.ok.2 parsed.ensures.kinds c.get_str.ensures c.is_used-tags.ensures c.choose.ensures
 
 pub returns : goal.returns
-returns c =
-    let clear = kind_at_err (app_of c.in-Ok.command) _ c.in-Err.error (search rules) c.in-Err.ensures.kinds in
-    faulted _ c.in-Err.error c.fault_of.result clear c.fault_of.ensures
+returns c = faulted (app_of c.in-Ok.command) _ c.in-Err.error c.of.result (search rules) c.in-Err.ensures.kinds c.of.ensures

@@ -1,6 +1,6 @@
 use Rattle.balise_fields_cli.proofs.Flushed.{kept_by}
 use Rattle.balise_program.proofs.Flushes.{flush_counted, flush_done}
-use Rattle.balise_fields_cli.proofs.program.work.Goals as goal
+use Rattle.balise_fields_cli.proofs.program.BalisefieldsProgram.work.Goals as goal
 
 pub returns : goal.returns
 returns g c = record {

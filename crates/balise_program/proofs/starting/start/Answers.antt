@@ -1,5 +1,5 @@
 use Rattle.balise_program.proofs.Reported.{reports}
-use Rattle.balise_fields_cli.proofs.program.start.Goals as goal
+use Rattle.balise_program.proofs.starting.start.Goals as goal
 
 pub returns : goal.returns
 returns g c = record {

@@ -1,13 +1,13 @@
-//! The program over the system's own words and streams.
+//! A program over the system's own words and streams.
 
-/// Does what the command line asks for over standard input, standard output and standard error, and gives the exit code
-/// for `main` to return. `$rt` is the runtime that `main` is given.
+/// Does what the command line asks a program for over standard input, standard output and standard error, and gives the
+/// exit code for `main` to return. `$rt` is the runtime that `main` is given, and `$program` the program.
 ///
 /// It is a macro since no clause knows what reaches the system: the body is proved in each `main`, over the contracts
 /// of `launch` and of `stop_without_memory`.
 #[macro_export]
 macro_rules! launch_on_system {
-    ($rt:ident) => {{
+    ($rt:ident, $program:ident) => {{
         let alloc = $rt.alloc();
         let mut errors = $crate::Counted::new($rt.stderr());
         let exit = match std::io::BufWriter::new(alloc, std::io::writer(&$rt)) {
@@ -15,7 +15,13 @@ macro_rules! launch_on_system {
                 let mut reader = $crate::Counted::new($rt.reader());
                 let mut writer = $crate::Counted::new(output);
                 let words = std::env::args(&$rt);
-                $crate::launch(alloc, words, &mut reader, &mut writer, &mut errors)
+                $crate::launch::<$program, _, _, _>(
+                    alloc,
+                    words,
+                    &mut reader,
+                    &mut writer,
+                    &mut errors,
+                )
             }
             Err(_) => $crate::stop_without_memory(&mut errors),
         };

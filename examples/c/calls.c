@@ -262,7 +262,7 @@ static void expect_of_run(void)
         expect(&RUN, "an unknown flag", PLAN, 1u << bit | BALISEPLAN_FLAGS, ROOM, BALISEPLAN_USAGE, "", 0);
     expect_size("a whole run", PLAN, 0, BALISEPLAN_SOME_REFUSED, whole);
     expect_size("no input", NULL, 0, BALISEPLAN_BAD_INPUT, 16);
-    expect_size("an unknown flag", PLAN, 16, BALISEPLAN_USAGE, 0);
+    expect_size("an unknown flag", PLAN, BALISEPLAN_FLAGS + 1u, BALISEPLAN_USAGE, 0);
     expect_alloc(&RUN, "a whole run", PLAN, 0, BALISEPLAN_SOME_REFUSED, OUTPUT);
     expect_alloc(&RUN, "no input", NULL, 0, BALISEPLAN_BAD_INPUT, "bad 1 1 BadLine\n");
     expect_alloc(&RUN, "an unknown flag", PLAN, 1u << 31, BALISEPLAN_USAGE, NULL);

@@ -136,7 +136,7 @@ def test_errors_of_the_caller() -> None:
         baliseplan.run(BASE + "edits\n")
 
 
-@pytest.mark.parametrize("flags", [16, 1 << 32, (1 << 32) + 1, -1])
+@pytest.mark.parametrize("flags", [baliseplan.FLAGS + 1, 1 << 32, (1 << 32) + 1, -1])
 def test_flags_that_are_none(flags: int) -> None:
     with pytest.raises(ValueError):
         baliseplan.run_bytes(BASE.encode(), flags)

@@ -13,6 +13,8 @@ import { FLAG } from '../src/core/engine.mjs';
 import { TOP, engine } from '../test/setup.mjs';
 
 const NAMES = /** @type {(keyof FLAG)[]} */ (['quiet', 'stop', 'journal', 'json']);
+/** A bit that no flag has. */
+const UNKNOWN = 1 << NAMES.length;
 const [program, random = '0'] = process.argv.slice(2);
 let [runs, differ] = [0, 0];
 /** @type {Record<number, number>} */
@@ -22,10 +24,10 @@ const statuses = {};
  * The flags of a call for the arguments of the program; an argument that it doesn't know is a bit that the call doesn't know.
  * @param {string[]} words
  */
-const flagsOf = (words) => words.reduce((sum, word) => sum | (FLAG[/** @type {keyof FLAG} */ (word.slice(2))] ?? 16),
+const flagsOf = (words) => words.reduce((sum, word) => sum | (FLAG[/** @type {keyof FLAG} */ (word.slice(2))] ?? UNKNOWN),
   0);
 /** @param {number} flags */
-const wordsOf = (flags) => (flags & 16 ? ['--unknown']
+const wordsOf = (flags) => (flags & UNKNOWN ? ['--unknown']
   : NAMES.filter((name) => flags & FLAG[name]).map((name) => '--' + name));
 
 /** @param {string} name @param {Uint8Array} input @param {number} flags */

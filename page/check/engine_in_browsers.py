@@ -60,8 +60,9 @@ def natives(program: str) -> dict[tuple[str, int], tuple[int, bytes]]:
     """What the program answers, for each input and each set of flags."""
     found = {}
     for name, data in inputs():
-        for flags in range(17):
-            words = ["--unknown"] if flags == 16 else ["--" + word for bit, word in enumerate(NAMES) if flags >> bit & 1]
+        for flags in range((1 << len(NAMES)) + 1):
+            given = ["--" + word for bit, word in enumerate(NAMES) if flags >> bit & 1]
+            words = ["--unknown"] if flags >> len(NAMES) else given
             run = subprocess.run([program, *words], input=data, capture_output=True)
             found[name, flags] = (run.returncode, run.stdout)
     return found

@@ -4,7 +4,7 @@
 Usage: damage_inputs.py PROGRAM INPUT|FOLDER ..
 
 Each input is cut after each byte, loses each byte in turn, and has each byte changed to each of some twenty others. The
-runs have the 16 sets of flags in turn. Status, output and standard error have to be those of reference/, which is called
+runs have each set of flags in turn. Status, output and standard error have to be those of reference/, which is called
 in place. No run may end by a signal. Needs cc.
 """
 
@@ -22,7 +22,7 @@ from baliseplan import answer  # noqa: E402 (the folder has to be on the path fi
 
 BYTES = b"\n\r\0\t 019afFgzbn./^$-,\x7f\x80\xff"
 STATUSES = (0, 1, 2, 3)
-PARTS = 9  # shares no factor with 16, so that each part has each set of flags
+PARTS = 9  # shares no factor with the number of sets, so that each part has each set of flags
 
 
 def by_reference(text: bytes, flags: tuple[str, ...]) -> tuple[int, bytes, bytes]:
@@ -48,7 +48,7 @@ def judge_part(runner: Runner, name: str, part: int, parts: int, text: bytes) ->
     for number, (what, bad) in enumerate(damaged(text)):
         if number % parts != part:
             continue
-        flags = EVERY_SET[number % 16]
+        flags = EVERY_SET[number % len(EVERY_SET)]
         done, due = runner.run(bad, flags), by_reference(bad, flags)
         seen[what] += 1
         seen[f"status {done.status}"] += 1

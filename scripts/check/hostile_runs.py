@@ -13,7 +13,9 @@ from typing import Any, NamedTuple
 from runs import SECONDS, NoEnd, Wrong, need
 
 FLAGS = ("--quiet", "--stop", "--journal", "--json")
-EVERY_SET = [tuple(flag for flag, given in zip(FLAGS, chosen) if given) for chosen in product((False, True), repeat=4)]
+EVERY_SET = [
+    tuple(flag for flag, given in zip(FLAGS, chosen) if given) for chosen in product((False, True), repeat=len(FLAGS))
+]
 REPORT = 9
 CALLS = Path(__file__).with_name("failing_calls.c")
 

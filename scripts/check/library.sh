@@ -2,7 +2,7 @@
 # Builds the library and its callers in C, Python and Rust, runs their tests, installs it, and compares what the callers
 # print with a program.
 # usage: scripts/check/library.sh PROGRAM [COUNT] [--built]
-# The examples and rows are compared with each of the 16 sets of flags, COUNT damaged ones (2,000) with one set each,
+# The examples and rows are compared with each set of flags, COUNT damaged ones (2,000) with one set each,
 # and COUNT random inputs with their own. Facts are compared with the program balisefacts, where it was built, on the same
 # examples and rows with each way to ask, and a quarter of COUNT damaged and random inputs each; else with the reference,
 # on a tenth of that. Fields are compared with the program balisefields, where it was built, on the

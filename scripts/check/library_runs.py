@@ -23,6 +23,7 @@ from runs import ended
 
 ROOT = Path(__file__).resolve().parents[2]
 FLAGS = ("--quiet", "--stop", "--journal", "--json")
+SETS = 1 << len(FLAGS)
 FAULT = 3
 
 # The second program has a module baliseplan too, so its folder comes last.
@@ -58,9 +59,9 @@ def inputs(count: int) -> Iterator[tuple[bytes, Words]]:
     texts += [file.read_bytes() for file in sorted((ROOT / "checks" / "rows").glob("*.in"))]
     texts += [line + b"edits\nturn 5.300\nundo\n" + b"x" * 4097 + b"\n", line + b"x" * 4097]
     texts += [b"", *rows()]
-    yield from ((text, words_of(flags)) for text in texts for flags in range(16))
+    yield from ((text, words_of(flags)) for text in texts for flags in range(SETS))
     for _ in range(count):
-        yield damaged(random.choice(texts)), words_of(random.randrange(16))
+        yield damaged(random.choice(texts)), words_of(random.randrange(SETS))
     for seed in range(1, count + 1):
         made = make_input(seed, "small")
         yield made.text, tuple(word for word in FLAGS if word in made.arguments)

@@ -6,7 +6,8 @@
 
 A name has the place (length % 32 * A + first * B + last * C) % SIZE, by its length and its first and last byte. All
 names need different places. The table is BY_PLACE in crates/balise_rules/src/variable.rt, and the factors stand in
-`candidate` there and in `place_of` in crates/balise_rules/proofs/VariableNames.antt. A search takes half a minute.
+`candidate` there and in `place_of` in crates/balise_rules/proofs/VariableNames.antt. A search takes half a minute, and
+with more names minutes.
 """
 
 import itertools

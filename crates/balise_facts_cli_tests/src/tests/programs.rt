@@ -45,7 +45,13 @@ fn check_row(rt: &impl Abort, alloc: Global, row: &Row, arguments: io::Result<Ar
     let mut reader = Counted::new(row.input.as_bytes());
     let mut writer = buffered(rt, alloc);
     let mut errors = Counted::new(Vec::new(alloc));
-    let exit = launch::<Balisefacts, _, _, _>(alloc, arguments, &mut reader, &mut writer, &mut errors);
+    let exit = launch::<Balisefacts, _, _, _>(
+        alloc,
+        arguments,
+        &mut reader,
+        &mut writer,
+        &mut errors,
+    );
     check_exit(rt, exit, row.code, row.fault);
     check_output(rt, &writer, row.output);
     check_errors(rt, &errors, row.errors);

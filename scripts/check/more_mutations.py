@@ -1,7 +1,7 @@
 #!/usr/bin/env python3
 """Tries the mutations that the gate leaves to another time: more_mutations.py [--look] [--top FOLDER] [CRATE ..].
 
-The gate tries those of each crate's must-fail/, one for each public function and those that a wrong program is named by.
+The gate tries those of each crate's must-fail/: one for each public function, and some that stand for a wrong program.
 Those of more-mutations/ turn a private function, or a meaning that has another mutation already. Here they take the
 place of the others in a copy of the repository, and `rt must-fail` tries each. That takes about half a minute of a
 processor for each, and first a check of each crate, if the kit has none of the same files. --look only looks whether

@@ -19,6 +19,7 @@ use balise_plan::Plan;
 use balise_rules::Refusal;
 
 /// Does an edit under a serial, and answers its entry. A refused edit is dropped, and the plan stays as it was.
+#[inline(always)]
 pub fn apply(plan: &mut Plan, edit: Edit, serial: u32) -> Result<Entry, Refusal>
     requires count { plan.old.changes < 2 ^ 63 }
     requires new { Unused serial plan.old.groups }

@@ -33,6 +33,7 @@ pub(crate) struct Done {
 }
 
 /// A place for an edit that isn't done yet: the note stands for none.
+#[inline(always)]
 pub(crate) fn placed(alloc: Global, edit: Edit) -> Result<Box<Done>, Refusal>
     ensures ok { IfOk result (λ done. done.value.edit ≡ edit) }
     ensures fault { IsOkUnless result Refusal.OutOfMemory }
@@ -57,6 +58,7 @@ impl Model for Entry {
 
 impl Entry {
     /// An entry of an edit and a note of its kind.
+    #[inline(always)]
     pub(crate) fn new(serial: u32, done: Box<Done>) -> Entry
         requires { Suits (edit_of done.value.edit) done.value.note }
         ensures { result ≡ ((serial, edit_of done.value.edit), note_of done.value.note) }

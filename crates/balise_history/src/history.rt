@@ -174,6 +174,7 @@ impl History {
     }
 
     /// Adds an entry after those that stand. What was undone or struck is dropped.
+    #[inline(always)]
     pub(crate) fn push(&mut self, entry: Entry)
         requires { 0 < self.old.room }
         ensures standing { self.new.standing ≡ self.old.standing ++ entry ∷ [] }

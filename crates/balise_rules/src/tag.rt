@@ -8,3 +8,15 @@ pub enum Tag {
     /// The serial of the edit that put it in.
     Fresh(u32),
 }
+
+/// `Base(0)`: what a list of tags has where it holds none.
+impl Default for Tag {
+    ghost use Rattle.std.specs.Prelude.{◌≡◌};
+    ghost use Rattle.balise_rules.specs.declared.tag.Tag.TheVariants.{Base};
+
+    ghost is_default = { λ tag. tag ≡ Base 0 };
+
+    fn default() -> Tag {
+        Tag::Base(0)
+    }
+}

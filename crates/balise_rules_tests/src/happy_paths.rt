@@ -1,6 +1,6 @@
 //! Each function once on its happy path, with values of the standard's tables.
 
-use balise_rules::{Refusal, Var};
+use balise_rules::{Refusal, Tag, Var};
 use std::alloc::{AllocError, Global};
 use std::process::Abort;
 
@@ -80,4 +80,9 @@ fn numbers_and_names_the_refusals(rt: HostRuntime) {
 #[test]
 fn an_allocation_that_fails_is_out_of_memory(rt: HostRuntime) {
     assert!(rt; Refusal::from(AllocError) == Refusal::OutOfMemory);
+}
+
+#[test]
+fn a_tag_by_default_is_the_first_place(rt: HostRuntime) {
+    assert!(rt; Tag::default() == Tag::Base(0));
 }

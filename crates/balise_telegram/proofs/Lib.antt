@@ -4,6 +4,7 @@ pub mod PacketSteps
 pub mod PacketsRead
 pub mod Using
 pub mod TelegramsRead
+pub mod Turning
 pub mod Tagging
 pub mod Settings
 pub mod HeaderSet

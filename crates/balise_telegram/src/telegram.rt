@@ -8,7 +8,7 @@ mod packets;
 mod reading;
 mod walking;
 
-ghost use Rattle.std.specs.Prelude.{◌≡◌, ◌≤◌, ◌<◌, ◌^◌, ◌+◌, ℕ, IfErr, IfOk, IfSome, IsOkUnless, OnErr, OnOk, length, option_map, slice_get, Option};
+ghost use Rattle.std.specs.Prelude.{◌≡◌, ◌≤◌, ◌<◌, ◌^◌, ◌+◌, ℕ, IfErr, IfNone, IfOk, IfSome, IsOkUnless, OnErr, OnOk, length, option_map, slice_get, Option};
 ghost use Rattle.std.specs.List.{position};
 ghost use Rattle.balise_rules.specs.Digits.{hex_of};
 ghost use Rattle.balise_rules.specs.Tagged.{find, Distinct};
@@ -258,6 +258,21 @@ impl Telegram {
         ensures place { IsPlace self.now result }
     {
         after(self.packed(), place)
+    }
+
+    // The same, where a packet stands at the place.
+    #[inline]
+    fn place_behind(&self, place: Place) -> Option<Place>
+        requires { IsPlace self.now place }
+        ensures next { IfSome result (λ p. (p.index ≡ place.index + 1) × IsPlace self.now p × (place.index < length self.now.packets)) }
+        ensures none { IfNone result (length self.now.packets ≤ place.index) }
+        ensures tags { Distinct same_tag self.now.packets }
+    {
+        let bits = self.packed();
+        if bits.number(place.at, 8) == 255 {
+            return None;
+        }
+        Some(after(bits, place))
     }
 
     // The place after the packet that is lent from a place.

@@ -17,6 +17,7 @@ use balise_commands::{Bits, Command};
 use balise_rules::{Id, Refusal};
 use std::alloc::Global;
 
+#[inline(always)]
 fn read_set(words: Words) -> Option<Command>
     ensures { option_map command_of result ≡ set_words (left words.entry) }
 {
@@ -36,6 +37,7 @@ fn read_set(words: Words) -> Option<Command>
     })
 }
 
+#[inline(always)]
 fn read_set_head(words: Words) -> Option<Command>
     ensures { option_map command_of result ≡ set_head_words (left words.entry) }
 {
@@ -168,6 +170,7 @@ fn read_add(alloc: Global, words: Words) -> Result<Command, Refusal>
 }
 
 // A command without digits.
+#[inline(always)]
 fn or_bad_line(command: Option<Command>) -> Result<Command, Refusal>
     ensures ok { IfOk result (λ c. or_bad (option_map Ok (option_map command_of command)) ≡ Ok (command_of c)) }
     ensures fault { IfErr result (λ e. or_bad (option_map Ok (option_map command_of command)) ≡ Err e) }

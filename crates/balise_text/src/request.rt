@@ -69,6 +69,7 @@ pub(crate) fn read_other(name: &[u8], words: Words) -> Option<Option<Request>>
 }
 
 // A command without digits.
+#[inline(always)]
 fn or_bad_line(request: Option<Request>) -> Result<Request, Refusal>
     ensures ok { IfOk result (λ r. or_bad (option_map Ok (option_map call request)) ≡ Ok (call r)) }
     ensures fault { IfErr result (λ e. or_bad (option_map Ok (option_map call request)) ≡ Err e) }

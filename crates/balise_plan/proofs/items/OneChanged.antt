@@ -4,6 +4,7 @@ use Rattle.std.specs.Map.{set_value}
 use Rattle.balise_rules.specs.Tagged.{find, each, Distinct}
 use Rattle.balise_rules.proofs.Tests.{IsTest}
 use Rattle.balise_rules.proofs.Distincts.{distinct-each}
+use Rattle.balise_telegram.proofs.Turning.{each_to}
 use Rattle.balise_plan.specs.Within.{Within, Absent, Changed}
 use Rattle.balise_plan.proofs.items.Places.{absent-each, at-position, none-position, at-lookup, set-each, value-each}
 
@@ -40,23 +41,6 @@ pub found_at : {K X : Type 0} (same : K → K → Bool) (k : K) (xs old : List (
 found_at same k xs old v i e d q = ap (find same k) (sym v) ∙ at-lookup (same k) xs i d (at-position (same k) xs i (sym e)) ∙ ap (λ z. Some z.1) (sym q)
 
 -- ---- A list changed item by item
-
--- the first n items changed
-abbrev pub each_to : {K A : Type 0} → (K → A → A) → ℕ → List (K × A) → List (K × A)
-each_to f zero xs = xs
-each_to f (suc n) [] = []
-each_to f (suc n) (y ∷ ys) = (y.0, f y.0 y.1) ∷ each_to f n ys
-
-pub each-all : {K A : Type 0} (f : K → A → A) (n : ℕ) (xs : List (K × A)) → length xs ≤ n → each_to f n xs ≡ each f xs
-each-all f zero [] e = refl
-each-all f zero (y ∷ ys) e = absurd (omega (arith, e))
-each-all f (suc n) [] e = refl
-each-all f (suc n) (y ∷ ys) e = ap (λ r. (y.0, f y.0 y.1) ∷ r) (each-all f n ys (omega (arith, e)))
-
-pub each_to-length : {K A : Type 0} (f : K → A → A) (n : ℕ) (xs : List (K × A)) → length (each_to f n xs) ≡ length xs
-each_to-length f zero xs = refl
-each_to-length f (suc n) [] = refl
-each_to-length f (suc n) (y ∷ ys) = ap suc (each_to-length f n ys)
 
 -- the next item still is the old one, and a write there is one step more
 pub each-step : {K A : Type 0} (f : K → A → A) (i : ℕ) (xs : List (K × A)) (d : K × A) (w : A) → i < length xs → d ≡ get_or (each_to f i xs) i d → w ≡ f d.0 d.1 → slice_set (each_to f i xs) i (d.0, w) ≡ each_to f (suc i) xs

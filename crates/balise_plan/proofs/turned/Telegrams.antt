@@ -20,7 +20,7 @@ use Rattle.balise_telegram.specs.declared.fault.TelegramFault.{TelegramFault}
 use Rattle.balise_telegram.specs.Setting.{SetsHead, with_head, fields_refusal}
 use Rattle.balise_plan.specs.Walks.{FitsTotals}
 use Rattle.balise_plan.specs.Turned.{with_turned_head}
-use Rattle.balise_plan.proofs.items.OneChanged.{each_to}
+use Rattle.balise_telegram.proofs.Turning.{each_to}
 use Rattle.balise_plan.proofs.items.Places.{absent-each}
 
 -- M_DUP is set where it is 1 or 2
@@ -58,32 +58,6 @@ head_left y y1 place last d p l e b w =
     ∙ ap (λ c. headed y (cond c (with_value MDup 0 (3 - value MDup 0 y.head) (with_value NPig 0 (value NTotal 0 y.head - value NPig 0 y.head) y.head)) (with_value NPig 0 (value NTotal 0 y.head - value NPig 0 y.head) y.head))) (sym q)
 
 -- ---- packets, one after another
-
-not-gone : {K A : Type 0} {same : K → K → Bool} → IsTest same → (f : A → A) (i : ℕ) (xs : List (K × A)) (k : K) (a : A) → Some (k, a) ≡ slice_get (each_to (λ _ x. f x) i xs) i → find same k xs ≡ None → ⊥
-not-gone t f zero [] k a e n = absurd cc
-not-gone t f (suc i) [] k a e n = absurd cc
-not-gone {same = same} t f zero (y ∷ ys) k a e n = let s : same k y.0 ≡ true = ap (λ z. same z y.0) (ap (λ z. z.0) (unsome e)) ∙ t.itself y.0 in let m = simp s at n in cc
-not-gone {same = same} t f (suc i) (y ∷ ys) k a e n =
-    split_on (same k y.0) (λ d. let m = simp d at n in absurd cc) (λ d. let m : find same k ys ≡ None = simp d at n in not-gone t f i ys k a e m)
-
-pub one-step : {K A : Type 0} {same : K → K → Bool} → IsTest same → (f : A → A) (i : ℕ) (xs : List (K × A)) (k : K) (a : A) → Distinct same xs → Some (k, a) ≡ slice_get (each_to (λ _ x. f x) i xs) i →
-    each (λ q x. cond (same k q) (f x) x) (each_to (λ _ x. f x) i xs) ≡ each_to (λ _ x. f x) (suc i) xs
-one-step t f zero [] k a u e = absurd cc
-one-step t f (suc i) [] k a u e = absurd cc
-one-step {same = same} t f zero (y ∷ ys) k a u e =
-    let r : k ≡ y.0 = ap (λ z. z.0) (unsome e) in
-    let s : same k y.0 ≡ true = ap (λ z. same z y.0) r ∙ t.itself y.0 in
-    let g = absent-each same k f ys (ap (λ z. find same z ys) r ∙ u.0) in
-    simp s (ap (λ l. (y.0, f y.1) ∷ l) g)
-one-step {same = same} t f (suc i) (y ∷ ys) k a u e =
-    split_on (same k y.0)
-    (λ d. absurd (not-gone t f i ys k a e (ap (λ z. find same z ys) (t.one k y.0 d) ∙ u.0)))
-    (λ d. simp d (ap (λ l. (y.0, f y.1) ∷ l) (one-step t f i ys k a u.1 e)))
-
-pub none-within : {X : Type 0} (xs : List X) (i : ℕ) → None ≡ slice_get xs i → length xs ≤ i
-none-within [] i e = omega arith
-none-within (x ∷ xs) zero e = absurd cc
-none-within (x ∷ xs) (suc i) e = let r = none-within xs i e in omega (arith, r)
 
 pub marked : (a b : Bool) → (not a && not b) ≡ false → (a || b) ≡ true
 marked true b e = refl

@@ -5,13 +5,16 @@ ghost use Rattle.balise_rules.specs.Variables.{is_free_in_header, steers, width_
 ghost use Rattle.balise_rules.specs.declared.variable.Var.TheVariants.{NPig, NidBg};
 ghost use Rattle.balise_rules.specs.declared.tag.Tag.{Tag};
 ghost use Rattle.balise_layout.specs.Setting.{flipped, renamed, turned};
-ghost use Rattle.balise_telegram.specs.Packed.{place_from};
+ghost use Rattle.balise_rules.specs.Back.{with_packets};
+ghost use Rattle.balise_rules.specs.Tagged.{each};
+ghost use Rattle.balise_telegram.specs.Packed.{packet_place, place_from};
 ghost use Rattle.balise_telegram.specs.Setting.{with_changed, with_field, with_head, SetsField, SetsHead};
 
 use crate::PacketTag;
 use crate::fault::TelegramFault;
 use crate::header::{head_place, is_free};
 use crate::telegram::Telegram;
+use crate::telegram::walking::first;
 use balise_rules::Var;
 
 impl Telegram {
@@ -86,14 +89,37 @@ impl Telegram {
     }
 
     /// Exchanges the directions 0 and 1 in Q_DIR of the packet with this tag, where it stands.
-    #[tactic(auto, unfolding(balise_rules::specs::Variables::steers, balise_rules::specs::Variables::width_of))]
     pub fn flip_dir(&mut self, tag: PacketTag)
         ensures { self.new ≡ with_changed tag turned self.old }
     {
+        if let Some(packet) = self.bits_of(tag) {
+            self.flip_dir_there(packet);
+        }
+    }
+
+    /// The same in each packet.
+    pub fn flip_dirs(&mut self)
+        ensures { self.new ≡ with_packets self.old (each (λ _ x. turned x) self.old.packets) }
+    {
+        let _packed = self.packed();
+        let mut place = first();
+        'packets: loop {
+            // It is read before the bits beside it change, since a processor waits for those.
+            let Some(next) = self.place_behind(place) else {
+                return;
+            };
+            self.flip_dir_there(place.at);
+            place = next;
+        }
+    }
+
+    // The same in the packet that stands there among the bits.
+    #[tactic(auto, unfolding(balise_rules::specs::Variables::steers, balise_rules::specs::Variables::width_of))]
+    fn flip_dir_there(&mut self, packet: usize)
+        requires { (tag : Tag) × (packet_place 50 tag self.old.packets ≡ Some packet) }
+        ensures { (tag : Tag) → packet_place 50 tag self.old.packets ≡ Some packet → self.new ≡ with_changed tag turned self.old }
+    {
         let bits = self.packed();
-        let Some(packet) = self.bits_of(tag) else {
-            return;
-        };
         let dir = bits.number(packet + 8, 2);
         if dir < 2 {
             self.put_field(packet + 8, Var::QDir, 1 - dir);

@@ -11,13 +11,17 @@ use crate::PacketTag;
 use crate::fault::TelegramFault;
 use crate::telegram::walking::{Place, ends, walk};
 use balise_layout::Bits;
+use smallvec::SmallVec;
 use std::alloc::Global;
+
+/// How many tags stand beside the bits, and take no memory of their own: few telegrams have more packets.
+const FEW: usize = 4;
 
 /// The tags of a telegram's packets in order, its ground, which are the bits that it shows where no packet stands, and
 /// how many bits header, packets and packet 255 take.
 #[derive(Drop)]
 pub(crate) struct Edited {
-    pub(crate) tags: Vec<PacketTag>,
+    pub(crate) tags: SmallVec<PacketTag, FEW>,
     pub(crate) ground: Bits,
     pub(crate) used: usize,
 }
@@ -46,7 +50,7 @@ impl Edited {
         ensures ok { IfOk result (λ e. (e.tags.items ≡ self.now.tags.items) × (e.ground ≡ self.now.ground) × (e.used ≡ self.now.used)) }
         ensures fault { IsOkUnless result TelegramFault.OutOfMemory }
     {
-        let tags = Vec::from_slice(alloc, self.tags.as_slice())?;
+        let tags = SmallVec::from_slice(alloc, self.tags.as_slice())?;
         let ground = self.ground.copy()?;
         let used = self.used;
         Ok(Edited { tags, ground, used })
@@ -92,7 +96,7 @@ pub(crate) fn edited_read(bits: &Bits) -> Result<Edited, TelegramFault>
 {
     let alloc = bits.allocator();
     let end = ends(bits);
-    let mut tags = Vec::with_capacity(alloc, end.index + 1)?;
+    let mut tags = SmallVec::with_capacity(alloc, end.index + 1)?;
     for i in 0..end.index {
         tags.push(PacketTag::Base(i as u32))?;
     }

@@ -1,6 +1,6 @@
 //! Packets taken out of a telegram, put in and moved. The bits after them are shifted.
 
-ghost use Rattle.std.specs.Prelude.{◌≡◌, ◌≤◌, ◌<◌, IfSome, IsOk, vec_len, vec_capacity, OnErr, OnOk, IsOkUnless, is_some, option_map, length, Option};
+ghost use Rattle.std.specs.Prelude.{◌≡◌, ◌≤◌, ◌<◌, IfSome, IsOk, OnErr, OnOk, IsOkUnless, is_some, option_map, length, Option};
 ghost use Rattle.std.specs.List.{insert, remove};
 ghost use Rattle.balise_rules.specs.Back.{with_packets};
 ghost use Rattle.balise_rules.specs.Packet.{width, IsSpelt, Packet};
@@ -12,6 +12,7 @@ ghost use Rattle.balise_telegram.specs.Changes.{InsertsOrWants, OrWants};
 ghost use Rattle.balise_telegram.specs.Moving.{inserted, moved_to, place_after, place_before, Shifts, ShiftsBefore, TakesOut};
 ghost use Rattle.balise_telegram.specs.Shown.{index_of, Gap, Goes, IsOver, IsPlace, IsShown, Spot};
 ghost use Rattle.balise_telegram.specs.declared.telegram.walking.Place.{Place};
+ghost use Rattle.smallvec.specs.SmallVec.{HasRoomFor};
 
 use crate::PacketTag;
 use crate::fault::TelegramFault;
@@ -250,11 +251,13 @@ fn cut_out(bits: &mut Bits, edited: &mut Edited, place: Place, width: usize, use
     requires { (y : Telegram) × IsShown bits.old y × IsOver edited.old y × Spot y place.index place.at width used }
     ensures shown { (y : Telegram) → IsShown bits.old y → IsOver edited.old y → Spot y place.index place.at width used → bits.new ≡ shown (with_packets y (remove y.packets place.index)) }
     ensures over { (y : Telegram) → IsShown bits.old y → IsOver edited.old y → Spot y place.index place.at width used → IsOver edited.new (with_packets y (remove y.packets place.index)) }
-    ensures spare { vec_len edited.new.tags < vec_capacity edited.new.tags }
+    ensures spare { HasRoomFor edited.new.tags 1 }
 {
     let after = place.at + width;
     bits.move_part(place.at, after, used - after);
     bits.put_part(used - width, &edited.ground, used - width, width);
+    // They are no more than there is room for.
+    let _count = edited.tags.len();
     let _ = edited.tags.remove(place.index);
     edited.used = used - width;
 }
@@ -274,7 +277,7 @@ fn put_between(
     ensures bits { OnErr result (bits.new ≡ bits.old) }
     ensures kept { OnErr result ((y : Telegram) → IsOver edited.old y → IsOver edited.new y) }
     ensures fault { IsOkUnless result TelegramFault.OutOfMemory }
-    ensures room { vec_len edited.old.tags < vec_capacity edited.old.tags → IsOk result }
+    ensures room { HasRoomFor edited.old.tags 1 → IsOk result }
 {
     edited.tags.insert(place.index, tag)?;
     let width = packet.width();

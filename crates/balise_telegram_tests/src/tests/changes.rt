@@ -22,6 +22,9 @@ pub(crate) const RENAMED: &str = "a1007f80a032c15022a07d0184e301ffffffffffffffff
 /// The two packets, the first one turned.
 pub(crate) const TURNED: &str = "a1007f80a03250800f82a1201f07ffffffffffffffffffffffffc0";
 
+/// The two packets, both turned.
+pub(crate) const BOTH_TURNED: &str = "a1007f80a03250800f82a1001f07ffffffffffffffffffffffffc0";
+
 /// The two packets under a header with N_PIG 3 and NID_BG 777.
 pub(crate) const HEADER_PUT: &str = "a1307f80a184d0900f82a1201f07ffffffffffffffffffffffffc0";
 

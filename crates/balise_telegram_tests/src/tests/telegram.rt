@@ -1,7 +1,9 @@
 //! A telegram of two packets as it was read, and the same one after an edit: questions, changes in place, copies and
 //! digits.
 
-use crate::tests::changes::{FLIPPED, HEADER_PUT, LINKING, NAMED, RENAMED, TURNED, has_links};
+use crate::tests::changes::{
+    BOTH_TURNED, FLIPPED, HEADER_PUT, LINKING, NAMED, RENAMED, TURNED, has_links,
+};
 use crate::tests::full::{FULL, holds};
 use crate::tests::packets::EXCHANGED;
 use crate::tests::put::{put_beside, taken};
@@ -136,6 +138,14 @@ fn turns(rt: &impl Abort, telegram: &mut Telegram) -> bool {
     turned & shows(rt, telegram, TWO_PACKETS)
 }
 
+/// Whether both packets are turned, and turned back.
+fn turns_both(rt: &impl Abort, telegram: &mut Telegram) -> bool {
+    telegram.flip_dirs();
+    let turned = shows(rt, telegram, BOTH_TURNED);
+    telegram.flip_dirs();
+    turned & shows(rt, telegram, TWO_PACKETS)
+}
+
 /// Variables of the header, values for them, and the ones before.
 const HEAD_SET: [HeadSet; 4] = [
     (Var::MMcount, 7, 255),
@@ -158,6 +168,7 @@ fn changes(rt: &impl Abort, telegram: &mut Telegram) -> bool {
     sets(rt, telegram, 9, 7, SET)
         & sets(rt, telegram, 7, 9, TWO_PACKETS)
         & turns(rt, telegram)
+        & turns_both(rt, telegram)
         & sets_heads(telegram)
         & shows(rt, telegram, TWO_PACKETS)
         & puts_header(telegram)

@@ -1,80 +1,8 @@
--- Q_DIR stands after 8 bits of every packet.
-use Rattle.std.proofs.Common.{◌≡◌, ◌∙◌, ◌-◌, ◌+◌, ℕ, ap, sym, arith}
-use Rattle.balise_rules.specs.declared.variable.Var.TheVariants.{QDir}
-use Rattle.balise_rules.specs.Edits.{exchanged}
-use Rattle.balise_rules.specs.Variables.{width_of}
-use Rattle.balise_rules.specs.Packet.{bits_of, value}
-use Rattle.balise_rules.specs.Telegram.{version_of}
-use Rattle.balise_layout.specs.Held.{with_field}
+use Rattle.std.proofs.Common.{sym}
 use Rattle.balise_layout.specs.Setting.{turned}
-use Rattle.balise_layout.proofs.First.{spells_holds}
-use Rattle.balise_layout.proofs.Values.{exchanged_low, exchanged_high, with_field-same, dir_found}
+use Rattle.balise_telegram.proofs.PackedFields.{absent}
 use Rattle.balise_telegram.proofs.PackedPlaces.{not_located}
-use Rattle.balise_telegram.proofs.PackedFields.{absent, its_value}
-use Rattle.balise_telegram.proofs.FieldPlaces.{dir_place, field_there, packet_within}
-use Rattle.balise_telegram.proofs.PackedChanges.{changed_alike, kept_as_is}
-use Rattle.balise_telegram.proofs.Walking.{shown_size}
 use Rattle.balise_telegram.proofs.telegram.Telegram.flip_dir.Goals as goal
 
 pub returns-in_default : goal.returns-in_default
 returns-in_default c = absent c.args.tag turned c.args.self.now (not_located c.args.tag 50 c.args.self.now.packets (sym c.in_default.ensures.place))
-
-pub overflow_add-packet : goal.overflow_add-packet
-overflow_add-packet c =
-    let b = c.packed-bits.result.now in
-    let y = c.args.self.now in
-    let e = sym c.in-Some.ensures.place in
-    let r = c.packed-bits.ensures in
-    omega (arith, packet_within b y c.args.tag c.in-Some.packet r e, (shown_size b y r).1)
-
-pub number-dir-requires-clause-within : goal.number-dir-requires-clause-within
-number-dir-requires-clause-within c =
-    let b = c.packed-bits.result.now in
-    let y = c.args.self.now in
-    let e = sym c.in-Some.ensures.place in
-    let r = c.packed-bits.ensures in
-    omega (arith, packet_within b y c.args.tag c.in-Some.packet r e)
-
-pub overflow_add-packet-then-dir-lt2 : goal.overflow_add-packet-then-dir-lt2
-overflow_add-packet-then-dir-lt2 c =
-    let b = c.packed-bits.result.now in
-    let y = c.args.self.now in
-    let e = sym c.in-Some.ensures.place in
-    let r = c.packed-bits.ensures in
-    omega (arith, packet_within b y c.args.tag c.in-Some.packet r e, (shown_size b y r).1)
-
-pub put_field-requires-clause-stands : goal.put_field-requires-clause-stands
-put_field-requires-clause-stands c =
-    let b = c.packed-bits.result.now in
-    let y = c.args.self.now in
-    let e = sym c.in-Some.ensures.place in
-    let r = c.packed-bits.ensures in
-    (c.args.tag, 0, dir_place b y c.args.tag c.in-Some.packet r e)
-
-pub returns-then-dir-lt2 : goal.returns-then-dir-lt2
-unfolding width_of
-returns-then-dir-lt2 c =
-    let b = c.packed-bits.result.now in
-    let y = c.args.self.now in
-    let e = sym c.in-Some.ensures.place in
-    let r = c.packed-bits.ensures in
-    let f = field_there b y c.args.tag QDir 0 c.in-Some.packet (c.in-Some.packet + 8) r e (dir_place b y c.args.tag c.in-Some.packet r e) in
-    let dir : c.number-dir.result ≡ value QDir 0 f.packet.fields = c.number-dir.ensures ∙ sym (its_value b y c.args.tag QDir 0 (c.in-Some.packet + 8) f) in
-    let new : 1 - c.number-dir.result ≡ exchanged 0 1 (value QDir 0 f.packet.fields) = sym (exchanged_low c.number-dir.result c.if-dir-lt2.true) ∙ ap (exchanged 0 1) dir in
-    c.put_field.ensures c.args.tag 0 (dir_place b y c.args.tag c.in-Some.packet r e)
-    ∙ changed_alike c.args.tag (with_field QDir 0 (1 - c.number-dir.result)) turned y f.packet c.in-Some.ensures.tags f.is (ap (λ (n : ℕ). with_field QDir 0 n f.packet) new)
-
-pub returns-else-dir-lt2 : goal.returns-else-dir-lt2
-unfolding width_of
-returns-else-dir-lt2 c =
-    let b = c.packed-bits.result.now in
-    let y = c.args.self.now in
-    let e = sym c.in-Some.ensures.place in
-    let r = c.packed-bits.ensures in
-    let f = field_there b y c.args.tag QDir 0 c.in-Some.packet (c.in-Some.packet + 8) r e (dir_place b y c.args.tag c.in-Some.packet r e) in
-    let p = f.packet in
-    let holds = spells_holds (version_of y) (bits_of p) p f.spelt in
-    let dir : c.number-dir.result ≡ value QDir 0 p.fields = c.number-dir.ensures ∙ sym (its_value b y c.args.tag QDir 0 (c.in-Some.packet + 8) f) in
-    let same : exchanged 0 1 (value QDir 0 p.fields) ≡ value QDir 0 p.fields = ap (exchanged 0 1) (sym dir) ∙ exchanged_high c.number-dir.result c.if-dir-lt2.false ∙ dir in
-    let stays : turned p ≡ p = ap (λ (n : ℕ). with_field QDir 0 n p) same ∙ with_field-same _ (bits_of p) p QDir 0 (value QDir 0 p.fields) holds (dir_found _ (bits_of p) p holds) in
-    kept_as_is c.args.tag turned y p c.in-Some.ensures.tags f.is stays

@@ -6,7 +6,7 @@ use Rattle.balise_telegram.proofs.KeptTags.{base_more, tags_read, ground_read}
 use Rattle.balise_telegram.proofs.telegram.edited.edited_read.Goals as goal
 
 pub loop-i-preserved : goal.loop-i-preserved
-loop-i-preserved c = c.in_ok-push.ensures.items ∙ base_more c.loop-i.i c.loop-i.tags.items c.loop-i.invariant
+loop-i-preserved c = c.in_ok-push.ensures.ok ∙ base_more c.loop-i.i c.loop-i.tags.items c.loop-i.invariant
 
 pub returns-clause-ok : goal.returns-clause-ok
 returns-clause-ok c = λ y o.

@@ -56,7 +56,7 @@ remove-requires c =
     let f = spot_fits c.args.bits.now c.requires.0 c.args.place.index c.args.place.at c.args.width c.args.used c.requires.1 c.requires.3 in
     let count = ap length c.requires.2.0 in
     let all = length-map c.requires.0.packets (λ (p : Tag × Packet). p.0) in
-    omega (arith, f.below, count, all, c.args.edited.now.tags.ok.0)
+    omega (arith, f.below, count, all)
 
 pub returns-clause-shown : goal.returns-clause-shown
 returns-clause-shown c = λ y s o p.

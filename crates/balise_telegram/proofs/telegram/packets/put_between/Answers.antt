@@ -43,7 +43,7 @@ returns-clause-shown c = λ y s o p.
 
 pub returns-clause-over : goal.returns-clause-over
 returns-clause-over c = λ y s o p. (
-  c.in_ok-insert.ensures.items ∙ ap (λ (l : List Tag). insert l c.args.place.index c.args.tag) o.0 ∙ tags-insert y.packets c.args.place.index (c.args.tag, c.args.packet.now),
+  c.in_ok-insert.ensures.ok ∙ ap (λ (l : List Tag). insert l c.args.place.index c.args.tag) o.0 ∙ tags-insert y.packets c.args.place.index (c.args.tag, c.args.packet.now),
   o.1,
   (let more = used-insert y.packets c.args.place.index (c.args.tag, c.args.packet.now) in let all = p.all in omega (arith, more, all, c.width-width.ensures)),
 )

@@ -1,11 +1,11 @@
 //! Reads the arguments.
 
 ghost use Rattle.std.specs.Prelude.{◌≡◌, ◌↔◌, IfErr, IfOk, IsTrue, OnOk, codes, map};
-ghost use Rattle.clap.specs.Words.{app_of, new_app};
+ghost use Rattle.clap.specs.Words.{app_of};
 ghost use Rattle.balise_arguments.specs.Arguments.{program, AreAccepted, IsUsed};
 ghost use Rattle.balise_arguments.specs.Faults.{IsFaultOf};
 
-use crate::command_line::{flag, is_used};
+use crate::command_line::{flag, is_used, plain_command};
 use crate::fault::ArgsFault;
 use crate::options::Flags;
 use clap::Command;
@@ -62,7 +62,7 @@ pub fn flags<'a>(alloc: Global, words: &'a [&'a str]) -> Result<Flags, ArgsFault
 fn command<'a>(alloc: Global) -> Result<Command<'a>, AllocError>
     ensures { IfOk result (λ c. app_of c ≡ program) }
 {
-    let command = described(alloc);
+    let command = plain_command(alloc, "baliseplan", ABOUT, USAGE, AFTER_OPTIONS);
     let quiet = flag(alloc, "quiet", QUIET);
     let command = command.arg(quiet)?;
     let stop = flag(alloc, "stop", STOP);
@@ -71,14 +71,4 @@ fn command<'a>(alloc: Global) -> Result<Command<'a>, AllocError>
     let command = command.arg(journal)?;
     let json = flag(alloc, "json", JSON);
     command.arg(json)
-}
-
-// The command line without its arguments.
-fn described<'a>(alloc: Global) -> Command<'a>
-    ensures { app_of result ≡ new_app (codes "baliseplan") }
-{
-    Command::new(alloc, "baliseplan")
-        .about(ABOUT)
-        .override_usage(USAGE)
-        .after_help(AFTER_OPTIONS)
 }

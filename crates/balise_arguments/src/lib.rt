@@ -9,6 +9,6 @@ mod options;
 
 pub use arguments::flags;
 pub use clap::Error;
-pub use command_line::{flag, is_used};
+pub use command_line::{flag, is_used, plain_command};
 pub use fault::ArgsFault;
 pub use options::Flags;

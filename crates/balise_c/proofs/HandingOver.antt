@@ -1,11 +1,11 @@
 -- What is handed over of what a run wrote, whatever the run.
-use Rattle.std.proofs.Common.{◌≡◌, ◌⊎◌, ◌<◌, ◌≤◌, ℕ, inl, inr, length, take, Result, Ok, Err, arith, subst, sym}
+use Rattle.std.proofs.Common.{◌≡◌, ◌⊎◌, ◌<◌, ◌≤◌, ℕ, [], inl, inr, length, take, Result, Ok, Err, arith, refl, subst, sym}
 use Rattle.std.proofs.lemmas.Bool.{cases_lt}
 use Rattle.std.specs.Result.{IsErrOf}
 use Rattle.balise_text.specs.Texts.{Text}
 use Rattle.balise_text.specs.declared.run_fault.RunFault.{RunFault}
 use Rattle.balise_text.specs.declared.run_fault.RunFault.TheVariants.{InputTooLong, OutOfMemory, ReadFault, WriteFault}
-use Rattle.balise_c.specs.HandedOver.{HandsOver, count_within, ends_within}
+use Rattle.balise_c.specs.HandedOver.{LeavesOutput, HandsOver, count_within, ends_within}
 
 -- what fits or doesn't
 fits_or_not : (n m : ℕ) → (n ≤ m) ⊎ (m < n)
@@ -24,7 +24,7 @@ count_below (Err ReadFault) n = omega arith
 count_below (Err WriteFault) n = omega arith
 
 module _ {S : Type 0} (ended result : Result S RunFault) (text old new : Text) (written : ℕ) (h : HandsOver ended text old new written result) where
-  pub handed_within : written ≤ length old
+  handed_within : written ≤ length old
   handed_within = by (fits_or_not (length text) (length old))
     where
       by : (length text ≤ length old) ⊎ (length old < length text) → written ≤ length old
@@ -32,7 +32,7 @@ module _ {S : Type 0} (ended result : Result S RunFault) (text old new : Text) (
       by (inr w) = let c = (h.is_full w).0 in omega (arith, c)
 
   -- What holds of what was printed, where it does of all that was written, as the call ends then, and of each beginning of that.
-  pub handed : (Wrote Printed : Text → Result S RunFault → Type 0)
+  handed : (Wrote Printed : Text → Result S RunFault → Type 0)
       → (Wrote text ended → Printed (take (count_within ended (length text)) text) (ends_within ended))
       → ((n : ℕ) → n < length text → Wrote text ended → Printed (take n text) (Err WriteFault))
       → Wrote text ended → Printed (take written new) result
@@ -53,9 +53,24 @@ module _ {S : Type 0} (ended result : Result S RunFault) (text old new : Text) (
   not_full (Err ReadFault) f = cc
   not_full (Err WriteFault) f = cc
 
-  pub handed_full : IsErrOf result WriteFault → written ≡ length old
+  handed_full : IsErrOf result WriteFault → written ≡ length old
   handed_full f = by (fits_or_not (length text) (length old))
     where
       by : (length text ≤ length old) ⊎ (length old < length text) → written ≡ length old
       by (inl w) = absurd (not_full ended (subst (λ (r : Result S RunFault). IsErrOf r WriteFault) (h.fits w).1 f))
       by (inr w) = (h.is_full w).0
+
+  pub filled : (Wrote Printed : Text → Result S RunFault → Type 0)
+      → (Wrote text ended → Printed (take (count_within ended (length text)) text) (ends_within ended))
+      → ((n : ℕ) → n < length text → Wrote text ended → Printed (take n text) (Err WriteFault))
+      → Wrote text ended → LeavesOutput Printed old new written result
+  filled Wrote Printed all cut wrote = record {
+    within = handed_within;
+    kept = h.kept;
+    is_printed = handed Wrote Printed all cut wrote;
+    is_full = λ e. handed_full (subst (λ (r : Result S RunFault). IsErrOf r WriteFault) (sym e) refl);
+  }
+
+-- where there is no memory for a text
+pub unfilled : {S : Type 0} (Printed : Text → Result S RunFault → Type 0) (old : Text) → Printed [] (Err OutOfMemory) → LeavesOutput Printed old old 0 (Err OutOfMemory)
+unfilled Printed old printed = record { within = omega arith; kept = refl; is_printed = printed; is_full = λ e. absurd cc }

@@ -5,14 +5,14 @@ use Rattle.std.proofs.lemmas.List.{length-take-le}
 use Rattle.balise_lines.specs.Lines.{lines_of}
 use Rattle.balise_cli.specs.declared.asked.Asked.{Asked}
 use Rattle.balise_text.specs.Texts.{Text}
-use Rattle.balise_cli.specs.Ends.{IsOutputOf}
+use Rattle.balise_cli.specs.Ends.{BeginsOutput, IsOutputOf}
 use Rattle.balise_cli.specs.Output.{Ended, Ending, Header, TooLong}
 use Rattle.balise_text.specs.declared.run_fault.RunFault.{RunFault}
 use Rattle.balise_text.specs.declared.run_fault.RunFault.TheVariants.{InputTooLong, OutOfMemory, ReadFault, WriteFault}
 use Rattle.balise_cli.specs.declared.status.Status.{Status}
 use Rattle.balise_cli.proofs.Outputs.{some_output}
 use Rattle.balise_c.specs.HandedOver.{count_within, ends_within}
-use Rattle.balise_c.specs.Outcome.{BeginsLonger, BeginsOutput, IsPrinted, Ran}
+use Rattle.balise_c.specs.Outcome.{BeginsLonger, IsPrinted, Ran}
 
 pub nothing : (asked : Asked) (input : Text) → BeginsOutput asked input []
 nothing asked input = let o = some_output asked true Header 1 0 (lines_of input) in record { output = o.0; ending = o.1.0; is_output = o.1.1; begins = (o.0, refl) }

@@ -1,5 +1,5 @@
 -- What a call writes and answers that turns digits into fields, or fields into digits.
-use Rattle.std.specs.Prelude.{◌≡◌, ◌⊎◌, ◌<◌, ◌≤◌, ℕ, ℤ, pos, [], length, take, drop, Option, Some, Result, Ok, Err}
+use Rattle.std.specs.Prelude.{◌≡◌, ◌⊎◌, ◌<◌, ℕ, ℤ, [], length, Option, Some, Result, Ok, Err}
 use Rattle.balise_lines.specs.Writing.{IsPrefixOf}
 use Rattle.balise_text.specs.Texts.{Text}
 use Rattle.balise_text.specs.declared.run_fault.RunFault.{RunFault}
@@ -8,6 +8,7 @@ use Rattle.balise_fields_run.specs.Statuses.{code_of}
 use Rattle.balise_fields_run.specs.Ways.{RanBy}
 use Rattle.balise_fields_run.specs.declared.status.Status.{Status}
 use Rattle.balise_fields_run.specs.declared.way.Way.{Way}
+use Rattle.balise_c.specs.HandedOver.{FillsWith}
 use Rattle.balise_c.specs.Outcome.{fault_number}
 
 -- A run of this way over the whole input that wrote this text ended so.
@@ -38,11 +39,6 @@ abbrev pub fields_number : Result Status RunFault → ℕ
 fields_number (Ok status) = code_of status
 fields_number (Err fault) = fault_number fault
 
--- What a run leaves in the output: the text at the front, and all after it as it was. Only a full output is the fault of the writer.
-pub record FillsBy (way : Way) (input old new : Text) (written : ℕ) (answer : ℤ) : Type 0 where
-  pub within : written ≤ length old
-  pub kept : drop written new ≡ drop written old
-  pub ended : Result Status RunFault
-  pub is_printed : IsPrintedBy way input (take written new) ended
-  pub is_full : ended ≡ Err WriteFault → written ≡ length old
-  pub is_number : answer ≡ pos (fields_number ended)
+-- what is written is in the output, and how the run ended is answered
+abbrev pub FillsBy : Way → (input old new : Text) → ℕ → ℤ → Type 0
+FillsBy way input old new written answer = FillsWith (IsPrintedBy way input) fields_number old new written answer

@@ -1,5 +1,5 @@
 pub mod FlagBits
 pub mod FactNumbers
-pub mod Outcome
 pub mod HandedOver
+pub mod Outcome
 pub mod FieldsOutcome

@@ -1,25 +1,18 @@
 -- What a call writes and answers.
-use Rattle.std.specs.Prelude.{◌≡◌, ◌⊎◌, ◌<◌, ◌≤◌, ℕ, ℤ, pos, true, List, [], length, take, drop, Option, Some, Result, Ok, Err}
+use Rattle.std.specs.Prelude.{◌≡◌, ◌⊎◌, ◌<◌, ℕ, ℤ, pos, true, List, [], length, Option, Some, Result, Ok, Err}
 use Rattle.balise_lines.specs.Lines.{Line}
-use Rattle.balise_lines.specs.Writing.{IsPrefixOf}
 use Rattle.balise_cli.specs.declared.asked.Asked.{Asked}
 use Rattle.balise_text.specs.Texts.{Text}
-use Rattle.balise_cli.specs.Ends.{DidLines, FailsToWrite, IsOutputOf, RunsOutOfMemory}
+use Rattle.balise_cli.specs.Ends.{BeginsOutput, DidLines, FailsToWrite, IsOutputOf, RunsOutOfMemory}
 use Rattle.balise_cli.specs.Laws.{PrintsStanding}
-use Rattle.balise_cli.specs.Output.{Ended, Ending, Phase, TooLong}
+use Rattle.balise_cli.specs.Output.{Ended, Phase, TooLong}
 use Rattle.balise_cli.specs.Statuses.{code_of}
 use Rattle.balise_text.specs.declared.run_fault.RunFault.{RunFault}
 use Rattle.balise_text.specs.declared.run_fault.RunFault.TheVariants.{InputTooLong, OutOfMemory, ReadFault, WriteFault}
 use Rattle.balise_cli.specs.declared.status.Status.{Status}
+use Rattle.balise_c.specs.HandedOver.{FillsWith}
 
--- this text begins an output of the input
-pub record BeginsOutput (asked : Asked) (input text : Text) : Type 0 where
-  pub output : Text
-  pub ending : Ending
-  pub is_output : IsOutputOf asked input output ending
-  pub begins : IsPrefixOf text output
-
--- and that output is longer
+-- this text begins an output of the input that is longer
 abbrev pub BeginsLonger : Asked → Text → Text → Type 0
 BeginsLonger asked input text = (b : BeginsOutput asked input text) × (length text < length b.output)
 
@@ -71,14 +64,9 @@ abbrev pub number_of : Result Status RunFault → ℕ
 number_of (Ok status) = code_of status
 number_of (Err fault) = fault_number fault
 
--- What a run leaves in the output: the text at the front, and all after it as it was. Only a full output is the fault of the writer.
-pub record Fills (asked : Asked) (input old new : Text) (written : ℕ) (answer : ℤ) : Type 0 where
-  pub within : written ≤ length old
-  pub kept : drop written new ≡ drop written old
-  pub ended : Result Status RunFault
-  pub is_printed : IsPrinted asked input (take written new) ended
-  pub is_full : ended ≡ Err WriteFault → written ≡ length old
-  pub is_number : answer ≡ pos (number_of ended)
+-- what is printed is in the output, and how the run ended is answered
+abbrev pub Fills : Asked → (input old new : Text) → ℕ → ℤ → Type 0
+Fills asked input old new written answer = FillsWith (IsPrinted asked input) number_of old new written answer
 
 -- a run that ended so printed a text of this size
 pub record HasSize (asked : Asked) (input : Text) (size : ℕ) (ended : Result Status RunFault) : Type 0 where

@@ -1,40 +1,37 @@
 //! A run over bytes in memory.
 
-ghost use Rattle.std.specs.Prelude.{◌≡◌, ◌≤◌, [], length, take, drop, IsErrOf};
+ghost use Rattle.std.specs.Prelude.{◌≡◌, []};
+ghost use Rattle.balise_c.specs.HandedOver.{LeavesOutput};
 ghost use Rattle.balise_c.specs.Outcome.{HasSize, IsPrinted, Ran};
-ghost use Rattle.balise_cli.specs.Asking.{asked_by};
 
 use crate::handing_over::hand_over;
 use crate::output_text::OutputText;
-use balise_cli::{Counted, Flags, RunFault, Status, run};
+use balise_cli::{Asked, AtEnd, Counted, RunFault, Status, run_lines};
 use std::alloc::Global;
 
 // Runs over all of the input, into a text that is empty.
 fn run_into(
     alloc: Global,
     input: &[u8],
-    flags: Flags,
+    asked: Asked,
     writer: &mut Counted<OutputText>,
 ) -> Result<Status, RunFault>
     requires { writer.old.inner.bytes.items ≡ [] }
-    ensures { Ran (asked_by flags) input.now writer.new.inner.bytes.items result }
+    ensures { Ran asked input.now writer.new.inner.bytes.items result }
 {
     let mut reader = Counted::new(input);
-    run(alloc, &mut reader, writer, flags)
+    run_lines(alloc, asked, AtEnd::GiveBack, &mut reader, writer)
 }
 
 /// Runs, and copies what was printed to the front of the output. What doesn't fit is the fault of the writer.
 pub(crate) fn fill(
     alloc: Global,
     input: &[u8],
-    flags: Flags,
+    asked: Asked,
     output: &mut [u8],
     written: &mut usize,
 ) -> Result<Status, RunFault>
-    ensures within { written.new ≤ length output.old }
-    ensures kept { drop written.new output.new ≡ drop written.new output.old }
-    ensures text { IsPrinted (asked_by flags) input.now (take written.new output.new) result }
-    ensures full { IsErrOf result RunFault.WriteFault → written.new ≡ length output.old }
+    ensures { LeavesOutput (IsPrinted asked input.now) output.old output.new written.new result }
 {
     *written = 0;
     // A text that fills the one byte more is longer than the output.
@@ -42,7 +39,7 @@ pub(crate) fn fill(
         return Err(RunFault::OutOfMemory);
     };
     let mut writer = Counted::new(text);
-    let ended = run_into(alloc, input, flags, &mut writer);
+    let ended = run_into(alloc, input, asked, &mut writer);
     hand_over(ended, writer.inner().bytes(), output, written)
 }
 
@@ -50,13 +47,13 @@ pub(crate) fn fill(
 pub(crate) fn measure(
     alloc: Global,
     input: &[u8],
-    flags: Flags,
+    asked: Asked,
     size: &mut usize,
 ) -> Result<Status, RunFault>
-    ensures { HasSize (asked_by flags) input.now size.new result }
+    ensures { HasSize asked input.now size.new result }
 {
     let mut writer = Counted::new(OutputText::growing(alloc));
-    let ended = run_into(alloc, input, flags, &mut writer);
+    let ended = run_into(alloc, input, asked, &mut writer);
     *size = writer.inner().bytes().len();
     match ended {
         Err(RunFault::WriteFault) => Err(RunFault::OutOfMemory),

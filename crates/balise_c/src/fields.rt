@@ -1,7 +1,7 @@
 //! A run from digits to fields or from fields to digits, over bytes in memory.
 
-ghost use Rattle.std.specs.Prelude.{◌≡◌, ◌≤◌, length, take, drop, IsErrOf};
 ghost use Rattle.balise_c.specs.FieldsOutcome.{IsPrintedBy};
+ghost use Rattle.balise_c.specs.HandedOver.{LeavesOutput};
 
 use crate::handing_over::hand_over;
 use crate::output_text::OutputText;
@@ -17,18 +17,15 @@ pub(crate) fn fill_with_fields(
     output: &mut [u8],
     written: &mut usize,
 ) -> Result<Status, RunFault>
-    ensures within { written.new ≤ length output.old }
-    ensures kept { drop written.new output.new ≡ drop written.new output.old }
-    ensures text { IsPrintedBy way input.now (take written.new output.new) result }
-    ensures full { IsErrOf result RunFault.WriteFault → written.new ≡ length output.old }
+    ensures { LeavesOutput (IsPrintedBy way input.now) output.old output.new written.new result }
 {
+    let mut reader = Counted::new(input);
     *written = 0;
     // A text that fills the one byte more is longer than the output.
     let Ok(text) = OutputText::with_room(alloc, output.len() + 1) else {
         return Err(RunFault::OutOfMemory);
     };
     let mut writer = Counted::new(text);
-    let mut reader = Counted::new(input);
     let ended = run(alloc, way, &mut reader, &mut writer);
     hand_over(ended, writer.inner().bytes(), output, written)
 }

@@ -18,7 +18,6 @@ mod output_text;
 mod answer;
 mod call;
 mod copying;
-mod facts;
 mod fields;
 mod handing_over;
 #[cfg(test)]
@@ -27,9 +26,9 @@ mod tests;
 use crate::answer::{fields_number, number_of};
 use crate::call::{fill, measure};
 use crate::fact_numbers::{FIRST_OTHER, facts_of};
-use crate::facts::fill_with_facts;
 use crate::fields::fill_with_fields;
 use crate::flag_bits::{FIRST_UNKNOWN, flags_of};
+use balise_cli::{asked_by, facts_asked};
 use balise_fields_run::Way;
 use std::alloc::Global;
 
@@ -67,7 +66,8 @@ pub extern "C" fn baliseplan_run(
         *written = 0;
         return USAGE;
     }
-    number_of(fill(alloc, input, flags_of(flags), output, written))
+    let asked = asked_by(flags_of(flags));
+    number_of(fill(alloc, input, asked, output, written))
 }
 
 /// Counts what `baliseplan_run` would write with enough room, and answers as that would. Never 32.
@@ -83,7 +83,7 @@ pub extern "C" fn baliseplan_size(alloc: Global, input: &[u8], flags: u32, size:
         *size = 0;
         return USAGE;
     }
-    number_of(measure(alloc, input, flags_of(flags), size))
+    number_of(measure(alloc, input, asked_by(flags_of(flags)), size))
 }
 
 /// Does what the program `balisefacts` does, from memory to memory: runs as a quiet `baliseplan_run`, and writes facts of
@@ -108,8 +108,8 @@ pub extern "C" fn baliseplan_facts(
         *written = 0;
         return USAGE;
     }
-    let facts = facts_of(what, serial);
-    number_of(fill_with_facts(alloc, input, facts, output, written))
+    let asked = facts_asked(facts_of(what, serial));
+    number_of(fill(alloc, input, asked, output, written))
 }
 
 /// Does what the program `balisefields` does, from memory to memory: writes the fields of the digits of telegrams and

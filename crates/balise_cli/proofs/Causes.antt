@@ -3,7 +3,7 @@ use Rattle.std.proofs.Common.{◌≡◌, ◌≢◌, ℕ, List, [], ◌++◌, Opt
 use Rattle.balise_lines.specs.declared.counted.Counted.{Counted}
 use Rattle.balise_lines.specs.Writing.{LastFailed, NoneFailed, WritesAll, WritesSome}
 use Rattle.balise_cli.proofs.Stopped.{nothing_yet}
-use Rattle.balise_cli.proofs.TextsBehind.{some_behind}
+use Rattle.balise_text.proofs.TextsBehind.{some_behind}
 use Rattle.balise_text.specs.Printing.{reason_of}
 use Rattle.balise_text.specs.declared.run_fault.RunFault.{RunFault}
 use Rattle.balise_text.specs.declared.run_fault.RunFault.TheVariants.{OutOfMemory, WriteFault}

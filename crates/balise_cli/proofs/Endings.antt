@@ -1,6 +1,6 @@
 -- How a run goes on after a line that was read, and how it ends.
 use Rattle.std.proofs.Common.{◌≡◌, ◌≢◌, ℕ, [], Bool, true, false, Option, Some, None, Result, Ok, Err, refl, sym, ap, subst, ◌∙◌}
-use Rattle.std.specs.Prelude.{IfErr, IfOk, IsErrOf, OnErr, OnOk}
+use Rattle.std.specs.Prelude.{IfErr, IfOk}
 use Rattle.std.specs.Io.KnownBytes.{Appends, IsAtEnd, Keeps}
 use Rattle.std.proofs.KnownBytes.{Appends-nil}
 use Rattle.balise_rules.specs.declared.refusal.Refusal.{Refusal}
@@ -17,10 +17,9 @@ use Rattle.balise_lines.proofs.WrittenTexts.{some_nothing}
 use Rattle.balise_cli.specs.declared.asked.Asked.{Asked}
 use Rattle.balise_text.specs.Replies.{bad_line}
 use Rattle.balise_text.specs.Texts.{Text}
-use Rattle.balise_cli.specs.Ends.{ComesToEnd, DidLines, FailsToWrite, NoneComplete, RunsOutOfMemory, WritesBeginning, WritesOutput, WritesSome}
 use Rattle.balise_text.specs.Printing.{IsCause, Prints, reason_of}
 use Rattle.balise_text.specs.RunFaults.{IsFault}
-use Rattle.balise_cli.specs.Output.{Bad, Commands, Ended, Good, Header, IsStep, Over, Phase, Read, TooLong, after_read, at_end, read_line}
+use Rattle.balise_cli.specs.Output.{Bad, Commands, Good, Header, IsStep, Over, Phase, Read, after_read, at_end, read_line}
 use Rattle.balise_cli.specs.PlanTexts.{end_text}
 use Rattle.balise_cli.specs.Phases.{DidPart, DidSome, DidStep, WrittenOfEnd, WrittenOfLine, WroteSuch, last_text}
 use Rattle.balise_cli.specs.Progress.{HasCome, IsReadAs, IsRefused, Ran, RanToEnd, RanToFault}
@@ -44,23 +43,14 @@ counted read reads written writes InputTooLong r w = absurd w
 counted read reads written writes ReadFault r w = absurd w
 
 not_long : {A : Type 0} (written writes : ℕ) (e : RunFault) → IsCause written writes e → e ≡ InputTooLong → A
-not_long written writes OutOfMemory w h = absurd cc
-not_long written writes WriteFault w h = absurd cc
-not_long written writes InputTooLong w h = absurd w
-not_long written writes ReadFault w h = absurd w
+not_long written writes e w h = absurd (subst (IsCause written writes) h w)
 
 not_read : {A : Type 0} (written writes : ℕ) (e : RunFault) → IsCause written writes e → e ≡ ReadFault → A
-not_read written writes OutOfMemory w h = absurd cc
-not_read written writes WriteFault w h = absurd cc
-not_read written writes InputTooLong w h = absurd w
-not_read written writes ReadFault w h = absurd w
+not_read written writes e w h = absurd (subst (IsCause written writes) h w)
 
 -- a fault is one
 not_both : {A : Type 0} (e : RunFault) → e ≡ OutOfMemory → e ≡ WriteFault → A
-not_both OutOfMemory is h = absurd cc
-not_both InputTooLong is h = absurd cc
-not_both ReadFault is h = absurd cc
-not_both WriteFault is h = absurd cc
+not_both e is h = absurd cc
 
 out_of_memory : (writes : ℕ) (e : RunFault) → e ≡ OutOfMemory → IsCause writes writes e
 out_of_memory writes e is = subst (IsCause writes writes) (sym is) refl
@@ -207,51 +197,5 @@ commands_ended contents asked had old s refused l m before has writer writers (E
     (subst (λ (k : ℕ). IsCause k writers.failed e) w p.cause)
 
 -- a run has come to its first line
-pub at_first : (asked : Asked) (had old : Option Text) (lines : Lines) (p : Phase) → ahead lines ≡ [] → p ≡ Header → number_of lines ≡ 1 → place_of lines ≡ 0 → HasCome asked had old p lines had old
-at_first asked had old lines p a e n k = begins asked had (left lines had) old (is_over lines) p (number_of lines) (place_of lines) (left_at_first lines had a) e n k
-
--- What is said of a run, clause by clause.
-module _ (asked : Asked) (had has old new : Option Text) (read reads written writes : ℕ) where
-  pub ran_output : (result : Result Status RunFault) → Ran asked had has old new read reads written writes result → IfOk result (λ status. WritesOutput asked had old new (Ended status))
-  ran_output (Ok status) ran = ran.output
-  ran_output (Err e) ran = tt
-
-  pub ran_lines : (result : Result Status RunFault) → Ran asked had has old new read reads written writes result → IfOk result (λ status. DidLines asked had has old new (ComesToEnd asked has status))
-  ran_lines (Ok status) ran = ran.lines
-  ran_lines (Err e) ran = tt
-
-  pub ran_unread : (result : Result Status RunFault) → Ran asked had has old new read reads written writes result → OnOk result (reads ≡ read)
-  ran_unread (Ok status) ran = ran.unread
-  ran_unread (Err e) ran = tt
-
-  pub ran_unwritten : (result : Result Status RunFault) → Ran asked had has old new read reads written writes result → OnOk result (writes ≡ written)
-  ran_unwritten (Ok status) ran = ran.unwritten
-  ran_unwritten (Err e) ran = tt
-
-  pub ran_fault : (result : Result Status RunFault) → Ran asked had has old new read reads written writes result → IfErr result (IsFault read reads written writes)
-  ran_fault (Ok status) ran = tt
-  ran_fault (Err e) ran = ran.counts
-
-  pub ran_some : (result : Result Status RunFault) → Ran asked had has old new read reads written writes result → OnErr result (WritesSome asked had has old new)
-  ran_some (Ok status) ran = tt
-  ran_some (Err e) ran = ran.some
-
-  pub ran_long : (result : Result Status RunFault) → Ran asked had has old new read reads written writes result → IsErrOf result InputTooLong → WritesOutput asked had old new TooLong
-  ran_long (Ok status) ran h = absurd cc
-  ran_long (Err e) ran h = ran.long cc
-
-  pub ran_memory : (result : Result Status RunFault) → Ran asked had has old new read reads written writes result → IsErrOf result OutOfMemory → DidLines asked had has old new (RunsOutOfMemory asked has)
-  ran_memory (Ok status) ran h = absurd cc
-  ran_memory (Err e) ran h = ran.memory cc
-
-  pub ran_complete : (result : Result Status RunFault) → Ran asked had has old new read reads written writes result → IsErrOf result ReadFault → DidLines asked had has old new NoneComplete
-  ran_complete (Ok status) ran h = absurd cc
-  ran_complete (Err e) ran h = ran.complete cc
-
-  pub ran_full : (result : Result Status RunFault) → Ran asked had has old new read reads written writes result → IsErrOf result WriteFault → DidLines asked had has old new (FailsToWrite asked has)
-  ran_full (Ok status) ran h = absurd cc
-  ran_full (Err e) ran h = ran.full cc
-
-  pub ran_begun : (result : Result Status RunFault) → Ran asked had has old new read reads written writes result → OnErr result (WritesBeginning asked had old new)
-  ran_begun (Ok status) ran = tt
-  ran_begun (Err e) ran = ran.begun
+pub at_first : (asked : Asked) (had old : Option Text) (lines : Lines) → ahead lines ≡ [] → number_of lines ≡ 1 → place_of lines ≡ 0 → HasCome asked had old Header lines had old
+at_first asked had old lines a n k = begins asked had (left lines had) old (is_over lines) Header (number_of lines) (place_of lines) (left_at_first lines had a) refl n k

@@ -1,6 +1,5 @@
 -- What a whole run prints: from the plan's first line on, each session is one of which all is promised.
 use Rattle.std.proofs.Common.{◌≡◌, ◌⊎◌, ◌∙◌, inl, inr, ℕ, ◌+◌, ◌≤◌, ◌<◌, Bool, true, false, cond, ◌&&◌, ◌||◌, List, [], ◌∷◌, ◌++◌, length, is_some, Option, Some, None, Result, Ok, Err, refl, sym, ap, subst, append_assoc, append-nil, arith, length-append}
-use Rattle.std.specs.Prelude.{IfOk}
 use Rattle.std.specs.List.{list_any}
 use Rattle.balise_rules.specs.declared.refusal.Refusal.{Refusal}
 use Rattle.balise_rules.specs.declared.refusal.Refusal.TheVariants.{BadLine, GroupTwice, OutOfMemory}
@@ -28,13 +27,11 @@ use Rattle.balise_text.specs.declared.head.Head.{Head}
 use Rattle.balise_text.specs.declared.section.Section.{Section}
 use Rattle.balise_text.specs.declared.plan_line.PlanLine.{PlanLine}
 use Rattle.balise_text.specs.declared.plan_line.PlanLine.TheVariants.{FirstLine, GroupLine, EditsLine, JournalLine as HeadLine, Empty, TelegramLine}
-use Rattle.balise_cli.specs.Ends.{WritesOutput, WritesStanding}
 use Rattle.balise_cli.specs.Laws.{Answered, GoesOn, KeepsPromises, Opens, PrintsAll, PrintsBad, PrintsHeld, PrintsStandingEdits, RefusedOr, Refuses}
 use Rattle.balise_cli.specs.Output.{Phase, Header, Between, InGroup, InJournal, Commands, Read, Good, Bad, Next, On, Over, Ended, Follows, IsOutput, IsStep, MayAnswer, after_command, after_read, answer_line, at_end, between, closed, closed_as, first_line, if_fits, in_group, in_journal, journal_begun, one_more, read_line, reply_text, reviewed, MayRunOut}
 use Rattle.balise_cli.specs.PlanRead.{WasRead, with_line}
 use Rattle.balise_cli.specs.PlanTexts.{end_text}
 use Rattle.balise_cli.specs.Statuses.{status_of}
-use Rattle.balise_text.specs.declared.run_fault.RunFault.{RunFault}
 use Rattle.balise_cli.specs.declared.status.Status.{Status}
 use Rattle.balise_cli.specs.declared.status.Status.TheVariants.{SomeRefused}
 use Rattle.balise_cli.proofs.BasePlans.{added_read, read_last}
@@ -274,25 +271,8 @@ opens_before : (asked : Asked) (scarce : Bool) (p q : Phase) (n : ℕ) (line : L
 opens_before asked scarce p q n line lines out more status i e o (inl (k, (r, (refuses, is, ends)))) =
     inl (k, (r, (subst (λ (x : Read). RefusedOr x k r (λ j. Refuses asked j (n + 1) lines k r)) (sym e) refuses, o ∙ is, ends)))
 opens_before asked scarce p q n line lines out more status i e o (inr a) =
-    let h = a.prints in
-    inr (record {
-      opened = a.opened;
-      commands = a.commands;
-      opens = opens_on p n line lines a.opened a.commands i (subst (λ (x : Read). GoesOn x (λ k. Opens k (n + 1) lines a.opened a.commands)) (sym e) a.opens);
-      prints = record {
-        done = h.done;
-        left = h.left;
-        cut = h.cut;
-        replies = h.replies;
-        stops = h.stops;
-        printed = h.printed;
-        held = h.held;
-        answered = h.answered;
-        whole = o ∙ h.whole;
-        promised = h.promised;
-      };
-      ends = a.ends;
-    })
+    let opens = opens_on p n line lines a.opened a.commands i (subst (λ (x : Read). GoesOn x (λ k. Opens k (n + 1) lines a.opened a.commands)) (sym e) a.opens) in
+    inr (subst (λ (t : Text). PrintsAll asked scarce p n (line ∷ lines) t status) (sym o) (record { opened = a.opened; commands = a.commands; opens = opens; prints = a.prints; ends = a.ends }))
 
 -- a line of the plan or the journal, and what follows
 reading_step : (asked : Asked) (scarce : Bool) (p : Phase) (n : ℕ) (line : Line) (lines : List Line) (out more : Text) (status : Status) (at : ℕ) (goes : Phase → Text → Type 0) → IsReading p
@@ -357,14 +337,3 @@ prints asked scarce (InJournal part s) n place (line ∷ lines) out status h o =
 
 pub standing_printed : PrintsStandingEdits
 standing_printed asked scarce input out status o = prints asked scarce Header 1 0 (lines_of input) out status tt o
-
--- of a run
-pub standing_written : (asked : Asked) (had old new : Option Text) (r : Result Status RunFault) → IfOk r (λ status. WritesOutput asked had old new (Ended status)) → IfOk r (WritesStanding asked had old new)
-standing_written asked had old new (Ok status) w = record {
-  input = w.input;
-  is_input = w.is_input;
-  out = w.out;
-  prints = standing_printed asked true w.input w.out status w.is_output;
-  appended = w.appended;
-}
-standing_written asked had old new (Err e) w = tt

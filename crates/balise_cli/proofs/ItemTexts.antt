@@ -13,8 +13,11 @@ use Rattle.balise_cli.specs.PlanTexts.{entry_line, journal_text, undone_line, wi
 use Rattle.balise_cli.specs.Private.{told}
 
 -- the item at a place stands next
+pub text_next : {X : Type 0} (f : X → Text) (xs : List X) (i : ℕ) (x : X) → i < length xs → x ≡ get_or xs i x → text_of (map f (drop i xs)) ≡ f x ++ text_of (map f (drop (i + 1) xs))
+text_next f xs i x h e = text_left f xs i x h ∙ ap (λ y. f y ++ text_of (map f (drop (i + 1) xs))) (sym e)
+
 pub text_at : {X : Type 0} (f : X → Text) (xs : List X) (i : ℕ) (x : X) → Some x ≡ slice_get xs i → text_of (map f (drop i xs)) ≡ f x ++ text_of (map f (drop (i + 1) xs))
-text_at f xs i x e = text_left f xs i x (slice_get_within xs i x (sym e)) ∙ ap (λ y. f y ++ text_of (map f (drop (i + 1) xs))) (get_or_from_slice_get xs i x x (sym e))
+text_at f xs i x e = text_next f xs i x (slice_get_within xs i x (sym e)) (sym (get_or_from_slice_get xs i x x (sym e)))
 
 past : {X : Type 0} (xs : List X) (i : ℕ) → ((x : X) × (i < length xs) × (slice_get xs i ≡ Some x) × (get_or xs i x ≡ x)) ⊎ ((length xs ≤ i) × (slice_get xs i ≡ None)) → None ≡ slice_get xs i → length xs ≤ i
 past xs i (inl h) e = let z : None ≡ Some h.0 = e ∙ h.2 in absurd cc

@@ -3,7 +3,6 @@ pub mod OneOutput
 pub mod BasePlans
 pub mod Answered
 pub mod ItemTexts
-pub mod TextsBehind
 pub mod Causes
 pub mod LinesTaken
 pub mod OneLine
@@ -11,6 +10,7 @@ pub mod LinesDone
 pub mod LineByLine
 pub mod LinesRead
 pub mod Endings
+pub mod ReadsOn
 pub mod SmallTags
 pub mod Stopped
 pub mod Printables

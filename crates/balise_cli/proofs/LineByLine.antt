@@ -11,7 +11,7 @@ use Rattle.balise_lines.proofs.WrittenTexts.{some_after, some_front, some_nothin
 use Rattle.balise_cli.specs.declared.asked.Asked.{Asked}
 use Rattle.balise_text.specs.Texts.{Text}
 use Rattle.balise_cli.specs.Output.{Ended, Ending, Header, IsOutput, IsStep, Next, On, Over, Phase, TooLong, at_end}
-use Rattle.balise_cli.specs.Ends.{IsOutputOf, WritesBeginning, WritesOutput, WritesSome}
+use Rattle.balise_cli.specs.Ends.{BeginsOutput, IsOutputOf, WritesBeginning, WritesOutput, WritesSome, WritesText}
 use Rattle.balise_cli.specs.Phases.{DidSome, DidStep, last_text}
 use Rattle.balise_cli.specs.Progress.{Progress}
 use Rattle.balise_cli.specs.declared.status.Status.{Status}
@@ -135,94 +135,75 @@ over_at asked had left next old now new before over p q n place line status firs
       appended = Appends-trans old now new _ _ go.appended did.1.1.1;
     }
 
--- Faults.
+-- Faults: after a beginning of what may come from here on was written.
+module _ (IsRead : Text → Type 0) (asked : Asked) (had left old now new : Option Text) (over : Bool) (p : Phase) (n place : ℕ) (go : Progress asked had left old now over p n place) where
+  -- whatever comes then
+  begun_at : (rest more : Text) (e : Ending) → (over ≡ true → rest ≡ []) → IsOutput asked true p n place (lines_of rest) more e → IsRead (go.read ++ rest) → AppendsSome now new more → WritesText IsRead (BeginsOutput asked) old new
+  begun_at rest more e none o read wrote =
+      let all = some_after old now new go.written more go.appended wrote in record {
+        input = go.read ++ rest;
+        is_input = read;
+        out = all.done;
+        is_output = record { output = go.written ++ more; ending = e; is_output = leads asked had left old now over p n place go rest more e none o; begins = all.begins };
+        appended = all.appended;
+      }
 
--- a fault comes, after a beginning of what may come from here on was written
-fault_at : (asked : Asked) (had left has old now new : Option Text) (over : Bool) (p : Phase) (n place : ℕ) (rest more : Text) (e : Ending) → (over ≡ true → rest ≡ [])
-    → IsOutput asked true p n place (lines_of rest) more e → Consumes left has rest → AppendsSome now new more → Progress asked had left old now over p n place → WritesSome asked had has old new
-fault_at asked had left has old now new over p n place rest more e none o took wrote go = record {
-  read = go.read ++ rest;
-  consumed = Consumes-trans had left has _ _ go.consumed took;
-  out = go.written ++ more;
-  e = e;
-  is_output = leads asked had left old now over p n place go rest more e none o;
-  written = some_after old now new go.written more go.appended wrote;
-}
+  -- where nothing comes, at the end
+  begun_last : (rest : Text) → rest ≡ [] → IsRead (go.read ++ rest) → AppendsSome now new (last_text (at_end asked p n)) → WritesText IsRead (BeginsOutput asked) old new
+  begun_last rest none read wrote =
+      let o = ends_over asked p n in
+      let here : IsOutput asked true p n place [] o.0 (Ended o.1.0) = rw o.1.1 (refl, refl) in
+      begun_at rest o.0 (Ended o.1.0) (λ _. none) (subst (λ (r : Text). IsOutput asked true p n place (lines_of r) o.0 (Ended o.1.0)) (sym none) here) read (subst (λ x. AppendsSome now new (last_text x)) o.1.1 wrote)
 
--- the same of all that the reader had, whatever comes after what was read
-all_at : (asked : Asked) (had left old now new : Option Text) (over : Bool) (p : Phase) (n place : ℕ) (rest more : Text) (e : Ending) → (over ≡ true → rest ≡ [])
-    → IsOutput asked true p n place (lines_of rest) more e → IsInput left rest → AppendsSome now new more → Progress asked had left old now over p n place → WritesBeginning asked had old new
-all_at asked had left old now new over p n place rest more e none o is wrote go = record {
-  input = go.read ++ rest;
-  is_input = input_read had left go.read rest go.consumed is;
-  out = go.written ++ more;
-  e = e;
-  is_output = leads asked had left old now over p n place go rest more e none o;
-  written = some_after old now new go.written more go.appended wrote;
-}
+  -- in a line
+  begun_line : (line : Line) (rest out : Text) → over ≡ false → Fits place line → lines_of (whole line ++ rest) ≡ line ∷ lines_of rest → IsRead (go.read ++ (whole line ++ rest)) → (next : Next) → IsStep asked true p n line.bytes out next
+      → AppendsSome now new (out ++ last_text next) → WritesText IsRead (BeginsOutput asked) old new
+  begun_line line rest out first fits parts read (On q) is w =
+      let o = some_output asked true q (n + 1) (place + length (whole line)) (lines_of rest) in
+      let here : IsOutput asked true p n place (lines_of (whole line ++ rest)) (out ++ o.0) o.1.0 = rw parts (inr (fits, (out, (On q, (o.0, (is, refl, o.1.1)))))) in
+      begun_at (whole line ++ rest) _ _ (λ b. absurd cc) here read (some_front now new out o.0 (subst (λ (t : Text). AppendsSome now new t) (append-nil out) w))
+  begun_line line rest out first fits parts read (Over text status) is w =
+      let here : IsOutput asked true p n place (lines_of (whole line ++ rest)) (out ++ text) (Ended status) = rw parts (inr (fits, (out, (Over text status, (text, (is, refl, (refl, refl))))))) in
+      begun_at (whole line ++ rest) _ _ (λ b. absurd cc) here read w
+
+-- Of all that the reader had.
 
 pub begun_before : (asked : Asked) (had left old now : Option Text) (over : Bool) (p : Phase) (n place : ℕ) → (over ≡ true → IsAtEnd left) → Progress asked had left old now over p n place → WritesBeginning asked had old now
 begun_before asked had left old now over p n place end go =
     let (rest, (is, none)) = some_input left over end in
     let o = some_output asked true p n place (lines_of rest) in
-    all_at asked had left old now now over p n place rest o.0 o.1.0 none o.1.1 is (some_nothing now o.0) go
+    begun_at (IsInput had) asked had left old now now over p n place go rest o.0 o.1.0 none o.1.1 (input_read had left go.read rest go.consumed is) (some_nothing now o.0)
 
 pub begun_ending : (asked : Asked) (had left old now new : Option Text) (over : Bool) (p : Phase) (n place : ℕ) → IsAtEnd left → AppendsSome now new (last_text (at_end asked p n))
     → Progress asked had left old now over p n place → WritesBeginning asked had old new
-begun_ending asked had left old now new over p n place end wrote go =
-    let o = ends_over asked p n in
-    let here : IsOutput asked true p n place [] o.0 (Ended o.1.0) = rw o.1.1 (refl, refl) in
-    all_at asked had left old now new over p n place [] o.0 (Ended o.1.0) (λ _. refl) here (input_at_end left end) (subst (λ x. AppendsSome now new (last_text x)) o.1.1 wrote) go
+begun_ending asked had left old now new over p n place end wrote go = begun_last (IsInput had) asked had left old now new over p n place go [] refl (input_read had left go.read [] go.consumed (input_at_end left end)) wrote
 
 pub begun_in : (asked : Asked) (had left next old now new : Option Text) (before over : Bool) (p : Phase) (n place : ℕ) (line : Line) → before ≡ false → TookIt left next over place line
     → (over ≡ true → IsAtEnd next) → DidSome asked p n line.bytes now new → Progress asked had left old now before p n place → WritesBeginning asked had old new
 begun_in asked had left next old now new before over p n place line first took end did go =
     let (rest, (is, none)) = some_input next over end in
-    by rest (input_read left next (whole line) rest took.consumed is) (lines_left left next over place line rest took none) did.1.0 did.1.1.0 did.1.1.1
-  where
-    by : (rest : Text) → IsInput left (whole line ++ rest) → lines_of (whole line ++ rest) ≡ line ∷ lines_of rest → (then : Next) → IsStep asked true p n line.bytes did.0 then → AppendsSome now new (did.0 ++ last_text then)
-        → WritesBeginning asked had old new
-    by rest all parts (On q) is w =
-        let o = some_output asked true q (n + 1) (place + length (whole line)) (lines_of rest) in
-        let here : IsOutput asked true p n place (lines_of (whole line ++ rest)) (did.0 ++ o.0) o.1.0 = rw parts (inr (took.fits, (did.0, (On q, (o.0, (is, refl, o.1.1)))))) in
-        all_at asked had left old now new before p n place (whole line ++ rest) _ _ (λ b. absurd cc) here all (some_front now new did.0 o.0 (subst (λ (t : Text). AppendsSome now new t) (append-nil did.0) w)) go
-    by rest all parts (Over text status) is w =
-        let here : IsOutput asked true p n place (lines_of (whole line ++ rest)) (did.0 ++ text) (Ended status) = rw parts (inr (took.fits, (did.0, (Over text status, (text, (is, refl, (refl, refl))))))) in
-        all_at asked had left old now new before p n place (whole line ++ rest) _ _ (λ b. absurd cc) here all w go
+    begun_line (IsInput had) asked had left old now new before p n place go line rest did.0 first took.fits (lines_left left next over place line rest took none)
+    (input_read had left go.read (whole line ++ rest) go.consumed (input_read left next (whole line) rest took.consumed is)) did.1.0 did.1.1.0 did.1.1.1
 
--- before a line
+-- Of what was read.
+
 pub fault_before : (asked : Asked) (had left has old now : Option Text) (ahead : Text) (over : Bool) (p : Phase) (n place : ℕ) → Keeps left (prepend_known ahead has) → (over ≡ true → IsAtEnd left)
     → Progress asked had left old now over p n place → WritesSome asked had has old now
 fault_before asked had left has old now ahead over p n place k end go =
     let (rest, (took, none)) = ahead_read left has ahead over k end in
     let o = some_output asked true p n place (lines_of rest) in
-    fault_at asked had left has old now now over p n place rest o.0 o.1.0 none o.1.1 took (some_nothing now o.0) go
+    begun_at (Consumes had has) asked had left old now now over p n place go rest o.0 o.1.0 none o.1.1 (Consumes-trans had left has _ _ go.consumed took) (some_nothing now o.0)
 
--- at the end
 pub fault_ending : (asked : Asked) (had left has old now new : Option Text) (ahead : Text) (over : Bool) (p : Phase) (n place : ℕ) → Keeps left (prepend_known ahead has) → IsAtEnd left
     → AppendsSome now new (last_text (at_end asked p n)) → Progress asked had left old now over p n place → WritesSome asked had has old new
 fault_ending asked had left has old now new ahead over p n place k end wrote go =
     let (rest, (took, none)) = ahead_read left has ahead true k (λ _. end) in
-    let o = ends_over asked p n in
-    let is : rest ≡ [] = none refl in
-    let here : IsOutput asked true p n place [] o.0 (Ended o.1.0) = rw o.1.1 (refl, refl) in
-    fault_at asked had left has old now new over p n place rest o.0 (Ended o.1.0) (λ _. is) (subst (λ (r : Text). IsOutput asked true p n place (lines_of r) o.0 (Ended o.1.0)) (sym is) here) took
-    (subst (λ x. AppendsSome now new (last_text x)) o.1.1 wrote) go
+    begun_last (Consumes had has) asked had left old now new over p n place go rest (none refl) (Consumes-trans had left has _ _ go.consumed took) wrote
 
--- in a line
 pub fault_in : (asked : Asked) (had left has old now new : Option Text) (ahead : Text) (before over : Bool) (p : Phase) (n place : ℕ) (line : Line) → before ≡ false → TookIt left (prepend_known ahead has) over place line
     → (over ≡ true → IsAtEnd (prepend_known ahead has)) → DidSome asked p n line.bytes now new → Progress asked had left old now before p n place → WritesSome asked had has old new
 fault_in asked had left has old now new ahead before over p n place line first took end did go =
     let (rest, (ate, none)) = ahead_read (prepend_known ahead has) has ahead over (Keeps-refl (prepend_known ahead has)) end in
     let all : Consumes left has (whole line ++ rest) = Consumes-trans left (prepend_known ahead has) has _ _ took.consumed ate in
-    by rest all (lines_left left (prepend_known ahead has) over place line rest took none) did.1.0 did.1.1.0 did.1.1.1
-  where
-    by : (rest : Text) → Consumes left has (whole line ++ rest) → lines_of (whole line ++ rest) ≡ line ∷ lines_of rest → (next : Next) → IsStep asked true p n line.bytes did.0 next → AppendsSome now new (did.0 ++ last_text next)
-        → WritesSome asked had has old new
-    by rest all parts (On q) is w =
-        let o = some_output asked true q (n + 1) (place + length (whole line)) (lines_of rest) in
-        let here : IsOutput asked true p n place (lines_of (whole line ++ rest)) (did.0 ++ o.0) o.1.0 = rw parts (inr (took.fits, (did.0, (On q, (o.0, (is, refl, o.1.1)))))) in
-        fault_at asked had left has old now new before p n place (whole line ++ rest) _ _ (λ b. absurd cc) here all (some_front now new did.0 o.0 (subst (λ (t : Text). AppendsSome now new t) (append-nil did.0) w)) go
-    by rest all parts (Over text status) is w =
-        let here : IsOutput asked true p n place (lines_of (whole line ++ rest)) (did.0 ++ text) (Ended status) = rw parts (inr (took.fits, (did.0, (Over text status, (text, (is, refl, (refl, refl))))))) in
-        fault_at asked had left has old now new before p n place (whole line ++ rest) _ _ (λ b. absurd cc) here all w go
+    begun_line (Consumes had has) asked had left old now new before p n place go line rest did.0 first took.fits (lines_left left (prepend_known ahead has) over place line rest took none)
+    (Consumes-trans had left has _ _ go.consumed all) did.1.0 did.1.1.0 did.1.1.1

@@ -24,16 +24,10 @@ at_input_end : (asked : Asked) (had left has old now new : Option Text) (ahead :
 at_input_end asked had left has old now new ahead over p n place P last k end ends wrote go =
     let (rest, (took, none)) = ahead_read left has ahead true k (λ _. end) in
     let gone : Consumes left has [] = subst (λ (r : Text). Consumes left has r) (none refl) took in record {
-      read = go.read ++ [];
-      consumed = Consumes-trans had left has _ _ go.consumed gone;
-      done = go.lines;
-      behind = [];
-      cut = go.cut [] (λ _. refl);
-      out = go.written;
-      phase = p;
-      steps = go.steps;
-      last = last;
-      ends = subst (λ (m : ℕ). P p m [] last) go.numbered ends;
+      input = go.read ++ [];
+      is_input = Consumes-trans had left has _ _ go.consumed gone;
+      out = go.written ++ last;
+      is_output = record { done = go.lines; behind = []; cut = go.cut [] (λ _. refl); printed = go.written; phase = p; steps = go.steps; last = last; ends = subst (λ (m : ℕ). P p m [] last) go.numbered ends; parts = refl };
       appended = Appends-trans old now new _ _ go.appended wrote;
     }
 
@@ -45,16 +39,10 @@ at_line asked had left has old now new ahead before over p n place line P last f
     let (rest, (ate, none, short)) = ahead_such (λ xs. length xs ≤ 4097) (prepend_known ahead has) has ahead over (Keeps-refl (prepend_known ahead has)) end (omega arith) few in
     let all : Consumes left has (whole line ++ rest) = Consumes-trans left (prepend_known ahead has) has _ _ took.consumed ate in
     let little : length (joined (lines_of rest)) ≤ 4097 = subst (λ (r : Text). length r ≤ 4097) (sym (lines_make_input rest).0) short in record {
-      read = go.read ++ (whole line ++ rest);
-      consumed = Consumes-trans had left has _ _ go.consumed all;
-      done = go.lines;
-      behind = line ∷ lines_of rest;
-      cut = line_cut asked had left (prepend_known ahead has) old now before over p n place line first took go rest none;
-      out = go.written;
-      phase = p;
-      steps = go.steps;
-      last = last;
-      ends = subst (λ (m : ℕ). P p m (line ∷ lines_of rest) last) go.numbered (ends (lines_of rest) little);
+      input = go.read ++ (whole line ++ rest);
+      is_input = Consumes-trans had left has _ _ go.consumed all;
+      out = go.written ++ last;
+      is_output = record { done = go.lines; behind = line ∷ lines_of rest; cut = line_cut asked had left (prepend_known ahead has) old now before over p n place line first took go rest none; printed = go.written; phase = p; steps = go.steps; last = last; ends = subst (λ (m : ℕ). P p m (line ∷ lines_of rest) last) go.numbered (ends (lines_of rest) little); parts = refl };
       appended = Appends-trans old now new _ _ go.appended wrote;
     }
 
@@ -76,17 +64,11 @@ pub reader_failed : (asked : Asked) (had left has old now : Option Text) (ahead 
     → Progress asked had left old now over p n place → DidLines asked had has old now NoneComplete
 reader_failed asked had left has old now ahead over p n place k end short go =
     let (rest, (took, none, still)) = ahead_such HasNoEnd left has ahead over k end (All-nil (λ b. b ≡ 10 → ⊥)) short in record {
-      read = go.read ++ rest;
-      consumed = Consumes-trans had left has _ _ go.consumed took;
-      done = go.lines;
-      behind = lines_of rest;
-      cut = go.cut rest none;
+      input = go.read ++ rest;
+      is_input = Consumes-trans had left has _ _ go.consumed took;
       out = go.written;
-      phase = p;
-      steps = go.steps;
-      last = [];
-      ends = (lines_of-open rest still, refl);
-      appended = subst (λ (t : Text). Appends old now t) (sym (append-nil go.written)) go.appended;
+      is_output = record { done = go.lines; behind = lines_of rest; cut = go.cut rest none; printed = go.written; phase = p; steps = go.steps; last = []; ends = (lines_of-open rest still, refl); parts = sym (append-nil go.written) };
+      appended = go.appended;
     }
 
 -- memory ran out at the input's end

@@ -103,18 +103,9 @@ scarce_all asked s t (line ∷ lines) [] out a = absurd a
 scarce_all asked s t (line ∷ lines) (r ∷ rs) out (u, (more, (may, is, a))) = (u, (more, (scarce line.bytes s u r may, is, scarce_all asked u t lines rs more a)))
 
 served_held : (asked : Asked) (s : State) (commands : List Line) (out : Text) → SaysNoShortage out → PrintsHeld asked true s commands out → PrintsHeld asked false s commands out
-served_held asked s commands out none h = record {
-  done = h.done;
-  left = h.left;
-  cut = h.cut;
-  replies = h.replies;
-  stops = h.stops;
-  printed = h.printed;
-  held = h.held;
-  answered = served_all asked s h.held h.done h.replies h.printed (front h.printed (end_text asked h.held) (subst SaysNoShortage h.whole none)) h.answered;
-  whole = h.whole;
-  promised = λ lines rs text t a. h.promised lines rs text t (scarce_all asked s t lines rs text a);
-}
+served_held asked s commands out none h =
+    let answered = served_all asked s h.held h.done h.replies h.printed (front h.printed (end_text asked h.held) (subst SaysNoShortage h.whole none)) h.answered in
+    record { done = h.done; left = h.left; cut = h.cut; replies = h.replies; stops = h.stops; printed = h.printed; held = h.held; answered = answered; whole = h.whole; promised = λ ls rs text t a. h.promised ls rs text t (scarce_all asked s t ls rs text a) }
 
 pub promised_without : PromisedWithout
 unfolding served_held

@@ -4,7 +4,7 @@ use Rattle.std.specs.Io.KnownBytes.{Appends, Consumes, IsAtEnd}
 use Rattle.balise_lines.specs.Laws.{joined}
 use Rattle.balise_lines.specs.Lines.{Fits, Line, lines_of, whole}
 use Rattle.balise_lines.specs.Reading.{IsInput}
-use Rattle.balise_lines.specs.Writing.{AppendsSome, IsPartOf}
+use Rattle.balise_lines.specs.Writing.{IsPartOf, IsPrefixOf}
 use Rattle.balise_cli.specs.declared.asked.Asked.{Asked}
 use Rattle.balise_text.specs.Texts.{Text}
 use Rattle.balise_cli.specs.Laws.{PrintsStanding}
@@ -16,39 +16,36 @@ use Rattle.balise_cli.specs.declared.status.Status.{Status}
 abbrev pub IsOutputOf : Asked → Text → Text → Ending → Type 0
 IsOutputOf asked input out e = IsOutput asked true Header 1 0 (lines_of input) out e
 
--- the output of what the reader had was written, and the run ended so
-pub record WritesOutput (asked : Asked) (had old new : Option Text) (e : Ending) : Type 0 where
+-- this text begins an output of the input
+pub record BeginsOutput (asked : Asked) (input text : Text) : Type 0 where
+  pub output : Text
+  pub ending : Ending
+  pub is_output : IsOutputOf asked input output ending
+  pub begins : IsPrefixOf text output
+
+-- A text was written. IsRead says what was read, and P what was written of it.
+pub record WritesText (IsRead : Text → Type 0) (P : Text → Text → Type 0) (old new : Option Text) : Type 0 where
   pub input : Text
-  pub is_input : IsInput had input
+  pub is_input : IsRead input
   pub out : Text
-  pub is_output : IsOutputOf asked input out e
+  pub is_output : P input out
   pub appended : Appends old new out
+
+-- the output of what the reader had was written, and the run ended so
+abbrev pub WritesOutput : Asked → (had old new : Option Text) → Ending → Type 0
+WritesOutput asked had old new e = WritesText (IsInput had) (λ input out. IsOutputOf asked input out e) old new
 
 -- what is printed for what the reader had was written: one line for a plan or a journal that is refused; or replies, and then what the standing edits alone make of the plan first read, or facts of the session
-pub record WritesStanding (asked : Asked) (had old new : Option Text) (status : Status) : Type 0 where
-  pub input : Text
-  pub is_input : IsInput had input
-  pub out : Text
-  pub prints : PrintsStanding asked true input out status
-  pub appended : Appends old new out
+abbrev pub WritesStanding : Asked → (had old new : Option Text) → Status → Type 0
+WritesStanding asked had old new status = WritesText (IsInput had) (λ input out. PrintsStanding asked true input out status) old new
 
 -- a beginning of the output of what was read was written
-pub record WritesSome (asked : Asked) (had has old new : Option Text) : Type 0 where
-  pub read : Text
-  pub consumed : Consumes had has read
-  pub out : Text
-  pub e : Ending
-  pub is_output : IsOutputOf asked read out e
-  pub written : AppendsSome old new out
+abbrev pub WritesSome : Asked → (had has old new : Option Text) → Type 0
+WritesSome asked had has old new = WritesText (Consumes had has) (BeginsOutput asked) old new
 
 -- a beginning of an output of all that the reader had was written
-pub record WritesBeginning (asked : Asked) (had old new : Option Text) : Type 0 where
-  pub input : Text
-  pub is_input : IsInput had input
-  pub out : Text
-  pub e : Ending
-  pub is_output : IsOutputOf asked input out e
-  pub written : AppendsSome old new out
+abbrev pub WritesBeginning : Asked → (had old new : Option Text) → Type 0
+WritesBeginning asked had old new = WritesText (IsInput had) (BeginsOutput asked) old new
 
 -- From this phase, where line n comes next and begins at this place of the input, these lines are done one after another: they print this, and the run goes on in the phase q.
 abbrev pub Steps : Asked → Phase → ℕ → ℕ → List Line → Text → Phase → Type 0
@@ -56,19 +53,21 @@ Steps asked p n place [] out q = (out ≡ []) × (q ≡ p)
 Steps asked p n place (line ∷ lines) out q =
     Fits place line × ((now : Text) × ((next : Phase) × ((more : Text) × (IsStep asked true p n line.bytes now (On next) × (out ≡ now ++ more) × Steps asked next (n + 1) (place + length (whole line)) lines more q))))
 
--- Of what was read the first lines were done, and what they print was written, and then a last text. P says how the run ended there: by its phase, the number of the next line, the lines after them, and that text.
-pub record DidLines (asked : Asked) (had has old new : Option Text) (P : Phase → ℕ → List Line → Text → Type 0) : Type 0 where
-  pub read : Text
-  pub consumed : Consumes had has read
+-- The first lines of what was read were done, and the text is what they print, and then a last text. P says how the run ended there: by its phase, the number of the next line, the lines after them, and that last text.
+pub record DoesLines (asked : Asked) (P : Phase → ℕ → List Line → Text → Type 0) (read out : Text) : Type 0 where
   pub done : List Line
   pub behind : List Line
   pub cut : lines_of read ≡ done ++ behind
-  pub out : Text
+  pub printed : Text
   pub phase : Phase
-  pub steps : Steps asked Header 1 0 done out phase
+  pub steps : Steps asked Header 1 0 done printed phase
   pub last : Text
   pub ends : P phase (length done + 1) behind last
-  pub appended : Appends old new (out ++ last)
+  pub parts : out ≡ printed ++ last
+
+-- so was written of what was read
+abbrev pub DidLines : Asked → (had has old new : Option Text) → (Phase → ℕ → List Line → Text → Type 0) → Type 0
+DidLines asked had has old new P = WritesText (Consumes had has) (DoesLines asked P) old new
 
 -- the input ended, or the next line ended the run, and of what comes after it at most 4,097 bytes were read
 abbrev pub ComesToEnd : Asked → Option Text → Status → Phase → ℕ → List Line → Text → Type 0

@@ -27,7 +27,7 @@ pub enum Closing {
 }
 
 /// What the flags ask for.
-pub(crate) fn asked_by(flags: Flags) -> Asked
+pub fn asked_by(flags: Flags) -> Asked
     ensures { result ≡ asked_by flags }
 {
     Asked {
@@ -41,7 +41,7 @@ pub(crate) fn asked_by(flags: Flags) -> Asked
 }
 
 /// What is asked where facts are: no reply to a command that was accepted, and no stop at one that was refused.
-pub(crate) fn facts_asked(facts: Facts) -> Asked
+pub fn facts_asked(facts: Facts) -> Asked
     ensures { result ≡ facts_asked facts }
 {
     Asked {

@@ -24,7 +24,7 @@ mod status;
 // The program over its words and its three streams.
 mod program;
 
-pub use asked::{Asked, Closing};
+pub use asked::{Asked, Closing, asked_by, facts_asked};
 pub use balise_arguments::{ArgsFault, Flags, flags};
 pub use balise_facts::Facts;
 pub use balise_history::Refusal;
@@ -33,5 +33,5 @@ pub use balise_program::{Exit, exit_after_arguments, report, stop_without_memory
 pub use balise_text::RunFault;
 pub use exit::exit_of;
 pub use program::{Baliseplan, launch, start, work, work_facts};
-pub use running::{run, run_facts};
+pub use running::{AtEnd, run, run_facts, run_lines};
 pub use status::Status;

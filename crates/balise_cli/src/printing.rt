@@ -4,12 +4,12 @@ mod journal;
 mod plan;
 mod view;
 
-ghost use Rattle.balise_cli.specs.PlanTexts.{closing_text, end_text, if_asked, journal_text, view_text};
+ghost use Rattle.balise_cli.specs.PlanTexts.{closing_text, end_text, if_asked, journal_text};
 ghost use Rattle.balise_text.specs.Printing.{Prints};
 
 use crate::asked::{Asked, Closing};
 use balise_facts::put_facts;
-use balise_history::{Plan, Session};
+use balise_history::Session;
 use balise_lines::Counted;
 use balise_text::RunFault;
 use journal::put_journal;
@@ -32,21 +32,6 @@ fn put_journal_if<W: Write>(
     Ok(())
 }
 
-// Writes the view, if it was asked for.
-fn put_view_if<W: Write>(
-    alloc: Global,
-    writer: &mut Counted<W>,
-    asked: bool,
-    plan: &Plan,
-) -> Result<(), RunFault>
-    ensures { Prints W.contents writer.old writer.new result (if_asked asked (view_text plan.now.groups)) }
-{
-    if asked {
-        return put_view(alloc, writer, plan);
-    }
-    Ok(())
-}
-
 // Writes the plan, and the journal and the view where they are asked for.
 fn put_all<W: Write>(
     alloc: Global,
@@ -63,7 +48,10 @@ fn put_all<W: Write>(
     if let Err(fault) = put_journal_if(writer, journal, session) {
         return Err(fault);
     }
-    put_view_if(alloc, writer, view, session.plan())
+    if view {
+        return put_view(alloc, writer, session.plan());
+    }
+    Ok(())
 }
 
 /// Writes what the end of the commands prints.

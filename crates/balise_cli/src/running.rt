@@ -1,27 +1,26 @@
 //! The run over all of an input: the plan, perhaps its journal, and the commands.
 
-ghost use Rattle.std.specs.Prelude.{◌≡◌, IfErr, IfOk, IsErrOf, OnErr, OnOk, false};
+ghost use Rattle.std.specs.Prelude.{◌≡◌, IfErr, IfOk, IsErrOf, OnErr, OnOk};
 ghost use Rattle.balise_cli.specs.Asking.{asked_by, facts_asked};
 ghost use Rattle.balise_cli.specs.Ends.{ComesToEnd, DidLines, FailsToWrite, NoneComplete, RunsOutOfMemory, WritesBeginning, WritesOutput, WritesSome, WritesStanding};
 ghost use Rattle.balise_text.specs.Printing.{Prints};
 ghost use Rattle.balise_text.specs.RunFaults.{IsFault};
-ghost use Rattle.balise_cli.specs.Output.{Commands as AtCommands, Ended, Phase, TooLong};
-ghost use Rattle.balise_cli.specs.Phases.{journal_phase, plan_phase};
-ghost use Rattle.balise_cli.specs.Progress.{RunsOn};
+ghost use Rattle.balise_cli.specs.Output.{Ended, Header, Phase, TooLong};
+ghost use Rattle.balise_cli.specs.Phases.{journal_end};
+ghost use Rattle.balise_cli.specs.Progress.{ReadsAs, RunsOn};
 ghost use Rattle.balise_cli.specs.Runs.{RunCounts, Runs};
 ghost use Rattle.balise_lines.specs.Reading.{OverAtEnd};
-ghost use Rattle.balise_rules.specs.Session.{State};
 ghost use Rattle.balise_text.specs.Replies.{bad_line};
 
 use crate::asked::{Asked, asked_by, facts_asked};
 use crate::commands::Commands;
-use crate::journal_reader::{JournalEnd, JournalReader};
+use crate::journal_reader::JournalEnd;
 use crate::phases::{answer_commands, read_journal, read_plan};
 use crate::plan_reader::{PlanEnd, PlanReader};
 use crate::status::Status;
 use balise_arguments::Flags;
 use balise_facts::Facts;
-use balise_history::{Refusal, Session};
+use balise_history::Refusal;
 use balise_lines::{Counted, Lines};
 use balise_text::{RunFault, put_bad};
 use std::alloc::Global;
@@ -30,11 +29,21 @@ use std::mem;
 
 /// What becomes of the session's memory when a run ends.
 #[derive(Clone, Copy)]
-pub(crate) enum AtEnd {
+pub enum AtEnd {
     /// It is given back.
     GiveBack,
     /// It is left to the system, which takes it back at once when the program ends.
     Leave,
+}
+
+impl AtEnd {
+    // Does so.
+    fn let_go(self, commands: Commands) {
+        match self {
+            AtEnd::GiveBack => mem::drop(commands),
+            AtEnd::Leave => mem::forget(commands),
+        }
+    }
 }
 
 /// Reads a plan, perhaps its journal, and commands; answers each command before the next line is looked at; and writes
@@ -79,7 +88,7 @@ pub fn run_facts<R: Read, W: Write>(
 }
 
 /// The same, by what is asked for, and by what becomes of the session's memory at the end.
-pub(crate) fn run_lines<R: Read, W: Write>(
+pub fn run_lines<R: Read, W: Write>(
     alloc: Global,
     asked: Asked,
     at_end: AtEnd,
@@ -90,8 +99,7 @@ pub(crate) fn run_lines<R: Read, W: Write>(
     ensures counts { RunCounts reader.old.failed reader.new.failed writer.old.failed writer.new.failed result }
 {
     let mut lines = Lines::new();
-    let mut plan = PlanReader::new(alloc);
-    run_plan(alloc, asked, at_end, &mut lines, &mut plan, reader, writer)
+    run_session(alloc, asked, at_end, &mut lines, reader, writer)
 }
 
 // Writes the line for a plan or a journal that is refused.
@@ -110,80 +118,48 @@ fn refuse<W: Write>(
     }
 }
 
-// Runs from a line of the plan on. What owns much is lent, so that no way out has to drop it.
-fn run_plan<R: Read, W: Write>(
+// Reads what comes before the commands, the plan and perhaps its journal.
+fn read_session<R: Read>(
     alloc: Global,
-    asked: Asked,
-    at_end: AtEnd,
     lines: &mut Lines,
-    plan: &mut PlanReader,
     reader: &mut Counted<R>,
-    writer: &mut Counted<W>,
-) -> Result<Status, RunFault>
+) -> Result<JournalEnd, RunFault>
     requires over { OverAtEnd lines.old (R.remaining reader.old.inner) }
-    ensures { RunsOn asked (plan_phase plan.old) lines.old R.remaining W.contents reader.old reader.new writer.old writer.new result }
+    ensures over { OverAtEnd lines.new (R.remaining reader.new.inner) }
+    ensures reads { ReadsAs Header lines.old lines.new R.remaining reader.old reader.new result journal_end }
 {
-    match read_plan(alloc, lines, plan, reader) {
+    let mut plan = PlanReader::new(alloc);
+    match read_plan(alloc, lines, &mut plan, reader) {
         Err(fault) => Err(fault),
-        Ok(PlanEnd::Bad(number, refusal)) => refuse(writer, number, refusal),
-        Ok(PlanEnd::Edits) => {
-            run_commands(
-                alloc,
-                asked,
-                at_end,
-                lines,
-                plan.session(alloc),
-                reader,
-                writer,
-            )
-        }
+        Ok(PlanEnd::Bad(number, refusal)) => Ok(JournalEnd::Bad(number, refusal)),
+        Ok(PlanEnd::Edits) => Ok(JournalEnd::Edits(plan.session(alloc))),
         Ok(PlanEnd::Journal(number, head)) => match plan.journal(alloc, head) {
-            Err(refusal) => refuse(writer, number, refusal),
-            Ok(journal) => run_journal(alloc, asked, at_end, lines, journal, reader, writer),
+            Err(refusal) => Ok(JournalEnd::Bad(number, refusal)),
+            Ok(journal) => read_journal(alloc, lines, journal, reader),
         },
     }
 }
 
-// Runs from a line of the journal on.
-fn run_journal<R: Read, W: Write>(
+// Runs from the first line on.
+fn run_session<R: Read, W: Write>(
     alloc: Global,
     asked: Asked,
     at_end: AtEnd,
     lines: &mut Lines,
-    journal: JournalReader,
     reader: &mut Counted<R>,
     writer: &mut Counted<W>,
 ) -> Result<Status, RunFault>
     requires over { OverAtEnd lines.old (R.remaining reader.old.inner) }
-    ensures { RunsOn asked (journal_phase journal) lines.old R.remaining W.contents reader.old reader.new writer.old writer.new result }
+    ensures { RunsOn asked Header lines.old R.remaining W.contents reader.old reader.new writer.old writer.new result }
 {
-    match read_journal(alloc, lines, journal, reader) {
+    match read_session(alloc, lines, reader) {
         Err(fault) => Err(fault),
         Ok(JournalEnd::Bad(number, refusal)) => refuse(writer, number, refusal),
         Ok(JournalEnd::Edits(session)) => {
-            run_commands(alloc, asked, at_end, lines, session, reader, writer)
+            let mut commands = Commands::new(session);
+            let ended = answer_commands(alloc, asked, lines, &mut commands, reader, writer);
+            at_end.let_go(commands);
+            ended
         }
     }
-}
-
-// Runs from a command on.
-fn run_commands<R: Read, W: Write>(
-    alloc: Global,
-    asked: Asked,
-    at_end: AtEnd,
-    lines: &mut Lines,
-    session: Session,
-    reader: &mut Counted<R>,
-    writer: &mut Counted<W>,
-) -> Result<Status, RunFault>
-    requires over { OverAtEnd lines.old (R.remaining reader.old.inner) }
-    ensures { RunsOn asked (AtCommands session.state false) lines.old R.remaining W.contents reader.old reader.new writer.old writer.new result }
-{
-    let mut commands = Commands::new(session);
-    let ended = answer_commands(alloc, asked, lines, &mut commands, reader, writer);
-    match at_end {
-        AtEnd::GiveBack => mem::drop(commands),
-        AtEnd::Leave => mem::forget(commands),
-    }
-    ended
 }

@@ -81,7 +81,7 @@ fits_on v next i vs e h = by (misfit_of v vs) refl (sym (let k : misfit_along (v
     by None p q = (p, q)
     by (Some m) p q = absurd cc
 
-made : (form : Form) (i : ℕ) (seen : Fields) (vs : Values) (raw : List Bool) → Lengthless form → MayFollow form raw → misfit_along form i vs ≡ None → Made form seen vs raw
+made : (form : Form) (i : ℕ) (seen : Fields) (vs : Values) (raw : List Bool) → Lengthless (Unit {0}) form → MayFollow form raw → misfit_along form i vs ≡ None → Made form seen vs raw
 made done i seen [] raw l f h = record { fields = []; matches = tt; numbered = tt; are = refl }
 made done i seen (x ∷ xs) raw l f h = absurd (more_than_done i x xs h)
 made shut i seen [] raw l f h = record { fields = []; matches = f; numbered = tt; are = refl }

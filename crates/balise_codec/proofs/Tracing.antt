@@ -1,7 +1,7 @@
 -- A walk over bits that fails stands where the form can't go on; one that comes to its end has read the bits. By induction on the form.
 use Rattle.std.proofs.Common.{◌≡◌, ◌∙◌, ℕ, ◌+◌, ◌-◌, ◌^◌, ◌<◌, ◌≤◌, Bool, true, false, cond, ltb, List, [], ◌∷◌, ◌++◌, length, take, drop, Option, Some, None, Ok, Err, refl, sym, ap, subst, append_assoc, length-append, arith}
-use Rattle.std.proofs.lemmas.Bool.{ltb-true, ltb-false, lt-ltb, le-ltb}
-use Rattle.std.proofs.lemmas.List.{take-append-drop, length-take, length-drop, append-nil, drop-take, take-take, drop-drop}
+use Rattle.std.proofs.lemmas.Bool.{ltb-true, ltb-false, lt-ltb}
+use Rattle.std.proofs.lemmas.List.{take-append-drop, length-take, append-nil}
 use Rattle.balise_rules.specs.declared.variable.Var.{Var}
 use Rattle.balise_rules.specs.declared.variable.Var.TheVariants.{NidPacket, QDir, LPacket}
 use Rattle.balise_rules.specs.Variables.{width_of}
@@ -9,14 +9,15 @@ use Rattle.balise_rules.specs.Bits.{num, bits}
 use Rattle.balise_rules.specs.Tags.{Key}
 use Rattle.balise_rules.specs.Forms.{Form, done, shut, never, valued, plain, Fields, spelling, count_of, read_form}
 use Rattle.balise_rules.specs.Packets.{packet, body}
+use Rattle.balise_rules.proofs.Cases.{unless, unok}
 use Rattle.balise_rules.proofs.Numbers.{bits-num, num_below}
 use Rattle.balise_layout.specs.declared.fault.LayoutFault.{LayoutFault}
 use Rattle.balise_layout.specs.declared.fault.LayoutFault.TheVariants.{LayoutMismatch}
 use Rattle.balise_layout.specs.Held.{headed}
 use Rattle.balise_layout.specs.Layouts.{next_of, layout_in}
 use Rattle.balise_layout.specs.LayoutLaws.{layout_reads}
-use Rattle.balise_layout.specs.Walks.{collect}
-use Rattle.balise_layout.proofs.Walks.{is_fit}
+use Rattle.balise_layout.specs.Walks.{collect, walk}
+use Rattle.balise_layout.proofs.Walks.{is_fit, walk_step}
 use Rattle.balise_codec.specs.declared.trace.Due.{Due}
 use Rattle.balise_codec.specs.declared.trace.Due.TheVariants.{Field, End, Another}
 use Rattle.balise_codec.specs.Traces.{StopsAt, Stopped, Trace, Traced, stopped, end_of, with_next, trace}
@@ -43,16 +44,16 @@ ended s t h = ap of h
 
 -- ---- single steps
 
+-- By the step of the layouts' walk over this one field, which keeps the fields and the value.
 pub trace_on : (v : Var) (next : ℕ → Form) (fs gs : Fields) (d : Due) (bs : List Bool) (at end w n : ℕ) → w ≡ width_of v → end ≤ length bs → at + w ≤ end → n ≡ num (take w (drop at bs)) → gs ≡ collect fs (end - at) v n → trace (valued v next) (traced fs (take (end - at) (drop at bs)) d) ≡ trace (next n) (traced gs (take (end - (at + w)) (drop (at + w) bs)) d)
-unfolding trace
+unfolding trace walk
 trace_on v next fs gs d bs at end w n wide within long value new =
     let whole = take (end - at) (drop at bs) in
-    let size : length whole ≡ end - at = omega (arith, length-take (end - at) (drop at bs), length-drop at bs) in
-    let enough : ltb (end - at) (width_of v) ≡ false = le-ltb _ _ (omega (arith, wide)) in
-    let parts : end - at ≡ w + (end - (at + w)) = omega arith in
-    let front : take w whole ≡ take w (drop at bs) = take-take w (end - at) (drop at bs) (omega arith) in
-    let back : drop w whole ≡ take (end - (at + w)) (drop (at + w) bs) = ap (λ (k : ℕ). drop w (take k (drop at bs))) parts ∙ drop-take w (end - (at + w)) (drop at bs) ∙ ap (λ (l : List Bool). take (end - (at + w)) l) (drop-drop w at bs) in
-    rw (size, enough, ← wide, front, back, ← value, ← new) refl
+    let keep : Fields × ℕ → ℕ → Var → ℕ → Fields × ℕ = λ a left var m. (collect a.0 left var m, m) in
+    let one = walk_step keep v (λ _. done) (fs, 0) (gs, n) bs at end w n wide within long value (ap (λ (x : Fields). (x, n)) new) in
+    let all = unless (ltb (length whole) (width_of v)) _ _ _ one in
+    let is = unok all.1 in
+    rw all.0 (ap (λ (x : (Fields × ℕ) × List Bool). trace (next x.0.1) (traced x.0.0 x.1 d)) is)
 
 pub trace_short : (v : Var) (next : ℕ → Form) (s : Trace) → length s.left < width_of v → trace (valued v next) s ≡ stopped (Field v) s
 unfolding trace

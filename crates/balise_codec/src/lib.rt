@@ -25,10 +25,10 @@ pub use explain::{
 pub use fault::SpellFault;
 pub use given::spell_given;
 pub use head::packet_fault;
-pub use misfit::{Misfit, find_misfit};
+pub use misfit::{Misfit, find_misfit, misfit_of};
 pub use placed::{Placed, place_all};
 pub use reach::{Reach, fields_to_fault};
-pub use spell::spell_packet;
+pub use spell::{spell_packet, write_values};
 pub use stop::{Stop, packets_end};
 pub use telegram::{PacketValues, TelegramMisfit, spell_telegram};
 pub use trace::Due;

@@ -59,8 +59,8 @@ fn number_of(values: &[(Var, u32)]) -> u32
     }
 }
 
-// Why the first of these values isn't one of this variable.
-fn first_misfit(var: Var, left: &[(Var, u32)]) -> Option<Misfit>
+/// Why the first of these values isn't one of this variable.
+pub fn misfit_of(var: Var, left: &[(Var, u32)]) -> Option<Misfit>
     ensures { result ≡ misfit_of var left.now }
 {
     let [(due, value), ..] = left else {
@@ -135,7 +135,7 @@ impl<'a> Walk for Speller<'a> {
         if var == Var::LPacket {
             return Ok(0);
         }
-        if let Some(misfit) = first_misfit(var, &self.values[self.count..]) {
+        if let Some(misfit) = misfit_of(var, &self.values[self.count..]) {
             self.misfit = Some((self.count, misfit));
             return Err(LayoutFault::LayoutMismatch);
         }

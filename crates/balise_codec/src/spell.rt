@@ -11,7 +11,7 @@ ghost use Rattle.balise_codec.specs.Spelling.{given, laid, said, size_of, writte
 
 use crate::fault::SpellFault;
 use crate::misfit::find_misfit;
-use balise_bits::Bits;
+use balise_bits::{Bits, BitsFault};
 use balise_layout::Packet;
 use balise_rules::Var;
 use std::alloc::Global;
@@ -71,10 +71,10 @@ fn written(alloc: Global, values: &[(Var, u32)], rest: &Bits) -> Result<Bits, Sp
     ensures fault { IfErr result (λ e. e ≢ SpellFault.OutOfMemory → (e ≡ SpellFault.TooLong) × (IsWritable values.now rest.now → ⊥)) }
 {
     let mut bits = Bits::new(alloc);
-    write_all(&mut bits, &values[..2])?;
+    write_values(&mut bits, &values[..2])?;
     let at = bits.len();
     bits.push(13, 0)?;
-    write_all(&mut bits, &values[2..])?;
+    write_values(&mut bits, &values[2..])?;
     bits.append(rest)?;
     let size = bits.len();
     if size > 8191 {
@@ -84,11 +84,11 @@ fn written(alloc: Global, values: &[(Var, u32)], rest: &Bits) -> Result<Bits, Sp
     Ok(bits)
 }
 
-// Adds values at the end, each in its width.
-fn write_all(bits: &mut Bits, values: &[(Var, u32)]) -> Result<(), SpellFault>
+/// Adds values at the end, each in its width. If memory runs out, the first of them may have been added.
+pub fn write_values(bits: &mut Bits, values: &[(Var, u32)]) -> Result<(), BitsFault>
     requires { AllFit values.now }
     ensures ok { OnOk result (bits.new ≡ bits.old ++ laid values.now) }
-    ensures fault { IsOkUnless result SpellFault.OutOfMemory }
+    ensures fault { IsOkUnless result BitsFault.OutOfMemory }
 {
     for i in 0..values.len() {
         let (var, value) = values[i];

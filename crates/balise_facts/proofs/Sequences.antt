@@ -1,11 +1,11 @@
 -- Texts that are written one after another, and what stops them.
-use Rattle.std.proofs.Common.{◌≡◌, ◌≢◌, ◌∙◌, ◌<◌, ◌+◌, ℕ, suc, Bool, true, false, find, List, [], ◌∷◌, ◌++◌, Option, Some, None, Result, Ok, Err, MatchResult, length, drop, map, get_or, slice_get, drop-cons, refl, sym, ap, subst, arith}
+use Rattle.std.proofs.Common.{◌≡◌, ◌≢◌, ◌∙◌, ◌<◌, ◌+◌, ℕ, suc, Bool, true, false, find, List, [], ◌∷◌, ◌++◌, Option, Some, None, Result, Ok, Err, MatchResult, length, drop, map, get_or, slice_get, drop-cons, refl, sym, ap, arith}
 use Rattle.std.proofs.KnownBytes.{Appends-nil}
 use Rattle.std.proofs.lemmas.List.{drop_all}
 use Rattle.balise_lines.specs.Writing.{LastFailed, NoneFailed, Reason, WritesAll, WritesSome}
 use Rattle.balise_lines.specs.declared.counted.Counted.{Counted}
 use Rattle.balise_lines.proofs.PartsWritten.{some_last, wrote_all, wrote_last, wrote_more, wrote_none, wrote_some}
-use Rattle.balise_text.specs.Printing.{Prints, reason_of}
+use Rattle.balise_text.specs.Printing.{reason_of}
 use Rattle.balise_text.specs.Texts.{Text, text_of}
 use Rattle.balise_text.specs.declared.run_fault.RunFault.{RunFault}
 use Rattle.balise_text.specs.declared.run_fault.RunFault.TheVariants.{WriteFault}
@@ -14,48 +14,39 @@ use Rattle.balise_plan.proofs.GroupLists.{drop_found}
 use Rattle.balise_plan.proofs.groups.Copied.{no-more}
 use Rattle.balise_facts.specs.FactTexts.{lines_text}
 
-pub some_front_of : {W : Type 0} (why : Reason) (contents : W → Option (List ℕ)) (text xs ys : List ℕ)
-    (old new : Counted W) → text ≡ xs ++ ys → WritesSome why contents old new xs → WritesSome why contents old new text
-some_front_of why contents text xs ys old new e s = wrote_some why contents text text xs ys old old new e
-    (wrote_none contents text old) s
+-- the first text was begun
+pub begun_first : {W : Type 0} {why : Reason} {contents : W → Option (List ℕ)} {xs : List ℕ} {old new : Counted W}
+    (ys : List ℕ) → WritesSome why contents old new xs → WritesSome why contents old new (xs ++ ys)
+begun_first ys s = wrote_some _ _ _ _ _ ys _ _ _ refl (wrote_none _ _ _) s
 
-pub all_behind : {W : Type 0} (contents : W → Option (List ℕ)) (text xs ys : List ℕ) (old now new : Counted W) →
-    text ≡ xs ++ ys → WritesAll contents old now xs → WritesAll contents now new ys → WritesAll contents old new text
-all_behind contents text xs ys old now new e a b = wrote_last contents text ys ys old now new refl
-    (wrote_more contents text text xs ys old old now e (wrote_none contents text old) a) b
+-- the first text was written, and the second was begun
+pub begun_next : {W : Type 0} {why : Reason} {contents : W → Option (List ℕ)} {xs ys : List ℕ}
+    {old now new : Counted W} → WritesAll contents old now xs → WritesSome why contents now new ys →
+    WritesSome why contents old new (xs ++ ys)
+begun_next w s = some_last _ _ _ _ _ _ _ _ refl (wrote_more _ _ _ _ _ _ _ _ refl (wrote_none _ _ _) w) s
 
-pub some_behind : {W : Type 0} (why : Reason) (contents : W → Option (List ℕ)) (text xs ys : List ℕ)
-    (old now new : Counted W) → text ≡ xs ++ ys → WritesAll contents old now xs → WritesSome why contents now new ys →
-    WritesSome why contents old new text
-some_behind why contents text xs ys old now new e a s = some_last why contents text ys ys old now new refl
-    (wrote_more contents text text xs ys old old now e (wrote_none contents text old) a) s
-
--- after the first text, the second is written or begun
-pub behind : {W A E : Type 0} (why : E → Reason) (contents : W → Option (List ℕ)) (r : Result A E) (text xs ys : List ℕ)
-    (old now new : Counted W) → text ≡ xs ++ ys → WritesAll contents old now xs →
+-- the first text was written, and the second was, or was begun
+pub done_next : {W A E : Type 0} (why : E → Reason) (contents : W → Option (List ℕ)) (r : Result A E) (xs ys : List ℕ)
+    (old now new : Counted W) → WritesAll contents old now xs →
     MatchResult r (λ _. WritesAll contents now new ys) (λ e. WritesSome (why e) contents now new ys) →
-    MatchResult r (λ _. WritesAll contents old new text) (λ e. WritesSome (why e) contents old new text)
-behind why contents (Ok a) text xs ys old now new e w s = all_behind contents text xs ys old now new e w s
-behind why contents (Err b) text xs ys old now new e w s = some_behind (why b) contents text xs ys old now new e w s
+    MatchResult r (λ _. WritesAll contents old new (xs ++ ys)) (λ e. WritesSome (why e) contents old new (xs ++ ys))
+done_next why contents (Ok a) xs ys old now new w s = wrote_last contents _ ys ys old now new refl
+    (wrote_more contents _ _ xs ys old old now refl (wrote_none contents _ old) w) s
+done_next why contents (Err b) xs ys old now new w s = begun_next w s
 
 -- What stops a text.
 
 -- a call failed
-pub call_failed : {W : Type 0} (contents : W → Option (List ℕ)) (old new : Counted W) (text : List ℕ)
-    (fault : RunFault) → fault ≡ WriteFault → WritesSome LastFailed contents old new text →
+pub call_failed : {W : Type 0} {contents : W → Option (List ℕ)} {old new : Counted W} {text : List ℕ}
+    {fault : RunFault} → fault ≡ WriteFault → WritesSome LastFailed contents old new text →
     WritesSome (reason_of fault) contents old new text
-call_failed contents old new text fault e s = subst (λ f. WritesSome (reason_of f) contents old new text) (sym e) s
+call_failed e s = rw e s
 
 -- nothing of the text was written
 pub nothing_yet : {W : Type 0} (contents : W → Option (List ℕ)) (now : Counted W) (text : List ℕ) → text ≢ [] →
     WritesSome NoneFailed contents now now text
 nothing_yet contents now text h = record {
-  begun = record {
-    done = [];
-    begins = (text, refl);
-    appended = Appends-nil
-        (contents now.inner);
-  };
+  begun = record { done = []; begins = (text, refl); appended = Appends-nil (contents now.inner) };
   cause = refl;
   left = h;
 }
@@ -104,12 +95,6 @@ pub found_later : {X : Type 0} (p : X → Bool) (xs : List X) (i : ℕ) (x : X) 
     p x ≡ false → find p (drop i xs) ≡ find p (drop (i + 1) xs)
 found_later p xs i x h e t = ap (find p) (item_left xs i x h e) ∙ simp t
 
--- a text under another name of it
-pub prints_as : {W A : Type 0} (contents : W → Option (List ℕ)) (old new : Counted W) (r : Result A RunFault)
-    (text x : List ℕ) → text ≡ x → Prints contents old new r x → Prints contents old new r text
-prints_as contents old new r text x e p = subst (λ (t : List ℕ). Prints contents old new r t) (sym e) p
-
--- where the text is none, all of it is written
-pub nothing_due : {W : Type 0} (contents : W → Option (List ℕ)) (now : Counted W) (text : List ℕ) → text ≡ [] →
-    WritesAll contents now now text
-nothing_due contents now text e = wrote_all contents text text now now e (wrote_none contents text now)
+-- there was nothing to write
+pub nothing_due : {W : Type 0} (contents : W → Option (List ℕ)) (now : Counted W) → WritesAll contents now now []
+nothing_due contents now = wrote_all contents [] [] now now refl (wrote_none contents [] now)

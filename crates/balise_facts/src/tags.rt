@@ -1,8 +1,10 @@
 //! Writes the tags of a plan. No memory is taken.
 
-ghost use Rattle.std.specs.Prelude.{◌++◌};
+ghost use Rattle.std.specs.Prelude.{◌++◌, ◌∷◌, codes, map};
 ghost use Rattle.balise_facts.specs.TagTexts.{group_line, group_lines, packet_line, packet_lines, tags_text, telegram_line, telegram_lines};
 ghost use Rattle.balise_lines.specs.Writing.{Writes};
+ghost use Rattle.balise_text.specs.Reviews.{id_text};
+ghost use Rattle.balise_text.specs.Texts.{text_of};
 
 use crate::tag_text::TagText;
 use balise_history::{Group, Id, Plan, Tag, Telegram};
@@ -10,6 +12,25 @@ use balise_lines::{Counted, WriteFault};
 use balise_text::put_texts;
 use itoa::Buffer;
 use std::io::Write;
+
+// Writes a line: a kind of thing, the identity of its group, and these texts after them.
+fn put_line<W: Write>(
+    writer: &mut Counted<W>,
+    kind: &[u8],
+    id: Id,
+    end: &[&[u8]],
+) -> Result<(), WriteFault>
+    ensures { Writes W.contents writer.old writer.new result (text_of (kind.now ∷ codes " " ∷ id_text id ∷ map (λ t. t.now) end.now)) }
+{
+    let mut country = Buffer::new();
+    let mut number = Buffer::new();
+    let country = country.format(id.country).as_bytes();
+    let number = number.format(id.number).as_bytes();
+    if let Err(fault) = put_texts(writer, &[kind, b" ", country, b".", number]) {
+        return Err(fault);
+    }
+    put_texts(writer, end)
+}
 
 // Writes the line of a packet, by its place.
 fn put_packet<W: Write>(
@@ -21,27 +42,13 @@ fn put_packet<W: Write>(
 ) -> Result<(), WriteFault>
     ensures { Writes W.contents writer.old writer.new result (packet_line id pig pkt p) }
 {
-    let mut country = Buffer::new();
-    let mut number = Buffer::new();
     let mut telegram = Buffer::new();
     let mut packet = Buffer::new();
     let mut tag = TagText::new();
-    put_texts(
-        writer,
-        &[
-            b"packet ",
-            country.format(id.country).as_bytes(),
-            b".",
-            number.format(id.number).as_bytes(),
-            b" ",
-            telegram.format(pig).as_bytes(),
-            b" ",
-            packet.format(pkt).as_bytes(),
-            b" ",
-            tag.format(p),
-            b"\n",
-        ],
-    )
+    let telegram = telegram.format(pig).as_bytes();
+    let packet = packet.format(pkt).as_bytes();
+    let end = [b" ", telegram, b" ", packet, b" ", tag.format(p), b"\n"];
+    put_line(writer, b"packet", id, &end)
 }
 
 // Writes the lines of the packets of a telegram.
@@ -73,24 +80,11 @@ fn put_telegram<W: Write>(
 ) -> Result<(), WriteFault>
     ensures { Writes W.contents writer.old writer.new result (telegram_line id pig t) }
 {
-    let mut country = Buffer::new();
-    let mut number = Buffer::new();
     let mut telegram = Buffer::new();
     let mut tag = Buffer::new();
-    put_texts(
-        writer,
-        &[
-            b"telegram ",
-            country.format(id.country).as_bytes(),
-            b".",
-            number.format(id.number).as_bytes(),
-            b" ",
-            telegram.format(pig).as_bytes(),
-            b" ",
-            tag.format(t).as_bytes(),
-            b"\n",
-        ],
-    )
+    let telegram = telegram.format(pig).as_bytes();
+    let tag = tag.format(t).as_bytes();
+    put_line(writer, b"telegram", id, &[b" ", telegram, b" ", tag, b"\n"])
 }
 
 // Writes the lines of a telegram.
@@ -113,21 +107,8 @@ fn put_telegram_lines<W: Write>(
 fn put_group<W: Write>(writer: &mut Counted<W>, id: Id, g: Tag) -> Result<(), WriteFault>
     ensures { Writes W.contents writer.old writer.new result (group_line id g) }
 {
-    let mut country = Buffer::new();
-    let mut number = Buffer::new();
     let mut tag = TagText::new();
-    put_texts(
-        writer,
-        &[
-            b"group ",
-            country.format(id.country).as_bytes(),
-            b".",
-            number.format(id.number).as_bytes(),
-            b" ",
-            tag.format(g),
-            b"\n",
-        ],
-    )
+    put_line(writer, b"group", id, &[b" ", tag.format(g), b"\n"])
 }
 
 // Writes the lines of the telegrams of a group.

@@ -1,10 +1,10 @@
 //! Reads the arguments.
 
 ghost use Rattle.std.specs.Prelude.{◌≡◌, IfOk, None, Some, codes, false, map, option_map};
-ghost use Rattle.clap.specs.Words.{app_of, new_app, rule_of};
+ghost use Rattle.clap.specs.Words.{app_of, rule_of};
 ghost use Rattle.balise_facts_cli.specs.Arguments.{edit_rule, program, Asks, Chooses, IsFound};
 
-use balise_arguments::{ArgsFault, flag, is_used};
+use balise_arguments::{ArgsFault, flag, is_used, plain_command};
 use balise_facts::Facts;
 use clap::error::ErrorKind;
 use clap::{Arg, ArgAction, Command};
@@ -80,7 +80,7 @@ fn mistake(command: &mut Command<'_>, kind: ErrorKind, message: &str) -> ArgsFau
 fn command<'a>(alloc: Global) -> Result<Command<'a>, AllocError>
     ensures { IfOk result (λ c. app_of c ≡ program) }
 {
-    let command = described(alloc);
+    let command = plain_command(alloc, "balisefacts", ABOUT, USAGE, AFTER_OPTIONS);
     let edit = edit(alloc);
     let command = command.arg(edit)?;
     let tags = flag(alloc, "tags", TAGS);
@@ -97,14 +97,4 @@ fn edit<'a>(alloc: Global) -> Arg<'a>
         .action(ArgAction::Set)
         .value_name("N")
         .help(EDIT)
-}
-
-// The command line without its arguments.
-fn described<'a>(alloc: Global) -> Command<'a>
-    ensures { app_of result ≡ new_app (codes "balisefacts") }
-{
-    Command::new(alloc, "balisefacts")
-        .about(ABOUT)
-        .override_usage(USAGE)
-        .after_help(AFTER_OPTIONS)
 }

@@ -7,7 +7,8 @@ use Rattle.balise_rules.specs.Digits.{all_zero, behind_digit, digit_bits, digit_
 use Rattle.balise_bits.proofs.Digits.{length-digit_bits}
 use Rattle.balise_bits.proofs.Spare.{all_zero-zero, all_zero-other}
 use Rattle.balise_text.specs.Texts.{Text}
-use Rattle.balise_fields.specs.Fours.{bits_in, digit_fill, first_of}
+use Rattle.balise_fields.specs.Fours.{bits_in, first_of}
+use Rattle.balise_text.specs.Printing.{digit_fill}
 
 -- bits, and those that are read after them
 abbrev pub onto : List Bool → Option (List Bool) → Option (List Bool)

@@ -1,4 +1,3 @@
-pub mod DigitFours
 pub mod FoursRead
 pub mod Splitting
 pub mod PacketDigits

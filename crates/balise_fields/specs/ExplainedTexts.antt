@@ -6,7 +6,7 @@ use Rattle.balise_codec.specs.declared.placed.Placed.{Placed}
 use Rattle.balise_codec.specs.declared.explain.PacketFields.{PacketFields}
 use Rattle.balise_codec.specs.declared.explain.TelegramFields.{TelegramFields}
 use Rattle.balise_text.specs.Texts.{Text, text_of, whole_line}
-use Rattle.balise_fields.specs.Fours.{fours_of}
+use Rattle.balise_text.specs.Printing.{fours_of}
 use Rattle.balise_fields.specs.declared.explained.FaultDue.{FaultDue}
 use Rattle.balise_fields.specs.declared.explained.FaultDue.TheVariants.{Digit, Length, Zero, Field, End, Another}
 use Rattle.balise_fields.specs.declared.explained.DigitFault.{DigitFault}

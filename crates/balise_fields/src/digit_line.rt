@@ -3,8 +3,8 @@
 ghost use Rattle.std.specs.Prelude.{MatchOption, None, Some, ◌≡◌};
 ghost use Rattle.balise_fields.specs.DigitLines.{packet_digits, IsDigitLine};
 
-use crate::numbers::read_number;
 use crate::words::{Few, split_line};
+use balise_text::read_number;
 
 /// What a line of digits is, by its words.
 #[derive(Clone, Copy, Debug, PartialEq, Eq)]

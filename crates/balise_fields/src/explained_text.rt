@@ -6,11 +6,10 @@ ghost use Rattle.balise_text.specs.Texts.{text_of, whole_line};
 ghost use Rattle.balise_fields.specs.ExplainedTexts.{alone_line, begun_text, bits_text, due_text, explained_text, fault_text, field_text, fields_text, front_text, in_packet, last_text, packets_text, telegram_text};
 
 use crate::explained::{Begun, DigitFault, Explained, FaultDue};
-use crate::fours::put_fours;
 use balise_bits::Bits;
 use balise_codec::{PacketFields, Placed, TelegramFields};
 use balise_lines::{Counted, WriteFault, put};
-use balise_text::put_texts;
+use balise_text::{put_fours, put_texts};
 use itoa::Buffer;
 use std::io::Write;
 

@@ -8,10 +8,10 @@ ghost use Rattle.balise_fields.specs.FieldLines.{bits_line, bits_words, field_li
 
 use crate::fault::FieldsFault;
 use crate::fours::read_fours;
-use crate::numbers::read_number;
 use crate::words::{Few, split_line};
 use balise_bits::Bits;
 use balise_codec::Var;
+use balise_text::read_number;
 use std::alloc::Global;
 
 /// What a line of fields is, by its words.

@@ -1,54 +1,12 @@
-//! Digits of four bits each, where zeros fill up the last digit alone.
+//! Reads digits of four bits each, where zeros fill up the last digit alone.
 
-ghost use Rattle.std.specs.Prelude.{◌≡◌, ◌<◌, ◌%◌, ◌*◌, length, IfOk, IfSome};
-ghost use Rattle.balise_lines.specs.Writing.{Writes};
-ghost use Rattle.balise_rules.specs.Digits.{digit_bits, digit_of};
-ghost use Rattle.balise_fields.specs.Fours.{bits_in, four_at, fours_of};
+ghost use Rattle.std.specs.Prelude.{◌≡◌, ◌*◌, length, IfOk, IfSome};
+ghost use Rattle.balise_rules.specs.Digits.{digit_bits};
+ghost use Rattle.balise_fields.specs.Fours.{bits_in};
 
 use crate::fault::FieldsFault;
 use balise_bits::{Bits, hex_value};
-use balise_lines::{Counted, WriteFault, put};
 use std::alloc::Global;
-use std::io::Write;
-
-// The lower-case digit of a value.
-fn digit(value: u8) -> u8
-    requires { value < 16 }
-    ensures { result ≡ digit_of value }
-{
-    if value < 10 {
-        b'0' + value
-    } else {
-        b'a' + (value - 10)
-    }
-}
-
-// The value of the four bits from a place on, where zeros stand after the last bit.
-fn four(bits: &Bits, at: usize) -> u8
-    requires within { at < length bits.now }
-    requires whole { at % 4 ≡ 0 }
-    ensures value { result ≡ four_at at bits.now }
-    ensures fits { result < 16 }
-{
-    let left = bits.len() - at;
-    if left >= 4 {
-        return bits.number(at, 4) as u8;
-    }
-    let left = left as u32;
-    (bits.number(at, left) << (4 - left)) as u8
-}
-
-/// Writes the digits of bits in lower case, the last one filled with zeros.
-pub fn put_fours<W: Write>(writer: &mut Counted<W>, bits: &Bits) -> Result<(), WriteFault>
-    ensures { Writes W.contents writer.old writer.new result (fours_of bits.now) }
-{
-    for place in 0..bits.len().div_ceil(4) {
-        if let Err(fault) = put(writer, &[digit(four(bits, 4 * place))]) {
-            return Err(fault);
-        }
-    }
-    Ok(())
-}
 
 // The bits of digits, four each, or none where one isn't hexadecimal.
 fn digits(alloc: Global, text: &[u8]) -> Result<Option<Bits>, FieldsFault>

@@ -5,7 +5,6 @@
 mod digit_line;
 mod field_line;
 mod fours;
-mod numbers;
 mod words;
 
 // From digits to fields.
@@ -21,11 +20,12 @@ pub use balise_bits::Bits;
 pub use balise_codec::{PacketFields, Placed, TelegramFields, Var};
 pub use balise_lines::{Counted, WriteFault};
 pub use balise_rules::Refusal;
+pub use balise_text::put_fours;
 pub use digit_line::{DigitLine, read_digit_line};
 pub use explain::explain_line;
 pub use explained::{Begun, DigitFault, Explained, FaultDue};
 pub use explained_text::{put_explained, put_field};
 pub use fault::FieldsFault;
 pub use field_line::{FieldLine, read_field_line};
-pub use fours::{put_fours, read_fours};
+pub use fours::read_fours;
 pub use words::first_word;

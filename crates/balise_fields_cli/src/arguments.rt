@@ -1,11 +1,11 @@
 //! Reads the arguments.
 
 ghost use Rattle.std.specs.Prelude.{◌≡◌, IfOk, codes, map};
-ghost use Rattle.clap.specs.Words.{app_of, new_app};
+ghost use Rattle.clap.specs.Words.{app_of};
 ghost use Rattle.balise_fields_cli.specs.Arguments.{program, Asks};
 ghost use Rattle.balise_fields_cli.specs.Ways.{way_of};
 
-use balise_arguments::{ArgsFault, flag, is_used};
+use balise_arguments::{ArgsFault, flag, is_used, plain_command};
 use balise_fields_run::Way;
 use clap::Command;
 use std::alloc::{AllocError, Global};
@@ -51,17 +51,7 @@ fn way_of(spell: bool) -> Way
 fn command<'a>(alloc: Global) -> Result<Command<'a>, AllocError>
     ensures { IfOk result (λ c. app_of c ≡ program) }
 {
-    let command = described(alloc);
+    let command = plain_command(alloc, "balisefields", ABOUT, USAGE, AFTER_OPTIONS);
     let spell = flag(alloc, "spell", SPELL);
     command.arg(spell)
-}
-
-// The command line without its argument.
-fn described<'a>(alloc: Global) -> Command<'a>
-    ensures { app_of result ≡ new_app (codes "balisefields") }
-{
-    Command::new(alloc, "balisefields")
-        .about(ABOUT)
-        .override_usage(USAGE)
-        .after_help(AFTER_OPTIONS)
 }

@@ -1,178 +1,93 @@
 -- What a run from fields to digits keeps from line to line, and how it ends.
-use Rattle.std.proofs.Common.{◌≡◌, ◌≢◌, ◌∙◌, ◌||◌, ◌≤◌, ◌+◌, ℕ, Bool, true, false, not, List, [], ◌∷◌, ◌++◌, length, Option, None, refl, sym, ap, subst, arith, append_assoc, append-nil, length-append}
-use Rattle.std.proofs.lemmas.List.Elements.{All-nil}
-use Rattle.std.specs.Io.KnownBytes.{Appends, Consumes, IsAtEnd, Keeps}
-use Rattle.std.proofs.KnownBytes.{Appends-nil, Appends-trans, Consumes-nil, Consumes-trans, Keeps-refl}
-use Rattle.balise_lines.specs.Laws.{joined}
-use Rattle.balise_lines.specs.Lines.{Fits, HasNoEnd, Line, lines_of, whole}
-use Rattle.balise_lines.specs.Reading.{LongNext, OverAtEnd, TookLine, TookNone, ahead, is_over, left, number_of, place_of}
-use Rattle.balise_lines.specs.Writing.{AppendsSome, IsPartOf}
+use Rattle.std.proofs.Common.{◌≡◌, ◌∙◌, ◌||◌, ◌+◌, ℕ, Bool, false, [], ◌∷◌, ◌++◌, Option, None, refl, sym, ap, subst}
+use Rattle.std.specs.Io.KnownBytes.{Appends}
+use Rattle.std.proofs.KnownBytes.{Appends-nil}
+use Rattle.balise_lines.specs.Lines.{Line}
+use Rattle.balise_lines.specs.Reading.{OverAtEnd, TookLine, TookNone, ahead, number_of, place_of}
+use Rattle.balise_lines.specs.Writing.{IsPartOf, LastFailed, WritesSome}
+use Rattle.balise_lines.specs.declared.counted.Counted.{Counted}
 use Rattle.balise_lines.specs.declared.lines.Lines.{Lines}
-use Rattle.balise_lines.proofs.FirstLines.{lines_of-open}
-use Rattle.balise_lines.proofs.HeldBytes.{ahead_few}
-use Rattle.balise_lines.proofs.InputsLeft.{ahead_read, ahead_such, input_read, left_at_first, lines_of-line, reader_ended}
-use Rattle.balise_lines.proofs.JoinedLines.{lines_make_input}
 use Rattle.balise_text.specs.Texts.{Text}
+use Rattle.balise_text.specs.declared.run_fault.RunFault.{RunFault}
+use Rattle.balise_text.specs.declared.run_fault.RunFault.TheVariants.{InputTooLong, OutOfMemory, ReadFault, WriteFault}
 use Rattle.balise_items.specs.Items.{GivenItem}
 use Rattle.balise_fields_run.specs.declared.status.Status.{Status}
 use Rattle.balise_fields_run.specs.ItemLines.{closed_bad, closed_text, line_bad, line_text, lines_bad, lines_text, next_of, open_after, open_of}
-use Rattle.balise_fields_run.specs.Spelt.{DidItems, FitAll, ItemsAtEnd, ItemsOutOfMemory, ItemsStopAtLong, ItemsUnwritten, NoItemComplete}
+use Rattle.balise_fields_run.specs.ItemSteps.{TextFails}
+use Rattle.balise_fields_run.specs.Runs.{DidLines, RanToFault}
+use Rattle.balise_fields_run.specs.Spelt.{AreItems, ItemsAtEnd, ItemsOutOfMemory, ItemsUnwritten}
 use Rattle.balise_fields_run.specs.Statuses.{status_of}
 use Rattle.balise_fields_run.proofs.ItemsPushed.{bad_push, fit_push, next_push, open_push, text_push}
-use Rattle.balise_fields_run.proofs.RunSteps.{joined-append}
+use Rattle.balise_fields_run.proofs.RunEnds.{unwritten, without_memory}
+use Rattle.balise_fields_run.proofs.RunSteps as steps
 
--- These lines have come, one after another; whatever comes after them are further lines, and after a last line without an
--- end nothing comes.
-pub record ItemsSoFar (had left old now : Option Text) (over : Bool) (place number : ℕ) (current : Option GivenItem) (refused : Bool) : Type 0 where
-  pub read : Text
-  pub lines : List Line
-  pub consumed : Consumes had left read
-  pub cut : (rest : Text) → (over ≡ true → rest ≡ []) → lines_of (read ++ rest) ≡ lines ++ lines_of rest
-  pub appended : Appends old now (lines_text 1 None lines)
-  pub fit : FitAll 0 lines
-  pub placed : place ≡ length (joined lines)
-  pub numbered : number ≡ next_of lines
-  pub opened : current ≡ open_of lines
-  pub bad : refused ≡ lines_bad 1 None lines
-
--- a run has come so far, before the next line
-abbrev pub HaveCome : Option Text → Option Text → Lines → Option Text → Option Text → Option GivenItem → Bool → Type 0
-HaveCome had old lines has now current refused = ItemsSoFar had (left lines has) old now (is_over lines) (place_of lines) (number_of lines) current refused
+-- A run has come so far, before the line of this number, and this item is open.
+pub record HaveCome (had old : Option Text) (lines : Lines) (has now : Option Text) (current : Option GivenItem) (refused : Bool) : Type 0 where
+  pub run : steps.HasCome AreItems had old lines has now refused
+  pub numbered : number_of lines ≡ next_of run.lines
+  pub opened : current ≡ open_of run.lines
 
 -- at first
 pub at_first : (had old : Option Text) (lines : Lines) → ahead lines ≡ [] → place_of lines ≡ 0 → number_of lines ≡ 1 → HaveCome had old lines had old None false
-at_first had old lines a e n = record {
-  read = [];
-  lines = [];
-  consumed = subst (λ t. Consumes had t []) (sym (left_at_first lines had a)) (Consumes-nil had);
-  cut = λ rest none. refl;
-  appended = Appends-nil old;
-  fit = tt;
-  placed = e;
-  numbered = n;
-  opened = refl;
-  bad = refl;
-}
+unfolding steps.at_first
+at_first had old lines a e n = record { run = steps.at_first AreItems had old lines (tt, refl, refl) a e; numbered = n; opened = refl }
 
 module _ (had old now : Option Text) (l m : Lines) (before has : Option Text) (current : Option GivenItem) (refused : Bool) (go : HaveCome had old l before now current refused) where
-  -- A line was taken.
-  module _ (line : Line) (took : TookLine l before line m has) (end : OverAtEnd m has) where
-    after : (rest : Text) → (is_over m ≡ true → rest ≡ []) → lines_of (go.read ++ (whole line ++ rest)) ≡ go.lines ++ line ∷ lines_of rest
-    after rest none =
-        go.cut (whole line ++ rest) (λ b. let f = sym took.before ∙ b in absurd cc) ∙ ap (λ (ls : List Line). go.lines ++ ls) (lines_of-line line rest took.is_line (λ f. none (took.over ∙ ap not f)))
+  -- what is said by the number and the open item is said by the lines that have come
+  by_lines : {A : Type 0} (f : ℕ → Option GivenItem → A) → f (number_of l) current ≡ f (next_of go.run.lines) (open_of go.run.lines)
+  by_lines f = ap (λ (k : ℕ). f k current) go.numbered ∙ ap (f (next_of go.run.lines)) go.opened
 
-    here : Fits (0 + length (joined go.lines)) line
-    here = let at : place_of l ≡ 0 + length (joined go.lines) = let k = go.placed in omega (arith, k) in subst (λ (k : ℕ). Fits k line) at took.fits
-
-    text_here : line_text (number_of l) line.bytes current ≡ line_text (next_of go.lines) line.bytes (open_of go.lines)
-    text_here = ap (λ (k : ℕ). line_text k line.bytes current) go.numbered ∙ ap (line_text (next_of go.lines) line.bytes) go.opened
-
-    bad_here : line_bad (number_of l) line.bytes current ≡ line_bad (next_of go.lines) line.bytes (open_of go.lines)
-    bad_here = ap (λ (k : ℕ). line_bad k line.bytes current) go.numbered ∙ ap (line_bad (next_of go.lines) line.bytes) go.opened
-
-    open_here : open_after (number_of l) line.bytes current ≡ open_after (next_of go.lines) line.bytes (open_of go.lines)
-    open_here = ap (λ (k : ℕ). open_after k line.bytes current) go.numbered ∙ ap (open_after (next_of go.lines) line.bytes) go.opened
-
-    pub went_on : (new : Option Text) (opened : Option GivenItem) (bad : Bool) → Appends now new (line_text (number_of l) line.bytes current) → opened ≡ open_after (number_of l) line.bytes current → bad ≡ line_bad (number_of l) line.bytes current
-        → HaveCome had old m has new opened (refused || bad)
-    went_on new opened bad wrote o b = record {
-      read = go.read ++ whole line;
-      lines = go.lines ++ line ∷ [];
-      consumed = Consumes-trans had (left l before) (left m has) _ _ go.consumed took.consumed;
-      cut = λ rest none. ap lines_of (append_assoc go.read (whole line) rest) ∙ after rest none ∙ sym (append_assoc go.lines (line ∷ []) (lines_of rest));
-      appended = subst (Appends old new) (ap (λ (t : Text). lines_text 1 None go.lines ++ t) text_here ∙ sym (text_push go.lines line)) (Appends-trans old now new _ _ go.appended wrote);
-      fit = fit_push 0 go.lines line go.fit here;
-      placed = let k = go.placed in
-          let more : length (joined (go.lines ++ line ∷ [])) ≡ length (joined go.lines) + length (whole line) =
-          ap length (joined-append go.lines (line ∷ [])) ∙ length-append (joined go.lines) (joined (line ∷ [])) ∙ ap (λ (t : Text). length (joined go.lines) + length t) (append-nil (whole line)) in
-          omega (arith, took.placed, k, more);
-      numbered = took.numbered ∙ ap (λ (k : ℕ). k + 1) go.numbered ∙ sym (next_push go.lines line);
-      opened = o ∙ open_here ∙ sym (open_push go.lines line);
-      bad = ap (λ (x : Bool). refused || x) (b ∙ bad_here) ∙ ap (λ (x : Bool). x || line_bad (next_of go.lines) line.bytes (open_of go.lines)) go.bad ∙ sym (bad_push go.lines line);
-    }
-
-    -- it was the last one that anything was written of
-    stopped : (new : Option Text) (P : List Line → List Line → Text → Type 0) (last : Text) → ((behind : List Line) → length (joined behind) ≤ 4097 → P go.lines (line ∷ behind) last) → Appends now new last → DidItems had has old new P
-    stopped new P last ends wrote =
-        let (rest, (ate, none, short)) = ahead_such (λ xs. length xs ≤ 4097) (left m has) has (ahead m) (is_over m) (Keeps-refl (left m has)) end (omega arith) (ahead_few m) in
-        let all : Consumes (left l before) has (whole line ++ rest) = Consumes-trans (left l before) (left m has) has _ _ took.consumed ate in record {
-          read = go.read ++ (whole line ++ rest);
-          consumed = Consumes-trans had (left l before) has _ _ go.consumed all;
-          done = go.lines;
-          behind = line ∷ lines_of rest;
-          cut = after rest none;
-          fit = go.fit;
-          last = last;
-          ends = ends (lines_of rest) (subst (λ (r : Text). length r ≤ 4097) (sym (lines_make_input rest).0) short);
-          appended = Appends-trans old now new _ _ go.appended wrote;
-        }
-
-    pub ran_out : DidItems had has old now (ItemsOutOfMemory has)
-    ran_out = stopped now (ItemsOutOfMemory has) [] (λ behind few. (few, refl)) (Appends-nil now)
-
-    pub unwritten : (new : Option Text) (w : AppendsSome now new (line_text (number_of l) line.bytes current)) → w.begins.0 ≢ [] → DidItems had has old new (ItemsUnwritten has)
-    unwritten new w some =
-        stopped new (ItemsUnwritten has) w.done (λ behind few. (few, subst (IsPartOf w.done) text_here (w.begins.0, (w.begins.1, some)))) w.appended
-
-  -- The input ended.
-  module _ (took : TookNone l before m has) (end : OverAtEnd m has) where
-    at_end : (new : Option Text) (P : List Line → List Line → Text → Type 0) (last : Text) → (IsAtEnd has → P go.lines [] last) → Appends now new last → DidItems had has old new P
-    at_end new P last ends wrote =
-        let (rest, (gone, none)) = ahead_read (left l before) has (ahead m) true took.kept (λ _. took.at_end) in
-        let all : Consumes (left l before) has [] = subst (λ (r : Text). Consumes (left l before) has r) (none refl) gone in record {
-          read = go.read ++ [];
-          consumed = Consumes-trans had (left l before) has _ _ go.consumed all;
-          done = go.lines;
-          behind = [];
-          cut = go.cut [] (λ _. refl);
-          fit = go.fit;
-          last = last;
-          ends = ends (reader_ended has (ahead m) (end took.over));
-          appended = Appends-trans old now new _ _ go.appended wrote;
-        }
-
-    last_text : closed_text (number_of l) current ≡ closed_text (next_of go.lines) (open_of go.lines)
-    last_text = ap (λ (k : ℕ). closed_text k current) go.numbered ∙ ap (closed_text (next_of go.lines)) go.opened
-
-    last_bad : closed_bad (number_of l) current ≡ closed_bad (next_of go.lines) (open_of go.lines)
-    last_bad = ap (λ (k : ℕ). closed_bad k current) go.numbered ∙ ap (closed_bad (next_of go.lines)) go.opened
-
-    pub ended : (new : Option Text) (bad : Bool) (status : Status) → Appends now new (closed_text (number_of l) current) → bad ≡ closed_bad (number_of l) current → status ≡ status_of (refused || bad) → DidItems had has old new (ItemsAtEnd has status)
-    ended new bad status wrote b e =
-        at_end new (ItemsAtEnd has status) (closed_text (number_of l) current)
-        (λ none. (none, refl, last_text, e ∙ ap (λ (x : Bool). status_of (refused || x)) (b ∙ last_bad) ∙ ap (λ (x : Bool). status_of (x || closed_bad (next_of go.lines) (open_of go.lines))) go.bad))
-        wrote
-
-    pub ended_without_memory : DidItems had has old now (ItemsOutOfMemory has)
-    ended_without_memory = at_end now (ItemsOutOfMemory has) [] (λ none. (none, refl)) (Appends-nil now)
-
-    pub ended_unwritten : (new : Option Text) (w : AppendsSome now new (closed_text (number_of l) current)) → w.begins.0 ≢ [] → DidItems had has old new (ItemsUnwritten has)
-    ended_unwritten new w some = at_end new (ItemsUnwritten has) w.done (λ none. (none, subst (IsPartOf w.done) last_text (w.begins.0, (w.begins.1, some)))) w.appended
-
-  -- No line was taken.
-  pub long_ahead : LongNext (left l before) (place_of l) → is_over l ≡ false → ItemsStopAtLong had old now
-  long_ahead next first = record {
-    input = go.read ++ next.input;
-    is_input = input_read had (left l before) go.read next.input go.consumed next.is_input;
-    done = go.lines;
-    line = next.line;
-    behind = next.lines;
-    cut = go.cut next.input (λ b. let f = sym first ∙ b in absurd cc) ∙ ap (λ (ls : List Line). go.lines ++ ls) next.first;
-    fit = go.fit;
-    long = subst (λ (k : ℕ). ¬ Fits k next.line) go.placed next.long;
-    appended = go.appended;
-  }
-
-  pub failed_ahead : HasNoEnd (ahead m) → Keeps (left l before) (left m has) → OverAtEnd l before → DidItems had has old now NoItemComplete
-  failed_ahead short k end =
-      let (rest, (took, none, still)) = ahead_such HasNoEnd (left l before) has (ahead m) (is_over l) k end (All-nil (λ b. b ≡ 10 → ⊥)) short in record {
-        read = go.read ++ rest;
-        consumed = Consumes-trans had (left l before) has _ _ go.consumed took;
-        done = go.lines;
-        behind = lines_of rest;
-        cut = go.cut rest none;
-        fit = go.fit;
-        last = [];
-        ends = (lines_of-open rest still, refl);
-        appended = subst (λ (t : Text). Appends old now t) (sym (append-nil (lines_text 1 None go.lines))) go.appended;
+  -- a line was taken
+  pub went_on : (line : Line) → TookLine l before line m has → (new : Option Text) (opened : Option GivenItem) (bad : Bool) → Appends now new (line_text (number_of l) line.bytes current) → opened ≡ open_after (number_of l) line.bytes current → bad ≡ line_bad (number_of l) line.bytes current
+      → HaveCome had old m has new opened (refused || bad)
+  unfolding steps.one_more
+  went_on line took new opened bad wrote o b =
+      let ls = go.run.lines in
+      let text = line_text (number_of l) line.bytes current in
+      let fits = fit_push 0 ls line go.run.comes.0 (steps.here AreItems had old now l m before has refused go.run line took) in
+      let out : go.run.written ++ text ≡ lines_text 1 None (ls ++ line ∷ [])
+      = ap (λ (t : Text). t ++ text) go.run.comes.1 ∙ ap (λ (t : Text). lines_text 1 None ls ++ t) (by_lines (λ k i. line_text k line.bytes i)) ∙ sym (text_push ls line) in
+      let some : (refused || bad) ≡ lines_bad 1 None (ls ++ line ∷ [])
+      = ap (λ (x : Bool). refused || x) (b ∙ by_lines (λ k i. line_bad k line.bytes i)) ∙ ap (λ (x : Bool). x || line_bad (next_of ls) line.bytes (open_of ls)) go.run.comes.2 ∙ sym (bad_push ls line) in
+      record {
+        run = steps.one_more AreItems had old now l m before has refused go.run line took new text bad (fits, out, some) wrote;
+        numbered = took.numbered ∙ ap (λ (k : ℕ). k + 1) go.numbered ∙ sym (next_push ls line);
+        opened = o ∙ by_lines (λ k i. open_after k line.bytes i) ∙ sym (open_push ls line);
       }
+
+  -- the input ended
+  pub ended : TookNone l before m has → OverAtEnd m has → (new : Option Text) (bad : Bool) (status : Status) → Appends now new (closed_text (number_of l) current) → bad ≡ closed_bad (number_of l) current → status ≡ status_of (refused || bad) → DidLines AreItems had has old new (ItemsAtEnd has status)
+  ended took end new bad status wrote b e =
+      steps.at_end AreItems had old now l m before has refused go.run took end new (ItemsAtEnd has status) (closed_text (number_of l) current)
+      (λ none. (none, refl, by_lines closed_text, e ∙ ap (λ (x : Bool). status_of (refused || x)) (b ∙ by_lines closed_bad))) wrote
+
+-- a text wasn't written, of which both ways to fail are known
+text_fails : {W : Type 0} (contents : W → Option Text) (had has old : Option Text) (writer writers : Counted W) (text : Text) (read reads written : ℕ) (e : RunFault) → DidLines AreItems had has old (contents writer.inner) (ItemsOutOfMemory has)
+    → ((w : WritesSome LastFailed contents writer writers text) → DidLines AreItems had has old (contents writers.inner) (ItemsUnwritten has)) → TextFails contents writer writers text e → reads ≡ read → writer.failed ≡ written
+    → RanToFault AreItems (ItemsOutOfMemory has) (ItemsUnwritten has) had has old (contents writers.inner) read reads written writers.failed e
+text_fails contents had has old writer writers text read reads written OutOfMemory none some f r w = without_memory contents had has old writer writers read reads written r w none f
+text_fails contents had has old writer writers text read reads written WriteFault none some f r w = unwritten contents had has old writer writers read reads written r w text f (some f)
+text_fails contents had has old writer writers text read reads written InputTooLong none some f r w = absurd f
+text_fails contents had has old writer writers text read reads written ReadFault none some f r w = absurd f
+
+module _ {W : Type 0} (contents : W → Option Text) (had has old before : Option Text) (l m : Lines) (writer writers : Counted W) (current : Option GivenItem) (refused : Bool) (read reads written : ℕ) (e : RunFault)
+    (go : HaveCome had old l before (contents writer.inner) current refused) (end : OverAtEnd m has) (r : reads ≡ read) (w : writer.failed ≡ written) where
+  -- a beginning of a text was written
+  begun : (text said : Text) → text ≡ said → (s : WritesSome LastFailed contents writer writers text) → IsPartOf s.begun.done said
+  begun text said is s = subst (IsPartOf s.begun.done) is (s.begun.begins.0, (s.begun.begins.1, s.left))
+
+  -- what a line prints wasn't written
+  pub line_fails : (line : Line) → TookLine l before line m has → TextFails contents writer writers (line_text (number_of l) line.bytes current) e → RanToFault AreItems (ItemsOutOfMemory has) (ItemsUnwritten has) had has old (contents writers.inner) read reads written writers.failed e
+  line_fails line took f =
+      let stopped = steps.stopped AreItems had old (contents writer.inner) l m before has refused go.run line took end in
+      let same = by_lines had old (contents writer.inner) l m before has current refused go (λ k i. line_text k line.bytes i) in
+      text_fails contents had has old writer writers (line_text (number_of l) line.bytes current) read reads written e (stopped (contents writer.inner) (ItemsOutOfMemory has) [] (λ behind few. (few, refl)) (Appends-nil (contents writer.inner)))
+      (λ s. stopped (contents writers.inner) (ItemsUnwritten has) s.begun.done (λ behind few. (few, begun _ _ same s)) s.begun.appended) f r w
+
+  -- what the last item prints wasn't written
+  pub end_fails : TookNone l before m has → TextFails contents writer writers (closed_text (number_of l) current) e → RanToFault AreItems (ItemsOutOfMemory has) (ItemsUnwritten has) had has old (contents writers.inner) read reads written writers.failed e
+  end_fails took f =
+      let at_end = steps.at_end AreItems had old (contents writer.inner) l m before has refused go.run took end in
+      let same = by_lines had old (contents writer.inner) l m before has current refused go closed_text in
+      text_fails contents had has old writer writers (closed_text (number_of l) current) read reads written e (at_end (contents writer.inner) (ItemsOutOfMemory has) [] (λ none. (none, refl)) (Appends-nil (contents writer.inner)))
+      (λ s. at_end (contents writers.inner) (ItemsUnwritten has) s.begun.done (λ none. (none, begun _ _ same s)) s.begun.appended) f r w

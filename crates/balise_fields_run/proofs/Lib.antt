@@ -1,9 +1,9 @@
 pub mod RunSteps
 pub mod LinesTaken
 pub mod RunEnds
+pub mod ExplainedRuns
 pub mod ItemsPushed
 pub mod ItemRuns
-pub mod ItemEnds
 pub mod TextParts
 pub mod SpelledBack
 pub mod ExplainedBack

@@ -1,4 +1,5 @@
 pub mod Statuses
+pub mod Runs
 pub mod Explained
 pub mod Steps
 pub mod ItemLines

@@ -1,7 +1,7 @@
 -- The fields of a header, and their values.
 use Rattle.std.proofs.Common.{◌≡◌, ◌∙◌, ◌+◌, ℕ, Bool, true, false, List, [], ◌∷◌, ◌++◌, map, None, refl, sym, ap, subst}
 use Rattle.balise_rules.specs.declared.variable.Var.{Var}
-use Rattle.balise_rules.specs.declared.variable.Var.TheVariants.{LPacket, QUpdown, MVersion, QMedia}
+use Rattle.balise_rules.specs.declared.variable.Var.TheVariants.{LPacket, MVersion}
 use Rattle.balise_rules.specs.Variables.{width_of}
 use Rattle.balise_rules.specs.Bits.{bits, fits}
 use Rattle.balise_rules.specs.Tags.{Key, same_var}
@@ -16,41 +16,18 @@ use Rattle.balise_items.proofs.HeaderValues.{HasNoLength, along_end, along_none,
 
 -- ---- fields that are there
 
-key_of : (v w : Var) (k n : ℕ) (seen : Fields) → v ≡ w → k ≡ count_of v seen → ◌≡◌ {A = Key × ℕ} ((v, k), n) ((w, count_of w seen), n)
-key_of v w k n seen e u = ap (λ (i : ℕ). ((v, i), n)) u ∙ ap (λ (x : Var). ((x, count_of x seen), n)) e
-
--- the first three
-record Three (fs : Fields) : Type 0 where
-  updown : ℕ
-  version : ℕ
-  media : ℕ
-  more : Fields
-  is : fs ≡ ((QUpdown, 0), updown) ∷ ((MVersion, 0), version) ∷ ((QMedia, 0), media) ∷ more
-
-three_of : (fs : Fields) → Matches header fs [] → Numbered fs → Three fs
-unfolding header width_of
-three_of [] m u = absurd m
-three_of (f ∷ []) m u = absurd m.2
-three_of (f ∷ g ∷ []) m u = absurd m.2.2
-three_of (((a, i), n) ∷ ((b, j), d) ∷ ((c, k), l) ∷ more) m u =
-    let e1 = key_of a QUpdown i n [] m.0 u.0 in
-    let u2 : j ≡ count_of b (((QUpdown, 0), n) ∷ []) = u.1.0 ∙ ap (λ (x : Key × ℕ). count_of b (x ∷ [])) e1 in
-    let e2 = key_of b MVersion j d (((QUpdown, 0), n) ∷ []) m.2.0 u2 in
-    let u3 : k ≡ count_of c (((QUpdown, 0), n) ∷ ((MVersion, 0), d) ∷ []) = u.1.1.0 ∙ ap (λ (x : Key × ℕ). count_of c (x ∷ ((b, j), d) ∷ [])) e1 ∙ ap (λ (x : Key × ℕ). count_of c (((QUpdown, 0), n) ∷ x ∷ [])) e2 in
-    let e3 = key_of c QMedia k l (((QUpdown, 0), n) ∷ ((MVersion, 0), d) ∷ []) m.2.2.0 u3 in
-    record {
-      updown = n;
-      version = d;
-      media = l;
-      more = more;
-      is = ap (λ (x : Key × ℕ). x ∷ ((b, j), d) ∷ ((c, k), l) ∷ more) e1 ∙ ap (λ (x : Key × ℕ). ((QUpdown, 0), n) ∷ x ∷ ((c, k), l) ∷ more) e2 ∙ ap (λ (x : Key × ℕ). ((QUpdown, 0), n) ∷ ((MVersion, 0), d) ∷ x ∷ more) e3;
-    }
-
 pub version_is : (fs : Fields) → Matches header fs [] → Numbered fs → version_given (map said fs) ≡ value MVersion 0 fs
-version_is fs m u = let t = three_of fs m u in ap (λ (x : Fields). version_given (map said x)) t.is ∙ sym (ap (value MVersion 0) t.is)
+unfolding header width_of
+version_is [] m u = absurd m
+version_is (f ∷ []) m u = absurd m.2
+version_is (((a, i), n) ∷ ((b, j), d) ∷ fs) m u = rw (u.1.0, m.0, m.2.0) refl
 
 pub balise_is : (fs : Fields) → Matches header fs [] → Numbered fs → is_balise_given (map said fs) ≡ is_balise fs
-balise_is fs m u = let t = three_of fs m u in ap (λ (x : Fields). is_balise_given (map said x)) t.is ∙ sym (ap is_balise t.is)
+unfolding header width_of
+balise_is [] m u = absurd m
+balise_is (f ∷ []) m u = absurd m.2
+balise_is (f ∷ g ∷ []) m u = absurd m.2.2
+balise_is (((a, i), n) ∷ ((b, j), d) ∷ ((c, k), l) ∷ fs) m u = rw (u.0, u.1.1.0, m.0, m.2.0, m.2.2.0) refl
 
 along_fits : (vars : List Var) (i : ℕ) (fs : Fields) → HasNoLength vars → Matches (plains vars) fs [] → misfit_along (plains vars) i (map said fs) ≡ None
 unfolding misfit_along

@@ -32,7 +32,7 @@ use Rattle.balise_fields.specs.declared.field_line.FieldLine.TheVariants as line
 use Rattle.balise_fields.specs.DigitLines.{both}
 use Rattle.balise_fields.specs.ExplainedTexts.{bits_text, field_text, fields_text, in_packet, packet_text, packets_text}
 use Rattle.balise_fields.specs.FieldLines.{bits_line, bits_words, field_line, if_length, if_number, line_in, named, named_line, value_line}
-use Rattle.balise_fields.specs.Fours.{filled, fours_of}
+use Rattle.balise_text.specs.Printing.{filled, fours_of}
 use Rattle.balise_items.specs.Laws.{Printed, Says, SayAll, bits_lines, field_lines, packet_lines, packets_lines, with_ends}
 use Rattle.balise_items.proofs.DigitsBack.{fours_back, fours_some}
 

@@ -1,7 +1,6 @@
 //! The bits of a telegram as it is given.
 
 ghost use Rattle.std.specs.Prelude.{◌≡◌, ◌∷◌, ◌++◌, IfErr, IfOk, IsOkUnless, OnOk};
-ghost use Rattle.balise_codec.specs.Spelling.{laid, AllFit};
 ghost use Rattle.balise_items.specs.Reasons.{Adds, Stops};
 ghost use Rattle.balise_items.specs.Telegrams.{front_of, has_end, head_of, header_of, is_balise_given, padded, telegram_of, version_given};
 
@@ -11,21 +10,9 @@ use crate::packets::{add_packet, add_packets, line_of};
 use crate::place::Place;
 use crate::reason::{Bad, Reason, Stop, reason_of};
 use crate::section::Section;
-use balise_bits::{Bits, BitsFault};
-use balise_codec::Var;
+use balise_bits::Bits;
+use balise_codec::{Var, write_values};
 use std::alloc::Global;
-
-// Adds values at the end, each in its width.
-fn write_all(bits: &mut Bits, values: &[(Var, u32)]) -> Result<(), BitsFault>
-    requires { AllFit values.now }
-    ensures { OnOk result (bits.new ≡ bits.old ++ laid values.now) }
-{
-    for i in 0..values.len() {
-        let (var, value) = values[i];
-        bits.push(var.width(), value)?;
-    }
-    Ok(())
-}
 
 // Adds the bits of a header.
 fn add_header(bits: &mut Bits, section: &Section) -> Result<(), Stop>
@@ -39,7 +26,7 @@ fn add_header(bits: &mut Bits, section: &Section) -> Result<(), Stop>
             reason: reason_of(misfit),
         }));
     }
-    write_all(bits, values)?;
+    write_values(bits, values)?;
     Ok(())
 }
 

@@ -1,8 +1,8 @@
 //! The tests, by topic.
 
-mod devices;
 mod ends;
 mod faults;
 mod limits;
+mod pattern;
 mod reading;
 mod writing;

@@ -4,13 +4,13 @@
 /// exit code for `main` to return. `$rt` is the runtime that `main` is given, and `$program` the program.
 ///
 /// It is a macro since no clause knows what reaches the system: the body is proved in each `main`, over the contracts
-/// of `launch` and of `stop_without_memory`.
+/// of `launch` and of `stop_without_memory`. What is written is held back up to 64 KiB, which is what a pipe takes.
 #[macro_export]
 macro_rules! launch_on_system {
     ($rt:ident, $program:ident) => {{
         let alloc = $rt.alloc();
         let mut errors = $crate::Counted::new($rt.stderr());
-        let exit = match std::io::BufWriter::new(alloc, std::io::writer(&$rt)) {
+        let exit = match std::io::BufWriter::with_capacity(alloc, 65_536, std::io::writer(&$rt)) {
             Ok(output) => {
                 let mut reader = $crate::Counted::new($rt.reader());
                 let mut writer = $crate::Counted::new(output);

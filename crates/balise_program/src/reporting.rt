@@ -1,7 +1,8 @@
 //! What a program reports of its end and of its arguments.
 
+ghost use Rattle.std.specs.Prelude.{◌≡◌};
 ghost use Rattle.balise_lines.specs.Writing.{Writes};
-ghost use Rattle.balise_program.specs.Reporting.{Shows, reported};
+ghost use Rattle.balise_program.specs.Reporting.{Reports, Shows, reported};
 
 use crate::exit::Exit;
 use balise_arguments::ArgsFault;
@@ -18,6 +19,15 @@ pub fn report<E: Write>(errors: &mut Counted<E>, exit: Exit) -> Result<(), Write
         Some(refusal) => put_fault(errors, refusal),
         None => Ok(()),
     }
+}
+
+/// Reports the fault that a program ends with. It ends so also where the report fails.
+pub(crate) fn report_end<E: Write>(errors: &mut Counted<E>, exit: Exit) -> Exit
+    ensures same { result ≡ exit }
+    ensures reports { Reports E.contents errors.old errors.new result }
+{
+    let _ = report(errors, exit);
+    exit
 }
 
 // Writes a text for the user. It isn't reported where that fails, since there is no other place for it.

@@ -1,33 +1,14 @@
 //! A program over its words, its input and its two outputs.
 
 ghost use Rattle.std.specs.Prelude.{map};
-ghost use Rattle.balise_program.specs.Starting.{DoesWords, Starts};
+ghost use Rattle.balise_program.specs.Starting.{Starts};
 
 use crate::exit::{Exit, exit_after_arguments};
 use crate::program::Program;
-use crate::reporting::{report, show};
+use crate::reporting::{report_end, show};
 use balise_lines::Counted;
 use std::alloc::Global;
 use std::io::{BufWriter, Read, Write};
-
-// Does what the words ask for, and doesn't report the fault that the program ends with.
-fn do_words<P: Program, R: Read, W: Write + Drop, E: Write>(
-    alloc: Global,
-    words: &[&str],
-    reader: &mut Counted<R>,
-    writer: &mut Counted<BufWriter<W>>,
-    errors: &mut Counted<E>,
-) -> Exit
-    ensures { DoesWords P.asks (P.works R.remaining W.contents) (map (λ w. w.now) words.now) reader.old reader.new writer.old writer.new errors.old errors.new result }
-{
-    match P::ask(alloc, words) {
-        Ok(asked) => P::work(alloc, asked, reader, writer),
-        Err(fault) => {
-            show(&fault, writer, errors);
-            exit_after_arguments(&fault)
-        }
-    }
-}
 
 /// Does what the words of the command line ask the program for, of which the first is its name.
 ///
@@ -41,7 +22,14 @@ pub fn start<P: Program, R: Read, W: Write + Drop, E: Write>(
 ) -> Exit
     ensures { Starts P.asks (P.works R.remaining W.contents) E.contents (map (λ w. w.now) words.now) reader.old reader.new writer.old writer.new errors.old errors.new result }
 {
-    let exit = do_words::<P, R, W, E>(alloc, words, reader, writer, errors);
-    let _ = report(errors, exit);
-    exit
+    match P::ask(alloc, words) {
+        Ok(asked) => {
+            let exit = P::work(alloc, asked, reader, writer);
+            report_end(errors, exit)
+        }
+        Err(fault) => {
+            show(&fault, writer, errors);
+            report_end(errors, exit_after_arguments(&fault))
+        }
+    }
 }

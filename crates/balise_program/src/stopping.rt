@@ -3,7 +3,7 @@
 ghost use Rattle.balise_program.specs.Reporting.{StopsAtBadText, StopsWithoutMemory};
 
 use crate::exit::{Exit, exit_after_arguments};
-use crate::reporting::report;
+use crate::reporting::report_end;
 use balise_arguments::ArgsFault;
 use balise_lines::{Counted, put};
 use std::io::Write;
@@ -18,9 +18,7 @@ const NOT_UTF_8: &[u8] = b"error: an argument is not UTF-8\n";
 pub fn stop_without_memory<E: Write>(errors: &mut Counted<E>) -> Exit
     ensures { StopsWithoutMemory E.contents errors.old errors.new result }
 {
-    let exit = exit_after_arguments(&ArgsFault::Memory);
-    let _ = report(errors, exit);
-    exit
+    report_end(errors, exit_after_arguments(&ArgsFault::Memory))
 }
 
 /// Reports a word that is no text.

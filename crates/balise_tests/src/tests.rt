@@ -2,7 +2,6 @@
 
 mod bounds;
 mod cuts;
-mod devices;
 mod exits;
 mod facts;
 mod faults;
@@ -13,5 +12,6 @@ mod large_packets;
 mod largest;
 mod plans;
 mod programs;
+mod repeated;
 mod rows;
 mod runs;

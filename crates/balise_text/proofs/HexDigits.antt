@@ -1,67 +1,52 @@
 -- Digits that were printed for bits are read back.
-use Rattle.std.proofs.Common.{◌≡◌, ◌∙◌, ℕ, zero, suc, ◌+◌, ◌*◌, ◌%◌, ◌≤◌, ◌==◌, Bool, true, false, List, [], ◌∷◌, ◌++◌, length, take, drop, Option, Some, Result, Ok, refl, ap, arith, length-append}
-use Rattle.std.proofs.lemmas.Bool.{le-leb}
-use Rattle.std.specs.Prelude.{nat_lt}
-use Rattle.std.proofs.lemmas.List.{length-replicate, append-nil}
+use Rattle.std.proofs.Common.{◌≡◌, ◌∙◌, ℕ, zero, suc, ◌+◌, ◌*◌, ◌%◌, ◌≤◌, ◌<◌, ◌-◌, ◌==◌, Bool, true, false, List, [], ◌∷◌, ◌++◌, length, drop, Option, Some, Result, Ok, refl, ap, arith, length-append}
+use Rattle.std.specs.Prelude.{nat_le, nat_lt}
+use Rattle.std.proofs.lemmas.Bool.{le-leb, ltb-false, ltb-true}
+use Rattle.std.proofs.lemmas.Bool.Decides.{nat_tests}
+use Rattle.std.proofs.lemmas.List.{append-nil, drop_at, length-replicate, take_at}
 use Rattle.std.proofs.lemmas.Grind.{common_steps}
 use Rattle.balise_rules.specs.declared.refusal.Refusal.{Refusal}
 use Rattle.balise_rules.specs.Bits.{num, bits, zeros}
 use Rattle.balise_rules.specs.Digits.{digit_value, digit_of, behind_digit, digit_bits, read_digits, fill, all_zero, read_hex, digits_in, hex_of}
+use Rattle.balise_rules.proofs.Numbers.{bits-num, num_below}
 use Rattle.balise_rules.proofs.Tests.{split_on}
 use Rattle.balise_text.specs.Words.{Word}
 use Rattle.balise_text.proofs.High.{is_high}
 
-abbrev four : Bool → Bool → Bool → Bool → List Bool
-four a b c d = a ∷ b ∷ c ∷ d ∷ []
+-- a digit's value
+value_back : (n : ℕ) → n < 16 → digit_value (digit_of n) ≡ Some n
+value_back n h = split_on (nat_lt n 10)
+    (λ e.
+    let small : n < 10 = ltb-true n 10 e in
+    let a : nat_le 48 (48 + n) ≡ true = grind (arith, nat_tests) in
+    let b : nat_le (48 + n) 57 ≡ true = grind (arith, nat_tests) in
+    let c : 48 + n - 48 ≡ n = omega arith in
+    ap digit_value (let d : digit_of n ≡ 48 + n = rw e refl in d) ∙ (let f : digit_value (48 + n) ≡ Some (48 + n - 48) = rw (a, b) refl in f) ∙ ap Some c)
+    (λ e.
+    let large : 10 ≤ n = ltb-false n 10 e in
+    let a : nat_le 48 (87 + n) ≡ true = grind (arith, nat_tests) in
+    let b : nat_le (87 + n) 57 ≡ false = grind (arith, nat_tests) in
+    let c : nat_le 65 (87 + n) ≡ true = grind (arith, nat_tests) in
+    let d : nat_le (87 + n) 70 ≡ false = grind (arith, nat_tests) in
+    let g : nat_le 97 (87 + n) ≡ true = grind (arith, nat_tests) in
+    let i : nat_le (87 + n) 102 ≡ true = grind (arith, nat_tests) in
+    let k : 87 + n - 87 ≡ n = omega arith in
+    ap digit_value (let j : digit_of n ≡ 87 + n = rw e refl in j) ∙ (let f : digit_value (87 + n) ≡ Some (87 + n - 87) = rw (a, b, c, d, g, i) refl in f) ∙ ap Some k)
 
-digit_read : (a b c d : Bool) → digit_value (digit_of (num (four a b c d))) ≡ Some (num (four a b c d))
-unfolding num
-digit_read true true true true = refl
-digit_read true true true false = refl
-digit_read true true false true = refl
-digit_read true true false false = refl
-digit_read true false true true = refl
-digit_read true false true false = refl
-digit_read true false false true = refl
-digit_read true false false false = refl
-digit_read false true true true = refl
-digit_read false true true false = refl
-digit_read false true false true = refl
-digit_read false true false false = refl
-digit_read false false true true = refl
-digit_read false false true false = refl
-digit_read false false false true = refl
-digit_read false false false false = refl
+one_back : (a b c d : Bool) (o : Option (List Bool)) (rest : List Bool) → o ≡ Some rest → behind_digit (digit_value (digit_of (num (a ∷ b ∷ c ∷ d ∷ [])))) o ≡ Some (a ∷ b ∷ c ∷ d ∷ rest)
+one_back a b c d o rest e =
+    let four = a ∷ b ∷ c ∷ d ∷ [] in
+    let back : bits 4 (num four) ≡ four = bits-num four in
+    ap (λ (v : Option ℕ). behind_digit v o) (value_back (num four) (num_below four)) ∙ ap (behind_digit (Some (num four))) e ∙ ap (λ (x : List Bool). Some (x ++ rest)) back
 
-digit_bits_of : (a b c d : Bool) → bits 4 (num (four a b c d)) ≡ four a b c d
-unfolding num bits
-digit_bits_of true true true true = refl
-digit_bits_of true true true false = refl
-digit_bits_of true true false true = refl
-digit_bits_of true true false false = refl
-digit_bits_of true false true true = refl
-digit_bits_of true false true false = refl
-digit_bits_of true false false true = refl
-digit_bits_of true false false false = refl
-digit_bits_of false true true true = refl
-digit_bits_of false true true false = refl
-digit_bits_of false true false true = refl
-digit_bits_of false true false false = refl
-digit_bits_of false false true true = refl
-digit_bits_of false false true false = refl
-digit_bits_of false false false true = refl
-digit_bits_of false false false false = refl
-
-one_digit : (a b c d : Bool) (o : Option (List Bool)) (rest : List Bool) → o ≡ Some rest → behind_digit (digit_value (digit_of (num (four a b c d)))) o ≡ Some (a ∷ b ∷ c ∷ d ∷ rest)
-one_digit a b c d o rest e = rw (e, digit_read a b c d, digit_bits_of a b c d) refl
-
-digits_back : (b : List Bool) → length b % 4 ≡ 0 → digit_bits (digits_in b) ≡ Some b
+-- the digits of whole fours are read back
+pub digits_back : (b : List Bool) → length b % 4 ≡ 0 → digit_bits (digits_in b) ≡ Some b
 unfolding digit_bits digits_in
 digits_back [] h = refl
 digits_back (a ∷ []) h = absurd (omega arith)
 digits_back (a ∷ b ∷ []) h = absurd (omega arith)
 digits_back (a ∷ b ∷ c ∷ []) h = absurd (omega arith)
-digits_back (a ∷ b ∷ c ∷ d ∷ rest) h = one_digit a b c d (digit_bits (digits_in rest)) rest (digits_back rest (omega (arith, h)))
+digits_back (a ∷ b ∷ c ∷ d ∷ rest) h = one_back a b c d (digit_bits (digits_in rest)) rest (digits_back rest (omega (arith, h)))
 
 at_least : (n : ℕ) → 36 ≤ digit_of n
 at_least n = split_on (nat_lt n 10) (λ e. rw e (omega arith)) (λ e. rw e (omega arith))
@@ -110,25 +95,17 @@ ok b = Ok b
 pub bytes_read : (b : List Bool) → length b % 8 ≡ 0 → read_digits (hex_of b) ≡ Ok b
 bytes_read b h = let z : fill (length b) ≡ 0 = omega (arith, h) in hex_read b ∙ ap (λ (n : ℕ). ok (b ++ zeros n)) z ∙ ap ok (append-nil b)
 
-zeros_zero : (n : ℕ) → all_zero (zeros n) ≡ true
+pub zeros_zero : (n : ℕ) → all_zero (zeros n) ≡ true
 zeros_zero zero = refl
 zeros_zero (suc n) = zeros_zero n
-
-drop_front : (b c : List Bool) → drop (length b) (b ++ c) ≡ c
-drop_front [] c = refl
-drop_front (x ∷ b) c = drop_front b c
-
-take_front : (b c : List Bool) → take (length b) (b ++ c) ≡ b
-take_front [] c = refl
-take_front (x ∷ b) c = ap (λ (y : List Bool). x ∷ y) (take_front b c)
 
 -- as many bits as are due
 pub due_read : (b : List Bool) → read_hex (length b) (hex_of b) ≡ Ok b
 due_read b =
     let z = zeros (fill (length b)) in
     let e : (length (b ++ z) == length b + fill (length b)) ≡ true = rw (filled b) (same (length b + fill (length b))) in
-    let d : all_zero (drop (length b) (b ++ z)) ≡ true = rw (drop_front b z) (zeros_zero (fill (length b))) in
-    rw (hex_read b, e, d, take_front b z) refl
+    let d : all_zero (drop (length b) (b ++ z)) ≡ true = ap all_zero (drop_at b z (length b) refl) ∙ zeros_zero (fill (length b)) in
+    rw (hex_read b, e, d, take_at b z (length b) refl) refl
   where
     same : (n : ℕ) → (n == n) ≡ true
     same n = grind (arith, common_steps)

@@ -4,10 +4,11 @@ pub mod Taking
 pub mod DigitWords
 pub mod DigitChecks
 pub mod Lists
-pub mod Bytes
+pub mod DigitsLeft
 pub mod Decimals
 pub mod Marked
 pub mod Spelt
+pub mod TextsBehind
 pub mod High
 pub mod HexDigits
 pub mod EntriesBack

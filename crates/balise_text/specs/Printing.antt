@@ -1,9 +1,9 @@
--- What is printed for a word, and the bytes of its digits; and what a fault says of the writer of a text.
-use Rattle.std.specs.Prelude.{ℕ, ◌++◌, List, [], ◌∷◌, Bool, true, false, Option, None, Some, Result, MatchResult, length, decimal}
+-- What is printed for a word, and the digits of bits; and what a fault says of the writer of a text.
+use Rattle.std.specs.Prelude.{ℕ, ◌-◌, ◌%◌, ◌++◌, List, [], ◌∷◌, Bool, true, false, Option, None, Some, Result, MatchResult, length, decimal}
 use Rattle.balise_lines.specs.Writing.{CountsFor, LastFailed, Never, NoneFailed, Reason, WritesAll, WritesSome}
 use Rattle.balise_lines.specs.declared.counted.Counted.{Counted}
 use Rattle.balise_rules.specs.Bits.{num, part, zeros}
-use Rattle.balise_rules.specs.Digits.{fill, hex_of}
+use Rattle.balise_rules.specs.Digits.{digits_in, fill, hex_of}
 use Rattle.balise_text.specs.Texts.{Text}
 use Rattle.balise_text.specs.Places.{tag_text, anchor_text, neighbour_text, telegram_path, packet_path}
 use Rattle.balise_text.specs.Reviews.{id_text}
@@ -39,9 +39,21 @@ word_or_none (Some w) = word_text w ∷ []
 abbrev pub padded : List Bool → List Bool
 padded b = b ++ zeros (fill (length b))
 
--- the value of the byte from a place on
-abbrev pub byte_at : ℕ → List Bool → ℕ
-byte_at at b = num (part at 8 (padded b))
+-- how many bits fill the last digit
+abbrev pub digit_fill : ℕ → ℕ
+digit_fill n = (4 - n % 4) % 4
+
+-- bits, and zeros up to a whole digit
+abbrev pub filled : List Bool → List Bool
+filled b = b ++ zeros (digit_fill (length b))
+
+-- the digits of bits, of which the last one alone is filled
+abbrev pub fours_of : List Bool → Text
+fours_of b = digits_in (filled b)
+
+-- the value of w bits from a place on, where zeros stand after the last bit
+abbrev pub value_at : ℕ → ℕ → List Bool → ℕ
+value_at at w b = num (part at w (b ++ zeros w))
 
 -- why a text wasn't written to its end, where the run ends with this fault
 abbrev pub reason_of : RunFault → Reason

@@ -169,19 +169,6 @@ fn read_add(alloc: Global, words: Words) -> Result<Command, Refusal>
     }
 }
 
-// A command without digits.
-#[inline(always)]
-fn or_bad_line(command: Option<Command>) -> Result<Command, Refusal>
-    ensures ok { IfOk result (λ c. or_bad (option_map Ok (option_map command_of command)) ≡ Ok (command_of c)) }
-    ensures fault { IfErr result (λ e. or_bad (option_map Ok (option_map command_of command)) ≡ Err e) }
-    ensures memory { IfErr result (λ e. e ≢ Refusal.OutOfMemory) }
-{
-    match command {
-        Some(command) => Ok(command),
-        None => Err(Refusal::BadLine),
-    }
-}
-
 /// The command of an edit whose words hold no digits.
 #[inline(always)]
 pub(crate) fn read_plain(kind: Option<Kind>, words: Words) -> Option<Command>
@@ -214,6 +201,6 @@ pub(crate) fn read_command(
     match kind {
         Some(Kind::Insert) => read_insert(alloc, words),
         Some(Kind::Add) => read_add(alloc, words),
-        _ => or_bad_line(read_plain(kind, words)),
+        _ => read_plain(kind, words).ok_or(Refusal::BadLine),
     }
 }

@@ -1,26 +1,27 @@
 //! Prints the digits of bits. No memory is taken.
 
-ghost use Rattle.std.specs.Prelude.{◌≡◌, ◌<◌, ◌%◌, length};
+ghost use Rattle.std.specs.Prelude.{◌≡◌, ◌<◌, ◌≤◌, ◌^◌, length};
 ghost use Rattle.balise_lines.specs.Writing.{Writes};
 ghost use Rattle.balise_rules.specs.Digits.{digit_of, hex_of};
-ghost use Rattle.balise_text.specs.Printing.{byte_at};
+ghost use Rattle.balise_text.specs.Printing.{fours_of, value_at};
 
 use balise_commands::Bits;
 use balise_lines::{Counted, WriteFault, put};
 use std::io::Write;
 
-// The byte from a place on, filled with zeros after the last bit.
-fn byte(bits: &Bits, at: usize) -> u8
+// The value of so many bits from a place on, where zeros stand after the last bit.
+fn value_at(bits: &Bits, at: usize, width: u32) -> u8
     requires within { at < length bits.now }
-    requires whole { at % 8 ≡ 0 }
-    ensures { result ≡ byte_at at bits.now }
+    requires narrow { width ≤ 8 }
+    ensures value { result ≡ value_at at width bits.now }
+    ensures fits { result < 2 ^ width }
 {
     let left = bits.len() - at;
-    if left >= 8 {
-        return bits.number(at, 8) as u8;
+    if left >= width as usize {
+        return bits.number(at, width) as u8;
     }
     let left = left as u32;
-    (bits.number(at, left) << (8 - left)) as u8
+    (bits.number(at, left) << (width - left)) as u8
 }
 
 // The lower-case digit of a value.
@@ -40,8 +41,20 @@ pub fn put_digits<W: Write>(writer: &mut Counted<W>, bits: &Bits) -> Result<(), 
     ensures { Writes W.contents writer.old writer.new result (hex_of bits.now) }
 {
     for place in 0..bits.len().div_ceil(8) {
-        let value = byte(bits, 8 * place);
+        let value = value_at(bits, 8 * place, 8);
         if let Err(fault) = put(writer, &[digit(value / 16), digit(value % 16)]) {
+            return Err(fault);
+        }
+    }
+    Ok(())
+}
+
+/// Writes the digits of bits in lower case, one for each four bits, the last one filled with zeros.
+pub fn put_fours<W: Write>(writer: &mut Counted<W>, bits: &Bits) -> Result<(), WriteFault>
+    ensures { Writes W.contents writer.old writer.new result (fours_of bits.now) }
+{
+    for place in 0..bits.len().div_ceil(4) {
+        if let Err(fault) = put(writer, &[digit(value_at(bits, 4 * place, 4))]) {
             return Err(fault);
         }
     }

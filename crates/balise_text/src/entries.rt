@@ -178,18 +178,6 @@ fn read_add(alloc: Global, serial: u32, words: Words) -> Result<Line, Refusal>
     }
 }
 
-// An entry without digits.
-fn or_bad_line(line: Option<Line>) -> Result<Line, Refusal>
-    ensures ok { IfOk result (λ l. or_bad (option_map Ok (option_map line_in line)) ≡ Ok (line_in l)) }
-    ensures fault { IfErr result (λ e. or_bad (option_map Ok (option_map line_in line)) ≡ Err e) }
-    ensures memory { IfErr result (λ e. e ≢ Refusal.OutOfMemory) }
-{
-    match line {
-        Some(line) => Ok(line),
-        None => Err(Refusal::BadLine),
-    }
-}
-
 /// What the words after the serial and the name of an entry say.
 pub(crate) fn read_entry(
     alloc: Global,
@@ -203,14 +191,14 @@ pub(crate) fn read_entry(
 {
     match kind {
         None => Err(Refusal::BadLine),
-        Some(Kind::Set) => or_bad_line(read_set(serial, words)),
-        Some(Kind::SetHead) => or_bad_line(read_set_head(serial, words)),
+        Some(Kind::Set) => read_set(serial, words).ok_or(Refusal::BadLine),
+        Some(Kind::SetHead) => read_set_head(serial, words).ok_or(Refusal::BadLine),
         Some(Kind::Insert) => read_insert(alloc, serial, words),
-        Some(Kind::Delete) => or_bad_line(read_delete(serial, words)),
-        Some(Kind::Move) => or_bad_line(read_move(serial, words)),
+        Some(Kind::Delete) => read_delete(serial, words).ok_or(Refusal::BadLine),
+        Some(Kind::Move) => read_move(serial, words).ok_or(Refusal::BadLine),
         Some(Kind::Add) => read_add(alloc, serial, words),
-        Some(Kind::Drop) => or_bad_line(read_drop(serial, words)),
-        Some(Kind::Renumber) => or_bad_line(read_renumber(serial, words)),
-        Some(Kind::Turn) => or_bad_line(read_turn(serial, words)),
+        Some(Kind::Drop) => read_drop(serial, words).ok_or(Refusal::BadLine),
+        Some(Kind::Renumber) => read_renumber(serial, words).ok_or(Refusal::BadLine),
+        Some(Kind::Turn) => read_turn(serial, words).ok_or(Refusal::BadLine),
     }
 }

@@ -6,6 +6,7 @@
 mod digit_checks;
 mod digit_words;
 mod kind;
+mod number;
 mod places;
 mod words;
 
@@ -35,10 +36,11 @@ pub use balise_commands::{Bits, Command, Id, Line, LineEdit, Noted, Tag, Var};
 pub use balise_lines::{Counted, WriteFault};
 pub use balise_rules::{Refusal, ReviewLine, Reviewed};
 pub use checks::check_request;
-pub use digits::put_digits;
+pub use digits::{put_digits, put_fours};
 pub use head::{Head, Version, read_head};
 pub use journal_line::{JournalLine, read_journal_line};
 pub use journal_text::{put_entry, put_head, put_undone};
+pub use number::read_number;
 pub use plan_line::{PlanLine, read_plan_line};
 pub use printing::put_texts;
 pub use replies::{put_bad, put_fault, put_reply};

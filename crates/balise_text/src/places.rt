@@ -3,7 +3,8 @@
 ghost use Rattle.std.specs.Prelude.{◌≡◌};
 ghost use Rattle.balise_text.specs.Places.{anchor_of, neighbour_of, packet_path_of, tag_of, tag_or, telegram_path_of};
 
-use crate::words::{Words, read_number};
+use crate::number::read_number;
+use crate::words::Words;
 use balise_rules::Tag;
 
 fn read_tag(word: &[u8]) -> Option<Tag>

@@ -68,19 +68,6 @@ pub(crate) fn read_other(name: &[u8], words: Words) -> Option<Option<Request>>
     None
 }
 
-// A command without digits.
-#[inline(always)]
-fn or_bad_line(request: Option<Request>) -> Result<Request, Refusal>
-    ensures ok { IfOk result (λ r. or_bad (option_map Ok (option_map call request)) ≡ Ok (call r)) }
-    ensures fault { IfErr result (λ e. or_bad (option_map Ok (option_map call request)) ≡ Err e) }
-    ensures memory { IfErr result (λ e. e ≢ Refusal.OutOfMemory) }
-{
-    match request {
-        Some(request) => Ok(request),
-        None => Err(Refusal::BadLine),
-    }
-}
-
 /// The command that a line, without its end, is.
 ///
 /// Refused: `BadLine` where the line is outside the grammar; then for the words of digits of `insert` and `add`
@@ -95,7 +82,7 @@ pub fn read_request(alloc: Global, line: &[u8]) -> Result<Request, Refusal>
         return Err(Refusal::BadLine);
     };
     if let Some(request) = read_other(name, words) {
-        return or_bad_line(request);
+        return request.ok_or(Refusal::BadLine);
     }
     match read_command(alloc, read_kind(name), words) {
         Ok(command) => Ok(Request::Edit(command)),

@@ -2,8 +2,9 @@
 
 ghost use Rattle.std.specs.Prelude.{◌≡◌, ◌==◌, ◌∷◌, ◌↔◌, [], IsTrue, MatchOption, position};
 ghost use Rattle.balise_rules.specs.Variables.{var_named};
-ghost use Rattle.balise_text.specs.Words.{id_of, no_more, number_of, parts_of, value_from, words_of};
+ghost use Rattle.balise_text.specs.Words.{id_of, no_more, number_of, parts_of, words_of};
 
+use crate::number::read_number;
 use balise_rules::{Id, Var};
 
 /// Where a byte stands first.
@@ -109,34 +110,6 @@ impl<'a> Words<'a> {
         let (word, rest) = self.next()?;
         let var = Var::from_bytes(word)?;
         Some((var, rest))
-    }
-}
-
-/// The value of digits, at most 4294967295.
-fn read_value(word: &[u8]) -> Option<u32>
-    ensures { result ≡ value_from 0 word.now }
-{
-    let mut value: u64 = 0;
-    for byte in word {
-        if !byte.is_ascii_digit() {
-            return None;
-        }
-        value = value * 10 + u64::from(*byte - b'0');
-        if value > 4_294_967_295 {
-            return None;
-        }
-    }
-    Some(value as u32)
-}
-
-/// The decimal number that a word is.
-pub(crate) fn read_number(word: &[u8]) -> Option<u32>
-    ensures { result ≡ number_of word.now }
-{
-    match word {
-        [] => None,
-        [b'0', _, ..] => None,
-        _ => read_value(word),
     }
 }
 

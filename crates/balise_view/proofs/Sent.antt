@@ -1,6 +1,7 @@
 -- What is sent: numbers, and the items of a list one after another.
 use Rattle.std.proofs.Common.{◌≡◌, ◌∙◌, ℕ, suc, List, [], ◌∷◌, length, map, Some, refl, sym, ap, subst}
-use Rattle.serde.specs.Event.{Log, Logs, seq_begins, seq_ends, unsigned}
+use Rattle.serde.specs.Event.{Log, Logs, field_key, seq_begins, seq_ends, unsigned}
+use Rattle.serde.specs.declared.name.Case.TheVariants.{AsIs}
 use Rattle.serde_json.specs.Data.{Data, array}
 use Rattle.serde_json.specs.Events.{items_len, SendsValue, SendsItems}
 use Rattle.serde_json.specs.View.{items_of}
@@ -24,6 +25,9 @@ all_sent d all left n old first last new none many begun so_far ended = (
   so_far new (subst (λ xs. SendsItems (items_of (map d xs)) last new) (sym none) ended),
 )
 
--- a number, under another name of it
-pub as_number : (old new : Log) (n m : ℕ) → n ≡ m → Logs old new (unsigned n) → Logs old new (unsigned m)
-as_number old new n m same sent = subst (λ k. Logs old new (unsigned k)) same sent
+-- a key and a number, under another name of the number, and then what follows
+pub number_member : {n m : ℕ} {Rest : Log → Type 0} (key : List ℕ) (old named mid : Log) → n ≡ m →
+    Logs old named (field_key key AsIs) → Logs named mid (unsigned n) → Rest mid →
+    (k v : Log) × Logs old k (field_key key AsIs) × Logs k v (unsigned m) × Rest v
+number_member key old named mid same key_sent sent rest =
+    (named, mid, key_sent, subst (λ k. Logs named mid (unsigned k)) same sent, rest)

@@ -1,13 +1,12 @@
 //! What any program's command line is made of.
 
-use balise_arguments::{ArgsFault, flag, is_used};
-use clap::Command;
+use balise_arguments::{ArgsFault, flag, is_used, plain_command};
 use std::alloc::Global;
 use std::process::Abort;
 
 /// Whether the words have `--long`, of a program with that argument alone.
 fn ask<'a>(rt: &impl Abort, alloc: Global, words: &'a [&'a str]) -> Result<bool, ArgsFault> {
-    let command = Command::new(alloc, "tests")
+    let command = plain_command(alloc, "tests", "Tests", "tests [--long]", "No more")
         .arg(flag(alloc, "long", "Says that it is long"))
         .expect(rt, "memory");
     match command.try_get_matches_from(words) {

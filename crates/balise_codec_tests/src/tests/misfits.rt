@@ -2,7 +2,7 @@
 
 use crate::tests::packets::{LINKS_VALUES, REVOCATION_VALUES};
 use balise_bits::Bits;
-use balise_codec::{Misfit, SpellFault, Var, find_misfit, spell_packet};
+use balise_codec::{Misfit, SpellFault, Var, find_misfit, misfit_of, spell_packet};
 use std::process::Abort;
 
 // Values of a packet of version 2.1, the place of the first misfit, and why it is one.
@@ -80,4 +80,13 @@ fn the_first_misfit_is_found(rt: HostRuntime) {
 fn what_is_due_fits(rt: HostRuntime) {
     assert!(rt; find_misfit(33, &REVOCATION_VALUES).is_none());
     assert!(rt; find_misfit(33, &LINKS_VALUES).is_none());
+}
+
+#[test]
+fn a_value_is_one_of_its_variable_or_not(rt: HostRuntime) {
+    assert!(rt; misfit_of(Var::QDir, &[]) == Some(Misfit::Missing(Var::QDir)));
+    let other = misfit_of(Var::QDir, &[(Var::NidC, 1), (Var::QDir, 1)]);
+    assert!(rt; other == Some(Misfit::NotDue(Var::QDir)));
+    assert!(rt; misfit_of(Var::QDir, &[(Var::QDir, 4)]) == Some(Misfit::TooWide));
+    assert!(rt; misfit_of(Var::QDir, &[(Var::QDir, 3), (Var::NidC, 1)]).is_none());
 }

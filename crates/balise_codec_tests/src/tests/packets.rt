@@ -1,7 +1,7 @@
 //! Packets spelt from their fields.
 
 use balise_bits::Bits;
-use balise_codec::{Misfit, SpellFault, Var, spell_given, spell_packet};
+use balise_codec::{Misfit, SpellFault, Var, spell_given, spell_packet, write_values};
 use std::alloc::Global;
 use std::process::Abort;
 
@@ -135,4 +135,11 @@ fn a_length_that_is_given_is_compared(rt: HostRuntime) {
     for (values, fault) in &GIVEN {
         assert!(rt; spell_given(rt.alloc(), 33, values, &none).err() == *fault);
     }
+}
+
+#[test]
+fn values_are_written_in_their_widths(rt: HostRuntime) {
+    let mut bits = first_bits(&rt, rt.alloc(), REVOCATION, 8);
+    assert!(rt; write_values(&mut bits, &[(Var::QDir, 1), (Var::LPacket, 31)]).is_ok());
+    assert!(rt; bits == first_bits(&rt, rt.alloc(), REVOCATION, 23));
 }

@@ -1,6 +1,6 @@
 //! Fields that are no telegram's, with the first reason.
 
-use crate::tests::packets::REVOCATION_VALUES;
+use crate::tests::packets::{REVOCATION_VALUES, first_bits};
 use balise_bits::Bits;
 use balise_codec::{
     Header, Misfit, PacketValues, SpellFault, TelegramMisfit, Var, explain_header, explain_packets,
@@ -10,30 +10,12 @@ use balise_telegram::TelegramFault;
 use std::alloc::Global;
 use std::process::Abort;
 
-const HEADER: Header = Header {
-    q_updown: 1,
-    m_version: 33,
-    q_media: 0,
-    n_pig: 0,
-    n_total: 0,
-    m_dup: 0,
-    m_mcount: 255,
-    nid_c: 5,
-    nid_bg: 100,
-    q_link: 1,
-};
-
-// The same, with one number that doesn't fit, or of a train.
-const WIDE: Header = Header {
-    n_total: 8,
-    nid_bg: 16384,
-    ..HEADER
-};
-
-const TRAIN: Header = Header {
-    q_updown: 0,
-    ..HEADER
-};
+// The header of a telegram of version 2.1.
+fn header_of(rt: &impl Abort, alloc: Global) -> Header {
+    let bits = first_bits(rt, alloc, "a1007f80a03250", 50);
+    assert!(rt; bits.len() >= 50);
+    Header::read(&bits)
+}
 
 fn packet_of(rt: &impl Abort, alloc: Global, values: &[(Var, u32)]) -> PacketValues {
     PacketValues {
@@ -64,23 +46,34 @@ fn fault_of(
 #[test]
 fn a_telegram_of_each_length_is_spelt(rt: HostRuntime) {
     let alloc = rt.alloc();
-    assert!(rt; fault_of(&rt, alloc, &HEADER, &[&REVOCATION_VALUES], 121).is_none());
-    assert!(rt; fault_of(&rt, alloc, &HEADER, &[], 772).is_none());
+    let header = header_of(&rt, alloc);
+    assert!(rt; fault_of(&rt, alloc, &header, &[&REVOCATION_VALUES], 121).is_none());
+    assert!(rt; fault_of(&rt, alloc, &header, &[], 772).is_none());
 }
 
 #[test]
 fn the_first_reason_is_told(rt: HostRuntime) {
     let alloc = rt.alloc();
+    let header = header_of(&rt, alloc);
+    let wide = Header {
+        n_total: 8,
+        nid_bg: 16384,
+        ..header
+    };
     let bad: &[(Var, u32)] = &[(Var::NidPacket, 66), (Var::QDir, 1)];
-    let wide = fault_of(&rt, alloc, &WIDE, &[bad], 0);
-    assert!(rt; wide == Some(TelegramMisfit::Header(Var::NTotal)));
-    let packet = fault_of(&rt, alloc, &TRAIN, &[&REVOCATION_VALUES, bad], 0);
+    let number = fault_of(&rt, alloc, &wide, &[bad], 0);
+    assert!(rt; number == Some(TelegramMisfit::Header(Var::NTotal)));
+    let train = Header {
+        q_updown: 0,
+        ..header
+    };
+    let packet = fault_of(&rt, alloc, &train, &[&REVOCATION_VALUES, bad], 0);
     let missing = SpellFault::Misfit(2, Misfit::Missing(Var::NidTsr));
     assert!(rt; packet == Some(TelegramMisfit::Packet(1, missing)));
-    let short = fault_of(&rt, alloc, &TRAIN, &[&REVOCATION_VALUES], 120);
+    let short = fault_of(&rt, alloc, &train, &[&REVOCATION_VALUES], 120);
     assert!(rt; short == Some(TelegramMisfit::BadLength(209)));
-    let train = fault_of(&rt, alloc, &TRAIN, &[&REVOCATION_VALUES], 121);
-    assert!(rt; train == Some(TelegramMisfit::NotABalise));
+    let other = fault_of(&rt, alloc, &train, &[&REVOCATION_VALUES], 121);
+    assert!(rt; other == Some(TelegramMisfit::NotABalise));
 }
 
 // Six bits after packet 66.

@@ -1,26 +1,15 @@
 //! The whole program over its words: what it writes on each stream, and what it ends with.
 
 use crate::tests::rows::{OTHERS, ROWS, Row};
-use balise_facts_cli::{Balisefacts, Counted, Exit, Refusal, launch, stop_without_memory};
+use balise_devices::arguments;
+use balise_facts_cli::{Balisefacts, Counted, Exit, Refusal, launch};
 use std::alloc::Global;
 use std::env::Args;
-use std::io;
-use std::io::{BufWriter, ErrorKind};
+use std::io::BufWriter;
 use std::process::Abort;
 
 fn buffered(rt: &impl Abort, alloc: Global) -> Counted<BufWriter<Vec<u8>>> {
     Counted::new(BufWriter::new(alloc, Vec::new(alloc)).expect(rt, "memory"))
-}
-
-/// The words as the system hands them over.
-fn owned(rt: &impl Abort, alloc: Global, words: &[&str]) -> Args {
-    let mut owned = Vec::new(alloc);
-    for word in words {
-        owned
-            .push(word.to_string(alloc).expect(rt, "memory"))
-            .expect(rt, "memory");
-    }
-    owned.into_iter()
 }
 
 fn check_exit(rt: &impl Abort, exit: Exit, code: u8, fault: Option<Refusal>) {
@@ -41,13 +30,13 @@ fn check_read(rt: &impl Abort, left: usize, row: &Row) {
     assert!(rt; (left < row.input.len()) == row.reads);
 }
 
-fn check_row(rt: &impl Abort, alloc: Global, row: &Row, arguments: io::Result<Args>) {
+fn check_row(rt: &impl Abort, alloc: Global, row: &Row, words: Args) {
     let mut reader = Counted::new(row.input.as_bytes());
     let mut writer = buffered(rt, alloc);
     let mut errors = Counted::new(Vec::new(alloc));
     let exit = launch::<Balisefacts, _, _, _>(
         alloc,
-        arguments,
+        Ok(words),
         &mut reader,
         &mut writer,
         &mut errors,
@@ -61,8 +50,8 @@ fn check_row(rt: &impl Abort, alloc: Global, row: &Row, arguments: io::Result<Ar
 #[test]
 fn words_with_an_input(rt: HostRuntime) {
     for row in ROWS.iter() {
-        let words = owned(&rt, rt.alloc(), row.words);
-        check_row(&rt, rt.alloc(), row, Ok(words));
+        let words = arguments(rt.alloc(), row.words).expect(&rt, "memory");
+        check_row(&rt, rt.alloc(), row, words);
     }
 }
 
@@ -70,7 +59,7 @@ fn check_other(rt: &impl Abort, alloc: Global, words: &[&str]) {
     let mut reader = Counted::new(b"plan 1\nedits\n".as_slice());
     let mut writer = buffered(rt, alloc);
     let mut errors = Counted::new(Vec::new(alloc));
-    let words = Ok(owned(rt, alloc, words));
+    let words = Ok(arguments(alloc, words).expect(rt, "memory"));
     let exit = launch::<Balisefacts, _, _, _>(alloc, words, &mut reader, &mut writer, &mut errors);
     check_exit(rt, exit, 64, None);
     check_output(rt, &writer, "");
@@ -82,40 +71,4 @@ fn other_words(rt: HostRuntime) {
     for words in OTHERS.iter() {
         check_other(&rt, rt.alloc(), *words);
     }
-}
-
-const NO_MEMORY: Row = Row {
-    words: &[],
-    input: "plan 1\nedits\n",
-    output: "",
-    errors: "fault 30 OutOfMemory\n",
-    code: 3,
-    fault: Some(Refusal::OutOfMemory),
-    reads: false,
-};
-
-const BAD_TEXT: Row = Row {
-    words: &[],
-    input: "plan 1\nedits\n",
-    output: "",
-    errors: "error: an argument is not UTF-8\n",
-    code: 64,
-    fault: None,
-    reads: false,
-};
-
-#[test]
-fn no_words(rt: HostRuntime) {
-    let none = io::Error::from(ErrorKind::OutOfMemory);
-    check_row(&rt, rt.alloc(), &NO_MEMORY, Err(none));
-    let bad = io::Error::from(ErrorKind::InvalidData);
-    check_row(&rt, rt.alloc(), &BAD_TEXT, Err(bad));
-}
-
-#[test]
-fn stops_without_memory(rt: HostRuntime) {
-    let mut errors = Counted::new(Vec::new(rt.alloc()));
-    let exit = stop_without_memory(&mut errors);
-    check_exit(&rt, exit, 3, Some(Refusal::OutOfMemory));
-    check_errors(&rt, &errors, "fault 30 OutOfMemory\n");
 }

@@ -161,20 +161,11 @@ fn each_tag(rt: HostRuntime) {
     check(&rt, rt.alloc(), &session, Facts::Tags, TAGS);
 }
 
-const FIFTH: &str = "\
-facts 1
-edit 5
-changes b0/2/n5
-changes b0/2/n4.after
-needs b0.turn
-dependent 6
-dependent 7
-dependent 8
-dependent 15
-";
-
+/// The fifth edit alone has the lines that it has among all.
 fn check_single(rt: &impl Abort, alloc: Global, session: &Session) {
-    check(rt, alloc, session, Facts::Edit(5), FIFTH);
+    let fifth = EDITS.split("edit ").nth(5).expect(rt, "five edits");
+    let text = format!(in alloc; "facts 1\nedit {fifth}").expect(rt, "memory");
+    check(rt, alloc, session, Facts::Edit(5), text.as_str());
     check(rt, alloc, session, Facts::Edit(0), "facts 1\n");
     check(rt, alloc, session, Facts::Edit(17), "facts 1\n");
 }

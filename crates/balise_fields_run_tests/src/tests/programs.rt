@@ -1,11 +1,10 @@
 //! The whole program over its words: what it writes on each stream, and what it ends with.
 
-use crate::tests::devices::{Narrow, Slow};
-use balise_fields_cli::{Balisefields, Exit, Refusal, launch, stop_without_memory};
+use balise_devices::{Failure, Narrow, Slow, arguments};
+use balise_fields_cli::{Balisefields, Exit, Refusal, launch};
 use balise_fields_run::Counted;
 use std::alloc::Global;
 use std::env::Args;
-use std::io;
 use std::io::{BufWriter, ErrorKind};
 use std::process::Abort;
 
@@ -136,30 +135,20 @@ const ROWS: &[Row] = &[
 
 /// A buffer over a writer that fails at the call of a number.
 fn buffered(rt: &impl Abort, alloc: Global, fails_at: u64) -> Counted<BufWriter<Narrow>> {
-    let narrow = Narrow::new(alloc, fails_at).into_inner();
+    let narrow = Narrow::new(alloc, 3, fails_at, Failure::Error(ErrorKind::Other)).into_inner();
     Counted::new(BufWriter::new(alloc, narrow).expect(rt, "memory"))
-}
-
-/// The words as the system hands them over.
-fn owned(rt: &impl Abort, alloc: Global, words: &[&str]) -> Args {
-    let mut owned = Vec::new(alloc);
-    for word in words {
-        owned
-            .push(word.to_string(alloc).expect(rt, "memory"))
-            .expect(rt, "memory");
-    }
-    owned.into_iter()
 }
 
 fn launch_row(
     alloc: Global,
     row: &Row,
-    arguments: io::Result<Args>,
+    words: Args,
     writer: &mut Counted<BufWriter<Narrow>>,
     errors: &mut Counted<Vec<u8>>,
 ) -> Exit {
-    let mut reader = Slow::new(row.input.as_bytes(), 4096, row.fails_at.0);
-    launch::<Balisefields, _, _, _>(alloc, arguments, &mut reader, writer, errors)
+    let input = row.input.as_bytes();
+    let mut reader = Slow::failing(input, 4096, row.fails_at.0, ErrorKind::Other);
+    launch::<Balisefields, _, _, _>(alloc, Ok(words), &mut reader, writer, errors)
 }
 
 fn check_exit(rt: &impl Abort, exit: Exit, code: u8, fault: Option<Refusal>) {
@@ -176,10 +165,10 @@ fn check_output(rt: &impl Abort, writer: &Counted<BufWriter<Narrow>>, text: &str
     assert!(rt; writer.inner().get_ref().text.as_slice() == text.as_bytes());
 }
 
-fn check_row(rt: &impl Abort, alloc: Global, row: &Row, arguments: io::Result<Args>) {
+fn check_row(rt: &impl Abort, alloc: Global, row: &Row, words: Args) {
     let mut writer = buffered(rt, alloc, row.fails_at.1);
     let mut errors = Counted::new(Vec::new(alloc));
-    let exit = launch_row(alloc, row, arguments, &mut writer, &mut errors);
+    let exit = launch_row(alloc, row, words, &mut writer, &mut errors);
     check_exit(rt, exit, row.code, row.fault);
     check_output(rt, &writer, row.output);
     check_errors(rt, &errors, row.errors);
@@ -188,8 +177,8 @@ fn check_row(rt: &impl Abort, alloc: Global, row: &Row, arguments: io::Result<Ar
 #[test]
 fn words_with_an_input(rt: HostRuntime) {
     for row in ROWS.iter() {
-        let words = owned(&rt, rt.alloc(), row.words);
-        check_row(&rt, rt.alloc(), row, Ok(words));
+        let words = arguments(rt.alloc(), row.words).expect(&rt, "memory");
+        check_row(&rt, rt.alloc(), row, words);
     }
 }
 
@@ -212,8 +201,8 @@ const OTHERS: &[&[&str]] = &[
 fn check_other(rt: &impl Abort, alloc: Global, words: &[&str], row: &Row) {
     let mut writer = buffered(rt, alloc, 1);
     let mut errors = Counted::new(Vec::new(alloc));
-    let words = owned(rt, alloc, words);
-    let exit = launch_row(alloc, row, Ok(words), &mut writer, &mut errors);
+    let words = arguments(alloc, words).expect(rt, "memory");
+    let exit = launch_row(alloc, row, words, &mut writer, &mut errors);
     check_exit(rt, exit, 64, None);
     check_output(rt, &writer, "");
     assert!(rt; errors.inner().as_slice().starts_with(b"error: "));
@@ -224,40 +213,4 @@ fn other_words(rt: HostRuntime) {
     for words in OTHERS.iter() {
         check_other(&rt, rt.alloc(), *words, &ROWS[9]);
     }
-}
-
-const NO_MEMORY: Row = Row {
-    words: &[],
-    input: "group\n",
-    fails_at: NO_CALL,
-    output: "",
-    errors: "fault 30 OutOfMemory\n",
-    code: 3,
-    fault: Some(Refusal::OutOfMemory),
-};
-
-const BAD_TEXT: Row = Row {
-    words: &[],
-    input: "group\n",
-    fails_at: NO_CALL,
-    output: "",
-    errors: "error: an argument is not UTF-8\n",
-    code: 64,
-    fault: None,
-};
-
-#[test]
-fn no_words(rt: HostRuntime) {
-    let none = io::Error::from(ErrorKind::OutOfMemory);
-    check_row(&rt, rt.alloc(), &NO_MEMORY, Err(none));
-    let bad = io::Error::from(ErrorKind::InvalidData);
-    check_row(&rt, rt.alloc(), &BAD_TEXT, Err(bad));
-}
-
-#[test]
-fn stops_without_memory(rt: HostRuntime) {
-    let mut errors = Counted::new(Vec::new(rt.alloc()));
-    let exit = stop_without_memory(&mut errors);
-    check_exit(&rt, exit, 3, Some(Refusal::OutOfMemory));
-    check_errors(&rt, &errors, "fault 30 OutOfMemory\n");
 }

@@ -1,7 +1,7 @@
 //! Readers that fail.
 
-use crate::tests::devices::Slow;
 use crate::tests::ends::{LAST, LINE};
+use balise_devices::Slow;
 use balise_lines::{Counted, LineFault, Lines, Next};
 use std::io;
 use std::process::Abort;

@@ -1,7 +1,8 @@
 //! The longest line and the longest input.
 
-use crate::tests::devices::{Pattern, Slow};
 use crate::tests::ends::{LAST, LINE};
+use crate::tests::pattern::Pattern;
+use balise_devices::Slow;
 use balise_lines::{LineFault, Lines, Next};
 use std::process::Abort;
 

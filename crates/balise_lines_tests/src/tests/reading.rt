@@ -1,7 +1,7 @@
 //! Lines by readers that give a few bytes at a time.
 
-use crate::tests::devices::Slow;
 use crate::tests::ends::{LAST, LINE};
+use balise_devices::Slow;
 use balise_lines::{Counted, Lines, Next};
 use std::process::Abort;
 

@@ -1,6 +1,6 @@
 //! Texts by a writer that takes three bytes a call, and what is counted.
 
-use crate::tests::devices::{Failure, Narrow};
+use balise_devices::{Failure, Narrow};
 use balise_lines::{Counted, LineFault, WriteFault, put};
 use std::alloc::Global;
 use std::io;
@@ -25,7 +25,7 @@ fn check_done(rt: &impl Abort, writer: &Counted<Narrow>) {
 }
 
 fn check_write(rt: &impl Abort, alloc: Global, failure: Failure, fails_at: u64) {
-    let mut writer = Narrow::new(alloc, fails_at, failure);
+    let mut writer = Narrow::new(alloc, 3, fails_at, failure);
     let done = put(&mut writer, TEXT);
     if fails_at <= 6 {
         assert!(rt; done == Err(WriteFault::Write));
@@ -49,7 +49,7 @@ fn each_write_fails(rt: HostRuntime) {
 
 #[test]
 fn empty_text(rt: HostRuntime) {
-    let mut writer = Narrow::new(rt.alloc(), 1, Failure::TakesNone);
+    let mut writer = Narrow::new(rt.alloc(), 3, 1, Failure::TakesNone);
     assert!(rt; put(&mut writer, b"") == Ok(()));
     assert!(rt; writer.inner().calls == 0);
 }
@@ -72,20 +72,20 @@ fn check_flush(rt: &impl Abort, writer: &mut Counted<Narrow>) {
 
 #[test]
 fn counts(rt: HostRuntime) {
-    let mut writer = Narrow::new(rt.alloc(), 2, Failure::TakesNone);
+    let mut writer = Narrow::new(rt.alloc(), 3, 2, Failure::TakesNone);
     check_writes(&rt, &mut writer);
 }
 
 #[test]
 fn counts_a_flush(rt: HostRuntime) {
-    let mut writer = Narrow::new(rt.alloc(), 1, Failure::TakesNone);
+    let mut writer = Narrow::new(rt.alloc(), 3, 1, Failure::TakesNone);
     check_flush(&rt, &mut writer);
     assert!(rt; writer.into_inner().calls == 1);
 }
 
 /// The text in a buffer, over a writer that takes three bytes a call.
 fn buffered(rt: &impl Abort, alloc: Global, fails_at: u64) -> Counted<BufWriter<Narrow>> {
-    let narrow = Narrow::new(alloc, fails_at, Failure::TakesNone).into_inner();
+    let narrow = Narrow::new(alloc, 3, fails_at, Failure::TakesNone).into_inner();
     let mut writer = Counted::new(BufWriter::new(alloc, narrow).expect(rt, "memory"));
     put(&mut writer, TEXT).expect(rt, "memory");
     writer

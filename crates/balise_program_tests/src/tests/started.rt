@@ -2,6 +2,7 @@
 
 ghost use Rattle.std.specs.Prelude.{⊤};
 
+use balise_devices::arguments;
 use balise_program::{ArgsFault, Counted, Exit, Program, Refusal, launch, start};
 use std::alloc::Global;
 use std::env::Args;
@@ -74,41 +75,40 @@ fn words_are_asked_and_done(rt: HostRuntime) {
     }
 }
 
-fn launch_row(
-    rt: &impl Abort,
-    alloc: Global,
-    arguments: io::Result<Args>,
-    errors: &mut Text,
-) -> Exit {
+fn launch_row(rt: &impl Abort, alloc: Global, words: io::Result<Args>, errors: &mut Text) -> Exit {
     let mut reader = Counted::new(b"".as_slice());
     let mut writer = buffered(rt, alloc);
-    launch::<CountsWords, _, _, _>(alloc, arguments, &mut reader, &mut writer, errors)
-}
-
-fn owned(rt: &impl Abort, alloc: Global, words: &[&str]) -> Args {
-    let mut owned = Vec::new(alloc);
-    for word in words {
-        let word = String::from_str(alloc, *word).expect(rt, "memory");
-        owned.push(word).expect(rt, "memory");
-    }
-    owned.into_iter()
+    launch::<CountsWords, _, _, _>(alloc, words, &mut reader, &mut writer, errors)
 }
 
 #[test]
 fn words_of_the_system(rt: HostRuntime) {
     for (words, code, fault, text) in ROWS.iter() {
         let mut errors = Counted::new(Vec::new(rt.alloc()));
-        let arguments = owned(&rt, rt.alloc(), *words);
-        let exit = launch_row(&rt, rt.alloc(), Ok(arguments), &mut errors);
+        let words = arguments(rt.alloc(), *words).expect(&rt, "memory");
+        let exit = launch_row(&rt, rt.alloc(), Ok(words), &mut errors);
         check_end(&rt, exit, &errors, (*code, *fault, *text));
     }
 }
 
+/// That a command line that can't be had ends the program so, without a run.
+fn check_no_words(
+    rt: &impl Abort,
+    alloc: Global,
+    kind: ErrorKind,
+    wanted: (u8, Option<Refusal>, &str),
+) {
+    let mut errors = Counted::new(Vec::new(alloc));
+    let exit = launch_row(rt, alloc, Err(io::Error::from(kind)), &mut errors);
+    check_end(rt, exit, &errors, wanted);
+}
+
 #[test]
-fn words_that_are_no_text(rt: HostRuntime) {
-    let mut errors = Counted::new(Vec::new(rt.alloc()));
-    let arguments = Err(io::Error::from(ErrorKind::InvalidInput));
-    let exit = launch_row(&rt, rt.alloc(), arguments, &mut errors);
-    let wanted = "error: an argument is not UTF-8\n";
-    check_end(&rt, exit, &errors, (64, None, wanted));
+fn no_words(rt: HostRuntime) {
+    let alloc = rt.alloc();
+    let none = (3, Some(Refusal::OutOfMemory), "fault 30 OutOfMemory\n");
+    check_no_words(&rt, alloc, ErrorKind::OutOfMemory, none);
+    let bad = (64, None, "error: an argument is not UTF-8\n");
+    check_no_words(&rt, alloc, ErrorKind::InvalidInput, bad);
+    check_no_words(&rt, alloc, ErrorKind::InvalidData, bad);
 }

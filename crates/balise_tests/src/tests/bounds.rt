@@ -1,6 +1,6 @@
 //! The longest line, the longest input, and the most commands.
 
-use crate::tests::devices::{Repeated, Tally};
+use crate::tests::repeated::{Repeated, Tally};
 use crate::tests::runs::{PLAIN, QUIET, check_ended, check_text, run_often};
 use balise_cli::{Counted, RunFault, Status, run};
 use std::alloc::Global;

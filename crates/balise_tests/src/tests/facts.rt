@@ -1,8 +1,8 @@
 //! Runs that print facts of the session in place of the plan.
 
-use crate::tests::devices::{Failure, Narrow, Slow};
 use crate::tests::runs::{check_ended, check_text};
 use balise_cli::{Counted, Facts, RunFault, Status, run_facts, work_facts};
+use balise_devices::{Failure, Narrow, Slow};
 use std::alloc::Global;
 use std::io::BufWriter;
 use std::process::Abort;
@@ -72,7 +72,7 @@ fn work_row(alloc: Global, row: &Row, writer: &mut Counted<BufWriter<Narrow>>) -
 
 /// The same with a flush, to a writer that takes three bytes a call, and fails at the call of a number.
 fn check_work(rt: &impl Abort, alloc: Global, row: &Row, fails_at: u64, text: &str, code: u8) {
-    let narrow = Narrow::new(alloc, 3, fails_at, Failure::Nothing).into_inner();
+    let narrow = Narrow::new(alloc, 3, fails_at, Failure::TakesNone).into_inner();
     let mut writer = Counted::new(BufWriter::new(alloc, narrow).expect(rt, "memory"));
     assert!(rt; work_row(alloc, row, &mut writer) == code);
     assert!(rt; writer.inner().get_ref().text.as_slice() == text.as_bytes());

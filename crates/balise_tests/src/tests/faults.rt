@@ -1,8 +1,8 @@
 //! Readers that give few bytes a call and writers that take few, and each call of either failing in turn.
 
-use crate::tests::devices::{Failure, Narrow, Slow};
 use crate::tests::runs::{JOURNAL, PLAIN, check_ended, check_text};
 use balise_cli::{Counted, Flags, RunFault, Status, run};
+use balise_devices::{Failure, Narrow, Slow};
 use std::alloc::Global;
 use std::io::ErrorKind;
 use std::process::Abort;
@@ -110,7 +110,7 @@ fn reads_of(rt: &impl Abort, alloc: Global, case: &Case, step: usize) -> u64 {
 
 /// Runs with writes of so many bytes, and returns how many there were.
 fn writes_of(rt: &impl Abort, alloc: Global, case: &Case, step: usize) -> u64 {
-    let mut writer = Narrow::new(alloc, step, 0, Failure::Nothing);
+    let mut writer = Narrow::new(alloc, step, 0, Failure::TakesNone);
     check_ended(rt, write(alloc, case, &mut writer), case.status);
     check_narrow(rt, &writer, output(rt, alloc, case).as_bytes());
     writer.inner().calls
@@ -214,7 +214,7 @@ fn fail_writes(rt: &impl Abort, alloc: Global, case: &Case, whole: &[u8], step: 
             call,
             Failure::Error(interrupted),
         );
-        fail_write(rt, alloc, case, whole, step, call, Failure::Nothing);
+        fail_write(rt, alloc, case, whole, step, call, Failure::TakesNone);
     }
 }
 

@@ -1,8 +1,8 @@
 //! The whole program over its words: what it writes on each stream, and what it ends with.
 
-use crate::tests::devices::{Failure, Narrow, Slow};
 use crate::tests::runs::PLAIN;
 use balise_cli::{Counted, Exit, Refusal, launch, report, start, stop_without_memory, work};
+use balise_devices::{Failure, Narrow, Slow, arguments};
 use std::alloc::Global;
 use std::env::Args;
 use std::io;
@@ -73,7 +73,7 @@ const ROWS: &[Row] = &[
 
 /// A buffer over a writer that fails at the call of a number.
 fn buffered(rt: &impl Abort, alloc: Global, fails_at: u64) -> Counted<BufWriter<Narrow>> {
-    let narrow = Narrow::new(alloc, 4096, fails_at, Failure::Nothing).into_inner();
+    let narrow = Narrow::new(alloc, 4096, fails_at, Failure::TakesNone).into_inner();
     Counted::new(BufWriter::new(alloc, narrow).expect(rt, "memory"))
 }
 
@@ -104,22 +104,12 @@ fn start_row(
 fn launch_row(
     alloc: Global,
     row: &Row,
-    arguments: io::Result<Args>,
+    words: io::Result<Args>,
     writer: &mut Counted<BufWriter<Narrow>>,
     errors: &mut Counted<Vec<u8>>,
 ) -> Exit {
     let mut reader = Slow::new(row.input.as_bytes(), 4096);
-    launch(alloc, arguments, &mut reader, writer, errors)
-}
-
-fn owned(rt: &impl Abort, alloc: Global, words: &[&str]) -> Args {
-    let mut owned = Vec::new(alloc);
-    for word in words {
-        owned
-            .push(word.to_string(alloc).expect(rt, "memory"))
-            .expect(rt, "memory");
-    }
-    owned.into_iter()
+    launch(alloc, words, &mut reader, writer, errors)
 }
 
 fn check_started(rt: &impl Abort, alloc: Global, row: &Row) {
@@ -137,7 +127,7 @@ fn check_started(rt: &impl Abort, alloc: Global, row: &Row) {
 fn check_launched(rt: &impl Abort, alloc: Global, row: &Row) {
     let mut writer = buffered(rt, alloc, 0);
     let mut errors = Counted::new(Vec::new(alloc));
-    let words = Ok(owned(rt, alloc, row.words));
+    let words = Ok(arguments(alloc, row.words).expect(rt, "memory"));
     check_exit(
         rt,
         launch_row(alloc, row, words, &mut writer, &mut errors),

@@ -1,7 +1,8 @@
 //! Runs over an input, with what they print and end with.
 
-use crate::tests::devices::{Repeated, Slow};
+use crate::tests::repeated::Repeated;
 use balise_cli::{Counted, Flags, RunFault, Status, run};
+use balise_devices::Slow;
 use std::alloc::Global;
 use std::process::Abort;
 

@@ -1,7 +1,8 @@
 //! Lines of commands and of plans.
 
 use balise_text::{
-    Bits, Command, Id, PlanLine, Refusal, Request, Var, check_request, read_plan_line, read_request,
+    Bits, Command, Id, PlanLine, Refusal, Request, Var, check_request, read_number, read_plan_line,
+    read_request,
 };
 use std::alloc::Global;
 use std::process::Abort;
@@ -339,5 +340,24 @@ fn check_known(rt: &impl Abort, line: &str, known: PlanLine) {
 fn lines_of_a_plan(rt: HostRuntime) {
     for (line, known) in PLAN_LINES.iter() {
         check_known(&rt, *line, *known);
+    }
+}
+
+const NUMBERS: &[(&str, Option<u32>)] = &[
+    ("0", Some(0)),
+    ("4294967295", Some(4_294_967_295)),
+    ("4294967296", None),
+    ("99999999999", None),
+    ("00", None),
+    ("01", None),
+    ("-1", None),
+    ("1a", None),
+    ("", None),
+];
+
+#[test]
+fn decimal_numbers(rt: HostRuntime) {
+    for (word, number) in NUMBERS.iter() {
+        assert!(rt; read_number(word.as_bytes()) == *number);
     }
 }

@@ -2,7 +2,7 @@
 
 use balise_text::{
     Bits, Counted, Id, Refusal, Reply, ReviewLine, Reviewed, Var, put_bad, put_digits, put_fault,
-    put_reply, put_review, put_texts,
+    put_fours, put_reply, put_review, put_texts,
 };
 use std::alloc::Global;
 use std::process::Abort;
@@ -94,4 +94,27 @@ fn digits(rt: HostRuntime) {
     let text = "a1007f80a0327fffffffffffffffffffffffffffffffffffffffc0";
     let bits = Bits::from_hex(rt.alloc(), text, 210).expect(&rt, "memory");
     put_digits_and_texts(&rt, &mut writer, &bits);
+}
+
+/// Digits, how many bits they are, and the same bits in whole digits.
+const FOURS: &[(&str, usize, &str)] = &[
+    ("", 0, ""),
+    ("80", 1, "8"),
+    ("f0", 4, "f"),
+    ("a8", 5, "a8"),
+    ("0123456780", 36, "012345678"),
+];
+
+fn check_fours(rt: &impl Abort, bits: &Bits, wanted: &str) {
+    let mut writer = Counted::new(Vec::new(bits.allocator()));
+    put_fours(&mut writer, bits).expect(rt, "memory");
+    check_text(rt, &writer, wanted);
+}
+
+#[test]
+fn digits_of_four_bits(rt: HostRuntime) {
+    for (text, len, wanted) in FOURS.iter() {
+        let bits = Bits::from_hex(rt.alloc(), *text, *len).expect(&rt, "memory");
+        check_fours(&rt, &bits, *wanted);
+    }
 }

@@ -3,7 +3,7 @@ use Rattle.std.proofs.KnownBytes.{Appends-nil}
 use Rattle.balise_rules.specs.Session.{Reply}
 use Rattle.balise_lines.specs.declared.counted.Counted.{Counted}
 use Rattle.balise_lines.specs.Writing.{LastFailed, WritesAll, WritesSome}
-use Rattle.balise_cli.proofs.TextsBehind.{behind, some_front_of}
+use Rattle.balise_text.proofs.TextsBehind.{behind, some_front_of}
 use Rattle.balise_text.specs.Answers.{reply_of}
 use Rattle.balise_text.specs.Replies.{is_refused, reply_line}
 use Rattle.balise_text.specs.Reviews.{review_line}

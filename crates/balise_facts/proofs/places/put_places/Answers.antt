@@ -1,7 +1,5 @@
-use Rattle.balise_edits.specs.Places.{path_of}
-use Rattle.balise_lines.specs.Writing.{LastFailed}
+-- The lines of places are written one after another.
 use Rattle.balise_lines.proofs.PartsWritten.{wrote_none, wrote_more, wrote_some}
-use Rattle.balise_facts.specs.FactTexts.{place_line}
 use Rattle.balise_facts.proofs.Sequences.{mapped_text}
 use Rattle.balise_facts.proofs.places.put_places.Goals as goal
 
@@ -10,10 +8,8 @@ loop-place-init g c = wrote_none _ _ _
 
 pub loop-place-preserved : goal.loop-place-preserved
 loop-place-preserved g c =
-    wrote_more _ _ _ _ _ _ _ _ (mapped_text (place_line c.args.name.now) path_of c.args.places.now
-    c.loop-place.place-index _ c.loop-place-test.true) c.loop-place.invariant c.in_default.ensures
+    wrote_more _ _ _ _ _ _ _ _ (mapped_text _ _ _ _ _ c.loop-place-test.true) c.loop-place.invariant c.in_default.ensures
 
 pub returns-in-Err : goal.returns-in-Err
 returns-in-Err g c =
-    wrote_some LastFailed _ _ _ _ _ _ _ _ (mapped_text (place_line c.args.name.now) path_of c.args.places.now
-    c.loop-place.place-index _ c.loop-place-test.true) c.loop-place.invariant c.in-Err.ensures
+    wrote_some _ _ _ _ _ _ _ _ _ (mapped_text _ _ _ _ _ c.loop-place-test.true) c.loop-place.invariant c.in-Err.ensures

@@ -1,5 +1,5 @@
+-- The lines of groups are written one after another.
 use Rattle.std.proofs.Common.{◌≤◌, length, arith}
-use Rattle.balise_lines.specs.Writing.{LastFailed}
 use Rattle.balise_lines.proofs.PartsWritten.{wrote_none, wrote_more, wrote_some, wrote_all}
 use Rattle.balise_text.proofs.Lists.{no_text_left}
 use Rattle.balise_facts.specs.TagTexts.{group_lines}
@@ -11,14 +11,13 @@ loop-place-init g c = wrote_none _ _ _
 
 pub returns-in-Err : goal.returns-in-Err
 returns-in-Err g c =
-    wrote_some LastFailed _ _ _ _ _ _ _ _ (text_at group_lines c.args.plan.now.groups c.loop-place.place
-    (c.in-Some.tag, c.in-Some.group.now) c.in-Some.ensures) c.loop-place.invariant c.in-Err.ensures
+    let next = text_at group_lines c.args.plan.now.groups c.loop-place.place _ c.in-Some.ensures in
+    wrote_some _ _ _ _ _ _ _ _ _ next c.loop-place.invariant c.in-Err.ensures
 
 pub loop-place-preserved : goal.loop-place-preserved
 loop-place-preserved g c =
-    wrote_more _ _ _ _ _ _ _ _ (text_at group_lines c.args.plan.now.groups c.loop-place.place
-    (c.in-Some.tag, c.in-Some.group.now) c.in-Some.ensures) c.loop-place.invariant
-    c.in_default-put_group_lines.ensures
+    let next = text_at group_lines c.args.plan.now.groups c.loop-place.place _ c.in-Some.ensures in
+    wrote_more _ _ _ _ _ _ _ _ next c.loop-place.invariant c.in_default-put_group_lines.ensures
 
 pub returns-after-loop-place : goal.returns-after-loop-place
 returns-after-loop-place g c =
@@ -27,5 +26,6 @@ returns-after-loop-place g c =
     wrote_all _ _ _ _ _ (no_text_left group_lines c.args.plan.now.groups c.loop-place.place past) c.loop-place.invariant
 
 pub returns-in_default : goal.returns-in_default
-returns-in_default g c = wrote_all _ _ _ _ _ (no_text_at group_lines c.args.plan.now.groups c.loop-place.place
-    c.in_default.ensures) c.loop-place.invariant
+returns-in_default g c =
+    wrote_all _ _ _ _ _ (no_text_at group_lines c.args.plan.now.groups c.loop-place.place c.in_default.ensures)
+    c.loop-place.invariant

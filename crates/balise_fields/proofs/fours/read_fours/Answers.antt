@@ -1,7 +1,7 @@
 use Rattle.std.proofs.Common.{◌≡◌, ◌∙◌, ◌+◌, ◌-◌, ◌*◌, Some, length, sym, arith}
 use Rattle.balise_rules.specs.Digits.{digit_bits}
 use Rattle.balise_bits.proofs.Digits.{length-digit_bits}
-use Rattle.balise_fields.specs.Fours.{digit_fill}
+use Rattle.balise_text.specs.Printing.{digit_fill}
 use Rattle.balise_fields.proofs.FoursRead.{are_read, bad_count, spare_bits}
 use Rattle.balise_fields.proofs.fours.read_fours.Goals as goal
 

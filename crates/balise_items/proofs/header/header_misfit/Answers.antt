@@ -8,11 +8,11 @@ pub loop-place-init : goal.loop-place-init
 loop-place-init c = (omega arith, ap (λ (f : Form). misfit_along f 0 c.args.values.now) header_plains)
 
 pub returns-in-Some-clause-first : goal.returns-in-Some-clause-first
-returns-in-Some-clause-first c = stops_at c.args.values.now c.loop-place.place c.in-Some.misfit c.loop-place-test.true (sym c.first_misfit.ensures ∙ c.in-Some.is) c.loop-place.invariant.1
+returns-in-Some-clause-first c = stops_at c.args.values.now c.loop-place.place c.in-Some.misfit c.loop-place-test.true (sym c.misfit_of.ensures ∙ c.in-Some.is) c.loop-place.invariant.1
 
 pub loop-place-preserved : goal.loop-place-preserved
 loop-place-preserved c =
-    let none = sym c.first_misfit.ensures ∙ c.in_default.is in (
+    let none = sym c.misfit_of.ensures ∙ c.in_default.is in (
       value_within (here c.loop-place.place) c.args.values.now c.loop-place.place none,
       one_on c.args.values.now c.loop-place.place c.loop-place-test.true none c.loop-place.invariant.1,
     )

@@ -1,9 +1,16 @@
-use Rattle.balise_program.proofs.Reported.{reports}
+use Rattle.std.proofs.Common.{◌∙◌, Ok, Err, refl}
 use Rattle.balise_program.proofs.starting.start.Goals as goal
 
-pub returns : goal.returns
-returns g c = record {
-  between = c.do_words-exit.new.errors;
-  does = c.do_words-exit.ensures;
-  reports = reports g.E.Write.contents _ _ c.report.result c.do_words-exit.result c.report.ensures;
+pub returns-in-Ok : goal.returns-in-Ok
+returns-in-Ok g c = record {
+  between = c.args.errors.now;
+  does = record { asked = Ok c.in-Ok.asked; asked_so = c.in-Ok.ensures; does = (rw c.report_end.ensures.same c.work-exit.ensures, refl) };
+  reports = c.report_end.ensures.reports;
+}
+
+pub returns-in-Err : goal.returns-in-Err
+returns-in-Err g c = record {
+  between = c.show.new.errors;
+  does = record { asked = Err c.in-Err.fault; asked_so = c.in-Err.ensures; does = (c.report_end-in-Err.ensures.same ∙ c.exit_after_arguments.ensures, refl, c.show.ensures) };
+  reports = c.report_end-in-Err.ensures.reports;
 }

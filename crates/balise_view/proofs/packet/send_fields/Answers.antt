@@ -1,16 +1,15 @@
-use Rattle.std.proofs.Common.{◌≡◌, [], length, drop, ap, rules}
+-- The fields of a packet are sent as the items of a list.
+use Rattle.std.proofs.Common.{◌≡◌, length, ap, rules}
 use Rattle.std.proofs.lemmas.List.{drop_all, length-map}
 use Rattle.std.proofs.lemmas.Result.{on_ok_weaker}
 use Rattle.balise_layout.specs.Collected.{all_keyed}
-use Rattle.balise_view.specs.Given.{field_data}
 use Rattle.balise_view.proofs.Sent.{all_sent}
 use Rattle.balise_view.proofs.packet.send_fields.Goals as goal
 
 pub returns : goal.returns
 returns g c =
-    let written = g.S.Serializer.written in
     let xs = c.args.fields.now in
     let many : length xs ≡ length (all_keyed xs) = search (rules, length-map) in
-    let none : all_keyed (drop c.loop-var.var-index xs) ≡ [] = ap all_keyed (drop_all c.loop-var.var-index xs c.loop-var-test.false) in
-    on_ok_weaker c.end_seq.result (all_sent field_data (all_keyed xs) (all_keyed (drop c.loop-var.var-index xs)) (length xs) (written c.args.out.now) (written c.begin_seq.new.self) (written c.loop-var.out) (written c.end_seq.new.self)
-    none many c.in_ok-begin_seq.ensures c.loop-var.invariant) c.end_seq.ensures
+    let none = ap all_keyed (drop_all c.loop-var.var-index xs c.loop-var-test.false) in
+    on_ok_weaker c.end_seq.result
+    (all_sent _ _ _ _ _ _ _ _ none many c.in_ok-begin_seq.ensures c.loop-var.invariant) c.end_seq.ensures

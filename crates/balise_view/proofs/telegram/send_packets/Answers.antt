@@ -1,3 +1,4 @@
+-- The packets of a telegram are sent as the items of a list.
 use Rattle.std.proofs.Common.{◌≡◌, ◌∙◌, Bool, ap, subst, rules}
 use Rattle.std.proofs.lemmas.Result.{on_ok_weaker}
 use Rattle.serde_json.specs.Data.{Data}
@@ -16,14 +17,13 @@ loop-packet-preserved g c =
     let x = c.in-Some.packet in
     let fs = all_keyed c.as_slice.result.now in
     let told : fs ≡ x.fields = search rules in
-    let shown : fields_data c.is_known.result fs ≡ packet_data (version_of y) x = ap (λ (k : Bool). fields_data k fs) c.is_known.ensures ∙ found_data c.version-version.result (version_of y) c.number.result fs x c.version-version.ensures c.number.ensures told in
-    one_sent (λ p. packet_data (version_of y) p.1) y.packets c.loop-packet.packet-iterator c.next.new.self (c.in-Some.field-0-0, x) (written c.begin_seq.new.self) (written c.loop-packet.out) (written c.serialize.new.out)
-    c.in-Some.ensures.steps c.loop-packet.invariant
-    (subst (λ (d : Data). SendsValue d (written c.loop-packet.out) (written c.serialize.new.out)) shown c.in_ok-serialize.ensures)
+    let shown : fields_data c.is_known.result fs ≡ packet_data (version_of y) x = ap (λ (k : Bool). fields_data k fs)
+    c.is_known.ensures ∙ found_data _ _ _ fs x c.version-version.ensures c.number.ensures told in
+    one_sent _ _ _ _ (c.in-Some.field-0-0, x) _ _ _ c.in-Some.ensures.steps c.loop-packet.invariant
+    (subst (λ (d : Data). SendsValue d (written c.loop-packet.out) (written c.serialize.new.out)) shown
+    c.in_ok-serialize.ensures)
 
 pub returns : goal.returns
-returns g c =
-    let written = g.S.Serializer.written in
-    let y = c.args.telegram.now in
-    on_ok_weaker c.end_seq.result (all_sent (λ p. packet_data (version_of y) p.1) y.packets c.loop-packet.packet-iterator c.count.result (written c.args.out.now) (written c.begin_seq.new.self) (written c.loop-packet.out) (written c.end_seq.new.self)
-    c.in-None.ensures.steps.0 c.count.ensures.count c.in_ok-begin_seq.ensures c.loop-packet.invariant) c.end_seq.ensures
+returns g c = on_ok_weaker c.end_seq.result
+    (all_sent _ _ _ _ _ _ _ _ c.in-None.ensures.steps.0 c.count.ensures.count c.in_ok-begin_seq.ensures
+    c.loop-packet.invariant) c.end_seq.ensures

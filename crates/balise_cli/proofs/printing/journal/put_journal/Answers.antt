@@ -3,7 +3,7 @@ use Rattle.balise_rules.specs.Journal.{line_of, lines, undone}
 use Rattle.balise_rules.specs.Session.{State}
 use Rattle.balise_lines.specs.Writing.{LastFailed}
 use Rattle.balise_lines.proofs.PartsWritten.{all_as, some_as}
-use Rattle.balise_cli.proofs.TextsBehind.{all_behind, behind, some_behind, some_front_of}
+use Rattle.balise_text.proofs.TextsBehind.{all_behind, behind, some_behind, some_front_of}
 use Rattle.balise_text.specs.Entries.{head_text}
 use Rattle.balise_text.specs.Texts.{Text, text_of}
 use Rattle.balise_cli.specs.PlanTexts.{entry_line, undone_line, with_end}

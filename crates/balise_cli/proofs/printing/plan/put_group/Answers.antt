@@ -1,7 +1,7 @@
 use Rattle.std.proofs.Common.{◌≤◌, codes, length, map, refl, arith}
 use Rattle.balise_lines.specs.Writing.{LastFailed}
 use Rattle.balise_lines.proofs.PartsWritten.{wrote_none, wrote_more, wrote_some, wrote_all}
-use Rattle.balise_cli.proofs.TextsBehind.{some_front_of}
+use Rattle.balise_text.proofs.TextsBehind.{some_front_of}
 use Rattle.balise_text.specs.Texts.{Text, text_of}
 use Rattle.balise_text.proofs.Lists.{no_text_left}
 use Rattle.balise_cli.specs.PlanTexts.{group_lines, telegram_line}

@@ -1,7 +1,7 @@
 use Rattle.std.proofs.Common.{◌∙◌, codes, refl, sym}
 use Rattle.balise_lines.specs.Writing.{LastFailed}
 use Rattle.balise_lines.proofs.PartsWritten.{all_as, some_as}
-use Rattle.balise_cli.proofs.TextsBehind.{all_behind, some_behind, some_front_of}
+use Rattle.balise_text.proofs.TextsBehind.{all_behind, some_behind, some_front_of}
 use Rattle.balise_text.specs.Texts.{Text}
 use Rattle.balise_view.specs.View.{group_text}
 use Rattle.balise_cli.proofs.Causes.{call_failed}

@@ -12,9 +12,9 @@ returns-then-eq c = λ next. values_skip c.args.var next c.args.self.now (sym c.
 pub returns-in-Some : goal.returns-in-Some
 returns-in-Some c = λ next _.
     let i = c.self.inside in
-    ap (walk_values (valued c.args.var next)) (sym c.self.view_is) ∙ values_stop c.args.var next i.values.now i.count i.misfit c.in-Some.misfit (sym c.eq.ensures ∙ c.if-eq.false) (sym c.first_misfit.ensures ∙ c.in-Some.is)
+    ap (walk_values (valued c.args.var next)) (sym c.self.view_is) ∙ values_stop c.args.var next i.values.now i.count i.misfit c.in-Some.misfit (sym c.eq.ensures ∙ c.if-eq.false) (sym c.misfit_of.ensures ∙ c.in-Some.is)
 
 pub returns : goal.returns
 returns c = λ next.
     let i = c.self.inside in
-    ap (walk_values (valued c.args.var next)) (sym c.self.view_is) ∙ values_on c.args.var next i.values.now i.count i.misfit (NidPacket, 0) (sym c.eq.ensures ∙ c.if-eq.false) (sym c.first_misfit.ensures ∙ c.in_default.is)
+    ap (walk_values (valued c.args.var next)) (sym c.self.view_is) ∙ values_on c.args.var next i.values.now i.count i.misfit (NidPacket, 0) (sym c.eq.ensures ∙ c.if-eq.false) (sym c.misfit_of.ensures ∙ c.in_default.is)

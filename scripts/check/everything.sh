@@ -2,7 +2,8 @@
 # Runs all that has to hold before a change goes in: the gate, and all other tests of the repository. `make check` runs it.
 # usage: scripts/check/everything.sh [--all-of-it]
 # --all-of-it: what can't be run counts as wrong.
-# The programs and the tests that refuse memory are proved once more, in this checkout, since the gate leaves none here.
+# The gate leaves its programs, tests and libraries in this checkout, and the other parts take them. Where the gate is
+# left out, what they need is proved first.
 # What each part prints is in out/checks, also while it runs. Ends with 0; with 1 if a part is wrong; with 2 if one could
 # not be run.
 set -u
@@ -31,29 +32,50 @@ with_kit() {
     "$@"
 }
 
+gate_began=$CHECK_LOGS/gate-began
+gate() {
+    : > "$gate_began"
+    env -C "$top" RT_JOBS="${RT_JOBS:-$(nproc)}" rt ci
+}
+
+libraries_of_gate() {
+    if [ -e "$gate_began" ]; then
+        python3 after_gate.py "$gate_began"
+    else
+        echo "no gate in this run"
+    fi
+}
+
+# of_gate FILE ..: whether the gate of this run made these files
+of_gate() {
+    local file
+    [ -e "$gate_began" ] || return 1
+    for file in "$@"; do
+        [ "$top/crates/$file" -nt "$gate_began" ] || return 1
+    done
+    echo "as the gate built it"
+}
+
 # make ends with 2 where something fails, which would read as NOT RUN.
-built_program() {
-    make --no-print-directory -C "$top" program || return 1
+built_programs() {
+    of_gate baliseplan/out/baliseplan balisefields/out/balisefields balisefacts/out/balisefacts ||
+        make --no-print-directory -C "$top" program fields facts || return 1
 }
 
-built_others() {
-    make --no-print-directory -C "$top" fields facts || return 1
-}
-
-# The tests of memory as programs: rt leaves them in the folder `out` of their crates.
+# The tests of memory as programs
 memory_tests() {
     local crate
     for crate in balise_index_tests balise_telegram_tests balise_plan_tests balise_history_tests; do
-        (cd "$top/crates/$crate" && rt test) || return 1
+        of_gate "$crate/out/${crate}_tests" || (cd "$top/crates/$crate" && rt test) || return 1
     done
 }
 
 # A function is read whole before it is run. So the file may change while it runs, which takes long.
 main() {
-    part "gate: rt ci" with_kit env -C "$top" RT_JOBS="${RT_JOBS:-$(nproc)}" rt ci
-    part "program: proved once more, and built in out/" with_kit built_program
-    part "programs for fields and facts: proved once more, and built in out/" with_kit built_others
-    part "tests of memory: proved once more, and built in out/" with_kit memory_tests
+    part "gate: rt ci" with_kit gate
+    part "libraries of the gate" with_kit libraries_of_gate
+    part "programs" with_kit built_programs
+    part "tests of memory" with_kit memory_tests
     quick_parts
     of_program "desk" bash desk.sh "$program" --quick
     # Further tests of the repository, a line each:

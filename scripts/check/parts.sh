@@ -1,15 +1,15 @@
 # shellcheck shell=bash
-# Runs parts one after another: how each ended, its time and what it printed last. For all.sh and everything.sh.
+# Runs parts: how each ended, its time and what it printed last. For all.sh and everything.sh.
 #
 # A part is right (status 0), wrong (1) or NOT RUN (2: something that it needs is missing, which it says). Parts whose
-# names match the expression WITHOUT, of the environment, are NOT RUN either. A part that mostly waits runs beside those
-# after it, where there are four processors.
+# names match the expression WITHOUT, of the environment, are NOT RUN either. Those that take one processor run side by
+# side, as many as there are processors; any other one waits for all before it, and runs alone.
 
-part_names=() part_commands=() part_ends=() wrong_ends=() waiting_parts=()
-right=0 wrong=0 not_run=0
+part_names=() part_commands=() part_ends=() wrong_ends=() beside=()
+right=0 wrong=0 not_run=0 at_once=$(nproc)
 logs=${CHECK_LOGS:-}
 
-# part NAME COMMAND ..: a part to run
+# part NAME COMMAND ..: a part to run, alone
 part() {
     part_names+=("$1")
     if [[ -n ${WITHOUT:-} && $1 =~ $WITHOUT ]]; then
@@ -20,9 +20,9 @@ part() {
     fi
 }
 
-# waiting_part NAME COMMAND ..: a part that mostly waits
-waiting_part() {
-    [ "$(nproc)" -lt 4 ] || waiting_parts[${#part_names[@]}]=begun
+# part_beside NAME COMMAND ..: a part that may run beside those before and after it which may too
+part_beside() {
+    beside[${#part_names[@]}]=beside
     part "$@"
 }
 
@@ -36,17 +36,19 @@ last() {
     cat "$@" 2> /dev/null | tail -c 600 | tr '\r' '\n' | grep -v '^ *$' | tail -n 1 | cut -c 1-200
 }
 
-# follow NUMBER: shows what runs, for how long, and what it printed last; on a terminal each second, else each minute
-follow() {
-    local since=$SECONDS step=60
-    [ ! -t 2 ] || step=1
-    # What waits here after the last part doesn't hold a pipe that reads this output.
-    while sleep "$step" > /dev/null 2>&1; do
+# show: what runs, for how long, and what it printed last; on a terminal one part each second, else each part each minute
+show() {
+    local index line
+    [ $((SECONDS - shown)) -ge "$([ -t 2 ] && echo 1 || echo 60)" ] || return 0
+    shown=$SECONDS
+    for index in "${!groups[@]}"; do
+        line=$(printf '[%d/%d] %5d s  %s goes on: %s' $((index + 1)) ${#part_names[@]} $((SECONDS - begun[index])) \
+            "${part_names[index]}" "$(last "$(log_of "$index").err" "$(log_of "$index").out")")
         if [ -t 2 ]; then
-            printf '\r\033[K%s %5d s  %.100s' "$2" "$((SECONDS - since))" "$3: $(last "$1.err" "$1.out")" >&2
-        else
-            printf '%s %5d s  %s\n' "$2" "$((SECONDS - since))" "$3 goes on: $(last "$1.err" "$1.out")"
+            printf '\r\033[K%.130s' "$line" >&2
+            return
         fi
+        echo "$line"
     done
 }
 
@@ -93,26 +95,36 @@ begin_part() {
     : > "$log.err"
     [ -t 2 ] || echo "[$(($1 + 1))/${#part_names[@]}] runs: ${part_names[$1]}"
     set -m
+    begun[$1]=$SECONDS
     {
-        begun=$SECONDS status=0
+        status=0
         eval "${part_commands[$1]}" > "$log.out" 2> "$log.err" || status=$?
-        echo "$status $((SECONDS - begun))" > "$log.end"
+        echo "$status $((SECONDS - begun[$1]))" > "$log.end"
     } < /dev/null &
     groups[$1]=$!
     set +m
 }
 
-# end_part INDEX: waits for it, and judges it
+# end_part INDEX: judges a part that has ended
 end_part() {
     local log status=1 seconds=0
     log=$(log_of "$1")
-    follow "$log" "[$(($1 + 1))/${#part_names[@]}]" "${part_names[$1]}" &
     wait "${groups[$1]}"
-    kill -KILL $! 2> /dev/null
-    wait $! 2> /dev/null
     unset "groups[$1]"
     [ ! -e "$log.end" ] || read -r status seconds < "$log.end"
     judge "$1" "$status" "$seconds" "$log"
+}
+
+# until_fewer COUNT: waits until fewer than COUNT parts run
+until_fewer() {
+    local index
+    while [ "${#groups[@]}" -ge "$1" ]; do
+        for index in "${!groups[@]}"; do
+            kill -0 "${groups[index]}" 2> /dev/null || end_part "$index"
+        done
+        [ "${#groups[@]}" -lt "$1" ] || sleep 0.2
+        show
+    done
 }
 
 # stop_parts: ends all that was begun
@@ -127,7 +139,7 @@ stop_parts() {
 
 # run_parts: runs all parts, and prints a line for each and one verdict. Ends with 0, 1 if one is wrong, else 2
 run_parts() {
-    local index temporary='' groups=()
+    local index temporary='' groups=() begun=() shown=$SECONDS
     if [ -z "$logs" ]; then
         logs=$(mktemp -d)
         temporary=$logs
@@ -137,12 +149,16 @@ run_parts() {
     trap "[ \$BASHPID != $$ ] || { stop_parts; rm -rf '$temporary'; }" EXIT
     trap '[ "$BASHPID" != $$ ] || { echo "stopped: not all parts were run"; exit 130; }' INT TERM
     for index in "${!part_names[@]}"; do
-        begin_part "$index"
-        [ -n "${waiting_parts[index]:-}" ] || end_part "$index"
+        if [ -n "${beside[index]:-}" ]; then
+            until_fewer "$at_once"
+            begin_part "$index"
+        else
+            until_fewer 1
+            begin_part "$index"
+            until_fewer 1
+        fi
     done
-    for index in "${!waiting_parts[@]}"; do
-        end_part "$index"
-    done
+    until_fewer 1
     verdict
 }
 

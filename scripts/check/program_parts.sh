@@ -19,12 +19,14 @@ with_modules() {
     "${given[@]}"
 }
 
-# of_program NAME COMMAND ..: a part that runs the program
+# of_program NAME COMMAND ..: a part that runs the program, on one processor
 of_program() {
-    of_built "$program" "$@"
+    local name=$1
+    shift
+    part_beside "$name" with_built "$program" "$@"
 }
 
-# of_built PROGRAM NAME COMMAND ..: a part that runs another one of the repository
+# of_built PROGRAM NAME COMMAND ..: a part that runs a program of the repository, on all processors
 of_built() {
     local built=$1 name=$2
     shift 2
@@ -42,38 +44,39 @@ with_built() {
 
 # random SIZE TO: compares on the random inputs of the seeds from 1
 random() {
-    of_program "random inputs, $1" python3 "$reference/compare.py" "$words" 1 "$2" --size "$1" -j "$(nproc)" --keep "$kept"
+    of_built "$program" "random inputs, $1" python3 "$reference/compare.py" "$words" 1 "$2" \
+        --size "$1" -j "$(nproc)" --keep "$kept"
 }
 
 # What needs no program: the pages, the reference, and the checks themselves.
 parts_of_repository() {
-    part "links and words of the pages" python3 pages.py
-    part "traces from rules to calls and tests" python3 traces.py
-    part "mutations beside the gate still fit" python3 more_mutations.py --look
-    part "tests of the traces" with_modules "pytest" PYTHON -m pytest -q -p no:cacheprovider test_traces.py
-    part "layout of the manual" bash manual.sh
-    part "table of the variables" python3 ../tables/variables.py --check
-    part "tests of the reference" env -C "$reference" python3 -m unittest -q test_reference
-    part "laws of the reference" with_modules "pytest hypothesis" PYTHON -m pytest -q -p no:cacheprovider "$reference/test_laws.py"
-    part "tests of the reference for fields" env -C "$reference" python3 -m unittest -q test_fields test_spelling
-    part "tests of the reference for facts" env -C "$reference" python3 -m unittest -q test_facts
-    part "worked rows by the reference" python3 examples.py "python3 $reference/baliseplan.py" rows
-    part "faults planted in the reference" python3 planted.py
-    part "faults planted in the reference for fields" python3 planted_fields.py
-    part "faults planted in the reference for facts" python3 planted_facts.py
-    part "types of the scripts" bash types.sh
-    part "growths of memory in tests" python3 test_growths.py
+    part_beside "links and words of the pages" python3 pages.py
+    part_beside "traces from rules to calls and tests" python3 traces.py
+    part_beside "mutations beside the gate still fit" python3 more_mutations.py --look
+    part_beside "tests of the traces" with_modules "pytest" PYTHON -m pytest -q -p no:cacheprovider test_traces.py
+    part_beside "layout of the manual" bash manual.sh
+    part_beside "table of the variables" python3 ../tables/variables.py --check
+    part_beside "tests of the reference" env -C "$reference" python3 -m unittest -q test_reference
+    part_beside "laws of the reference" with_modules "pytest hypothesis" PYTHON -m pytest -q -p no:cacheprovider "$reference/test_laws.py"
+    part_beside "tests of the reference for fields" env -C "$reference" python3 -m unittest -q test_fields test_spelling
+    part_beside "tests of the reference for facts" env -C "$reference" python3 -m unittest -q test_facts
+    part_beside "worked rows by the reference" python3 examples.py "python3 $reference/baliseplan.py" rows
+    part_beside "faults planted in the reference" python3 planted.py
+    part_beside "faults planted in the reference for fields" python3 planted_fields.py
+    part_beside "faults planted in the reference for facts" python3 planted_facts.py
+    part_beside "types of the scripts" bash types.sh
+    part_beside "growths of memory in tests" python3 test_growths.py
 }
 
 # What runs the program, and is the same in both sizes
 parts_of_program() {
+    of_program "library and its callers" bash library.sh "$program"
+    of_program "self-test of the checks" python3 selftest.py "$program"
     of_program "examples, guide, formats, manual and rows" python3 examples.py "$words"
     of_program "exit statuses" bash statuses.sh "$program"
     of_program "pairs of commands" bash pairs.sh "$program"
     of_program "a million commands" bash million.sh "$program"
     of_program "no growth" python3 no_growth.py "$program"
-    of_program "self-test of the checks" python3 selftest.py "$program"
-    of_program "library and its callers" bash library.sh "$program"
 }
 
 # parts_of_fields TO: compares the program for fields on random items of the seeds from 1.
@@ -95,36 +98,41 @@ parts_of_facts() {
     done
 }
 
-part_of_page() {
-    waiting_part "page" with_built "$program" bash page.sh "$program"
+# sizes LOAD ..: the only part that times what it runs, so it runs alone
+sizes() {
+    of_built "$program" "sizes" python3 ../bench/hostile_loads.py "$program" "$@"
 }
 
-# The page comes after the library, which it builds its engine of.
+part_of_page() {
+    of_program "page" bash page.sh "$program"
+}
+
+# What takes longest comes first. The random inputs run alone, so the page comes after the library, which it builds its
+# engine of.
 quick_parts() {
-    parts_of_repository
     parts_of_program
-    part_of_page
-    of_program "refused growths" python3 refuse_growths.py "$program" "$examples" "$rows" --own-flags
-    of_program "failing reads and writes" python3 fail_devices.py "$program" "$examples"
-    of_program "damage" python3 damage_inputs.py "$program" "$examples/turned_group.plan" "$examples/journal_read.plan"
-    of_program "sizes" python3 ../bench/hostile_loads.py "$program" \
-        groups-of-eight telegrams-without-end lines-of-telegrams nothing-to-undo drops-of-the-first
+    parts_of_repository
     random small 20000
     random medium 400
     parts_of_fields 5000
     parts_of_facts 2000 50
+    sizes groups-of-eight telegrams-without-end lines-of-telegrams nothing-to-undo drops-of-the-first
+    part_of_page
+    of_program "damage" python3 damage_inputs.py "$program" "$examples/turned_group.plan" "$examples/journal_read.plan"
+    of_program "failing reads and writes" python3 fail_devices.py "$program" "$examples"
+    of_program "refused growths" python3 refuse_growths.py "$program" "$examples" "$rows" --own-flags
 }
 
 all_parts() {
-    parts_of_repository
     parts_of_program
-    part_of_page
-    of_program "refused growths" python3 refuse_growths.py "$program" "$examples" "$rows"
-    of_program "failing reads and writes" python3 fail_devices.py "$program" "$examples" "$rows"
-    of_program "damage" python3 damage_inputs.py "$program" "$examples" "$rows"
-    of_program "sizes" python3 ../bench/hostile_loads.py "$program"
+    parts_of_repository
     random small 100000
     random medium 5000
     parts_of_fields 100000
     parts_of_facts 20000 1000
+    sizes
+    part_of_page
+    of_program "damage" python3 damage_inputs.py "$program" "$examples" "$rows"
+    of_program "failing reads and writes" python3 fail_devices.py "$program" "$examples" "$rows"
+    of_program "refused growths" python3 refuse_growths.py "$program" "$examples" "$rows"
 }

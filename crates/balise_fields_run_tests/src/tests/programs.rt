@@ -8,17 +8,6 @@ use std::env::Args;
 use std::io::{BufWriter, ErrorKind};
 use std::process::Abort;
 
-/// Words with an input, which calls of the reader and of the writer fail, and what they write and end with.
-struct Row {
-    words: &'static [&'static str],
-    input: &'static str,
-    fails_at: (u64, u64),
-    output: &'static str,
-    errors: &'static str,
-    code: u8,
-    fault: Option<Refusal>,
-}
-
 /// Where a call that is made would show.
 const NO_CALL: (u64, u64) = (1, 1);
 
@@ -40,97 +29,100 @@ Status:
 The formats: man balisefields, or docs/FIELDS.md
 ";
 
-const ROWS: &[Row] = &[
-    Row {
-        words: &["balisefields"],
-        input: "packet 33 42403e00",
-        fails_at: (0, 0),
-        output: "packet 33\n0 8 NID_PACKET 0 66\n8 2 Q_DIR 0 1\n10 13 L_PACKET 0 31\n23 8 NID_TSR 0 0\n",
-        errors: "",
-        code: 0,
-        fault: None,
-    },
-    Row {
-        words: &["balisefields", "--"],
-        input: "plan 1\ngroup\n",
-        fails_at: (0, 0),
-        output: "plan 1\ngroup\n",
-        errors: "",
-        code: 0,
-        fault: None,
-    },
-    Row {
-        words: &["balisefields"],
-        input: "4z\npacket 33 42403e05\ngroup\n",
-        fails_at: (0, 0),
-        output: "fault 2 BadHex - 4 digit\nfault 4 SpareBits - 31 zero\ngroup\n",
-        errors: "",
-        code: 1,
-        fault: None,
-    },
-    Row {
-        words: &["balisefields"],
-        input: "group\ngr",
-        fails_at: (2, 0),
-        output: "group\n",
-        errors: "fault 31 ReadFault\n",
-        code: 3,
-        fault: Some(Refusal::ReadFault),
-    },
-    Row {
-        words: &["balisefields"],
-        input: "group\n",
-        fails_at: (0, 2),
-        output: "gro",
-        errors: "fault 32 WriteFault\n",
-        code: 3,
-        fault: Some(Refusal::WriteFault),
-    },
-    Row {
-        words: &["balisefields", "--spell"],
-        input: "packet 33\nNID_PACKET 66\nQ_DIR 1\nNID_TSR 5\ngroup",
-        fails_at: (0, 0),
-        output: "packet 33 42403e0a\ngroup\n",
-        errors: "",
-        code: 0,
-        fault: None,
-    },
-    Row {
-        words: &["balisefields", "--spell"],
-        input: "packet 33 42403e0a\n",
-        fails_at: (0, 0),
-        output: "bad 1 BadLine\n",
-        errors: "",
-        code: 1,
-        fault: None,
-    },
-    Row {
-        words: &["balisefields", "-h", "--loud"],
-        input: "group\n",
-        fails_at: (1, 0),
-        output: HELP,
-        errors: "",
-        code: 0,
-        fault: None,
-    },
-    Row {
-        words: &["balisefields", "--help"],
-        input: "group\n",
-        fails_at: (1, 0),
-        output: HELP,
-        errors: "",
-        code: 0,
-        fault: None,
-    },
-    Row {
-        words: &["another_name", "--loud"],
-        input: "group\n",
-        fails_at: NO_CALL,
-        output: "",
-        errors: "error: unexpected argument '--loud' found\n\nUsage: balisefields [OPTIONS]\n\nFor more information, try '--help'.\n",
-        code: 64,
-        fault: None,
-    },
+/// Words and an input, and what is written.
+type Row = (&'static [&'static str], &'static str, &'static str);
+
+const WELL: &[Row] = &[
+    (
+        &["balisefields"],
+        "packet 33 42403e00",
+        "packet 33\n0 8 NID_PACKET 0 66\n8 2 Q_DIR 0 1\n10 13 L_PACKET 0 31\n23 8 NID_TSR 0 0\n",
+    ),
+    (
+        &["balisefields", "--"],
+        "plan 1\ngroup\n",
+        "plan 1\ngroup\n",
+    ),
+    (
+        &["balisefields", "--spell"],
+        "packet 33\nNID_PACKET 66\nQ_DIR 1\nNID_TSR 5\ngroup",
+        "packet 33 42403e0a\ngroup\n",
+    ),
+];
+
+const REFUSED: &[Row] = &[
+    (
+        &["balisefields"],
+        "4z\npacket 33 42403e05\ngroup\n",
+        "fault 2 BadHex - 4 digit\nfault 4 SpareBits - 31 zero\ngroup\n",
+    ),
+    (
+        &["balisefields", "--spell"],
+        "packet 33 42403e0a\n",
+        "bad 1 BadLine\n",
+    ),
+];
+
+/// How a program ends: its status, its fault, and what it writes for errors.
+struct End {
+    code: u8,
+    fault: Option<Refusal>,
+    errors: &'static str,
+}
+
+const NO_FAULT: End = End {
+    code: 0,
+    fault: None,
+    errors: "",
+};
+
+const SOME_REFUSED: End = End {
+    code: 1,
+    fault: None,
+    errors: "",
+};
+
+const READ_FAULT: End = End {
+    code: 3,
+    fault: Some(Refusal::ReadFault),
+    errors: "fault 31 ReadFault\n",
+};
+
+const WRITE_FAULT: End = End {
+    code: 3,
+    fault: Some(Refusal::WriteFault),
+    errors: "fault 32 WriteFault\n",
+};
+
+const OTHER_WORD: End = End {
+    code: 64,
+    fault: None,
+    errors: "error: unexpected argument '--loud' found\n\nUsage: balisefields [OPTIONS]\n\nFor more information, try '--help'.\n",
+};
+
+/// With which calls of the reader and of the writer fail, 0 for none.
+const FAILING: &[(Row, (u64, u64), &End)] = &[
+    (
+        (&["balisefields"], "group\ngr", "group\n"),
+        (2, 0),
+        &READ_FAULT,
+    ),
+    ((&["balisefields"], "group\n", "gro"), (0, 2), &WRITE_FAULT),
+    (
+        (&["balisefields", "-h", "--loud"], "group\n", HELP),
+        (1, 0),
+        &NO_FAULT,
+    ),
+    (
+        (&["balisefields", "--help"], "group\n", HELP),
+        (1, 0),
+        &NO_FAULT,
+    ),
+    (
+        (&["another_name", "--loud"], "group\n", ""),
+        NO_CALL,
+        &OTHER_WORD,
+    ),
 ];
 
 /// A buffer over a writer that fails at the call of a number.
@@ -139,46 +131,48 @@ fn buffered(rt: &impl Abort, alloc: Global, fails_at: u64) -> Counted<BufWriter<
     Counted::new(BufWriter::new(alloc, narrow).expect(rt, "memory"))
 }
 
-fn launch_row(
+fn launch_over(
     alloc: Global,
-    row: &Row,
-    words: Args,
+    (words, input): (Args, &str),
+    read_fails_at: u64,
     writer: &mut Counted<BufWriter<Narrow>>,
     errors: &mut Counted<Vec<u8>>,
 ) -> Exit {
-    let input = row.input.as_bytes();
-    let mut reader = Slow::failing(input, 4096, row.fails_at.0, ErrorKind::Other);
+    let mut reader = Slow::failing(input.as_bytes(), 4096, read_fails_at, ErrorKind::Other);
     launch::<Balisefields, _, _, _>(alloc, Ok(words), &mut reader, writer, errors)
 }
 
-fn check_exit(rt: &impl Abort, exit: Exit, code: u8, fault: Option<Refusal>) {
-    assert!(rt; exit.code == code);
-    assert!(rt; exit.fault == fault);
+/// That the program ends so, and that this has reached the device, and not more.
+fn check_end(
+    rt: &impl Abort,
+    exit: Exit,
+    (writer, output): (&Counted<BufWriter<Narrow>>, &str),
+    errors: &Counted<Vec<u8>>,
+    end: &End,
+) {
+    assert!(rt; (exit.code == end.code) & (exit.fault == end.fault));
+    assert!(rt; writer.inner().get_ref().text.as_slice() == output.as_bytes());
+    assert!(rt; errors.inner().as_slice() == end.errors.as_bytes());
 }
 
-fn check_errors(rt: &impl Abort, errors: &Counted<Vec<u8>>, text: &str) {
-    assert!(rt; errors.inner().as_slice() == text.as_bytes());
-}
-
-/// That this has reached the device, and not more.
-fn check_output(rt: &impl Abort, writer: &Counted<BufWriter<Narrow>>, text: &str) {
-    assert!(rt; writer.inner().get_ref().text.as_slice() == text.as_bytes());
-}
-
-fn check_row(rt: &impl Abort, alloc: Global, row: &Row, words: Args) {
-    let mut writer = buffered(rt, alloc, row.fails_at.1);
+fn check_row(rt: &impl Abort, alloc: Global, row: &Row, fails_at: (u64, u64), end: &End) {
+    let words = arguments(alloc, row.0).expect(rt, "memory");
+    let mut writer = buffered(rt, alloc, fails_at.1);
     let mut errors = Counted::new(Vec::new(alloc));
-    let exit = launch_row(alloc, row, words, &mut writer, &mut errors);
-    check_exit(rt, exit, row.code, row.fault);
-    check_output(rt, &writer, row.output);
-    check_errors(rt, &errors, row.errors);
+    let exit = launch_over(alloc, (words, row.1), fails_at.0, &mut writer, &mut errors);
+    check_end(rt, exit, (&writer, row.2), &errors, end);
 }
 
 #[test]
 fn words_with_an_input(rt: HostRuntime) {
-    for row in ROWS.iter() {
-        let words = arguments(rt.alloc(), row.words).expect(&rt, "memory");
-        check_row(&rt, rt.alloc(), row, words);
+    for row in WELL.iter() {
+        check_row(&rt, rt.alloc(), row, (0, 0), &NO_FAULT);
+    }
+    for row in REFUSED.iter() {
+        check_row(&rt, rt.alloc(), row, (0, 0), &SOME_REFUSED);
+    }
+    for (row, fails_at, end) in FAILING.iter() {
+        check_row(&rt, rt.alloc(), row, *fails_at, *end);
     }
 }
 
@@ -198,19 +192,19 @@ const OTHERS: &[&[&str]] = &[
     &["balisefields", "--loud", "--help"],
 ];
 
-fn check_other(rt: &impl Abort, alloc: Global, words: &[&str], row: &Row) {
+fn check_other(rt: &impl Abort, alloc: Global, words: &[&str]) {
     let mut writer = buffered(rt, alloc, 1);
     let mut errors = Counted::new(Vec::new(alloc));
     let words = arguments(alloc, words).expect(rt, "memory");
-    let exit = launch_row(alloc, row, words, &mut writer, &mut errors);
-    check_exit(rt, exit, 64, None);
-    check_output(rt, &writer, "");
+    let exit = launch_over(alloc, (words, "group\n"), 1, &mut writer, &mut errors);
+    assert!(rt; (exit.code == 64) & exit.fault.is_none());
+    assert!(rt; writer.inner().get_ref().text.is_empty());
     assert!(rt; errors.inner().as_slice().starts_with(b"error: "));
 }
 
 #[test]
-fn other_words(rt: HostRuntime) {
+fn refuses_other_words(rt: HostRuntime) {
     for words in OTHERS.iter() {
-        check_other(&rt, rt.alloc(), *words, &ROWS[9]);
+        check_other(&rt, rt.alloc(), *words);
     }
 }

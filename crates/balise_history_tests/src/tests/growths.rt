@@ -3,6 +3,7 @@
 //! With ample memory nothing is refused.
 
 use crate::tests::sessions::{ABROAD, EMPTY, LINKING, Step, answer_to, ask, session_of};
+use balise_devices::Memory;
 use balise_history::{Bits, Refusal, Session, Var};
 use std::alloc::Global;
 use std::process::Abort;
@@ -48,18 +49,6 @@ const CALLS: &[(Step, u32)] = &[
     (Step::Drop(102), 8),
 ];
 
-/// Whether a growth may be refused in this run.
-#[derive(Clone, Copy, PartialEq, Eq)]
-enum Memory {
-    Ample,
-    OneRefused,
-}
-
-/// That a growth may be refused.
-fn check_short(rt: &impl Abort, memory: Memory) {
-    assert!(rt; memory == Memory::OneRefused);
-}
-
 /// What a session shows; asked for once more where the growth that is refused was met here.
 fn shown(rt: &impl Abort, session: &Session) -> Vec<Vec<Bits>> {
     match session.plan().shown() {
@@ -92,7 +81,7 @@ fn call(
     let stage = (session.standing().len(), session.next_serial());
     let answer = answer_to(rt, alloc, session, step);
     if answer == Err(Refusal::OutOfMemory) {
-        check_short(rt, memory);
+        assert!(rt; memory == Memory::OneRefused);
         check_same(rt, session, &groups, stage);
         ask(rt, alloc, session, step, Ok(serial));
     } else {

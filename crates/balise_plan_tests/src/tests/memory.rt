@@ -7,6 +7,7 @@ use crate::tests::comparing::{same_group, same_groups};
 use crate::tests::digits::{EMPTY, FIRST, INFILL, LINKING, REVOCATIONS, SECOND};
 use crate::tests::plans::id;
 use crate::tests::steps::{Answer, Step, make, put_new, put_packet};
+use balise_devices::Memory;
 use balise_plan::{Bits, Group, GroupTag, Id, Links, Packet, PacketTag, Plan, Refusal, Spot, Var};
 use std::alloc::Global;
 use std::process::Abort;
@@ -44,18 +45,6 @@ const CHANGES: &[(Step, Answer)] = &[
     (Step::Rename(FIRST, 200), Answer::Old(100)),
     (Step::Turn(FIRST), Answer::Done),
 ];
-
-/// Whether a growth may be refused in this run.
-#[derive(Clone, Copy, PartialEq, Eq)]
-enum Memory {
-    Ample,
-    OneRefused,
-}
-
-/// That a growth may be refused.
-fn check_short(rt: &impl Abort, memory: Memory) {
-    assert!(rt; memory == Memory::OneRefused);
-}
 
 /// The bits of a telegram, where there is memory for them.
 fn bits_of(alloc: Global, digits: &str) -> Option<Bits> {
@@ -174,7 +163,7 @@ fn is_same(plan: &Plan, other: &Plan) -> bool {
 
 /// That a change was refused as out of memory, and that the plan is as the other.
 fn check_refused(rt: &impl Abort, plan: &Plan, other: &Plan, fault: Refusal, memory: Memory) {
-    check_short(rt, memory);
+    assert!(rt; memory == Memory::OneRefused);
     assert!(rt; fault == Refusal::OutOfMemory);
     assert!(rt; is_same(plan, other));
 }
@@ -207,7 +196,7 @@ fn change(
 
 fn check_change(rt: &impl Abort, alloc: Global, step: (Step, Answer), memory: Memory) {
     let Some((mut plan, other)) = two_plans(alloc) else {
-        check_short(rt, memory);
+        assert!(rt; memory == Memory::OneRefused);
         return;
     };
     change(rt, alloc, &mut plan, &other, step, memory);
@@ -279,25 +268,12 @@ fn check_put(
 }
 
 fn put_in(rt: &impl Abort, alloc: Global, memory: Memory) {
-    let Some((mut plan, other)) = two_plans(alloc) else {
-        check_short(rt, memory);
-        return;
-    };
-    let (Some(twin), Some(packet)) = (packet_of(alloc), packet_of(alloc)) else {
-        check_short(rt, memory);
-        return;
-    };
-    check_put(rt, alloc, &mut plan, (&other, &twin), packet, memory);
-}
-
-#[test]
-fn puts_a_packet_in_or_hands_it_back(rt: HostRuntime) {
-    put_in(&rt, rt.alloc(), Memory::OneRefused);
-}
-
-#[test]
-fn puts_a_packet_in_with_ample_memory(rt: HostRuntime) {
-    put_in(&rt, rt.alloc(), Memory::Ample);
+    match (two_plans(alloc), packet_of(alloc), packet_of(alloc)) {
+        (Some((mut plan, other)), Some(twin), Some(packet)) => {
+            check_put(rt, alloc, &mut plan, (&other, &twin), packet, memory);
+        }
+        _ => assert!(rt; memory == Memory::OneRefused),
+    }
 }
 
 fn check_put_group(
@@ -317,23 +293,22 @@ fn check_put_group(
 }
 
 fn put_group_in(rt: &impl Abort, alloc: Global, memory: Memory) {
-    let Some((mut plan, other)) = two_plans(alloc) else {
-        check_short(rt, memory);
-        return;
-    };
-    let (Some(twin), Some(group)) = (group_of(alloc), group_of(alloc)) else {
-        check_short(rt, memory);
-        return;
-    };
-    check_put_group(rt, &mut plan, (&other, &twin), group, memory);
+    match (two_plans(alloc), group_of(alloc), group_of(alloc)) {
+        (Some((mut plan, other)), Some(twin), Some(group)) => {
+            check_put_group(rt, &mut plan, (&other, &twin), group, memory);
+        }
+        _ => assert!(rt; memory == Memory::OneRefused),
+    }
 }
 
 #[test]
-fn puts_a_group_in_or_hands_it_back(rt: HostRuntime) {
+fn puts_in_or_hands_back(rt: HostRuntime) {
+    put_in(&rt, rt.alloc(), Memory::OneRefused);
     put_group_in(&rt, rt.alloc(), Memory::OneRefused);
 }
 
 #[test]
-fn puts_a_group_in_with_ample_memory(rt: HostRuntime) {
+fn puts_in_with_ample_memory(rt: HostRuntime) {
+    put_in(&rt, rt.alloc(), Memory::Ample);
     put_group_in(&rt, rt.alloc(), Memory::Ample);
 }

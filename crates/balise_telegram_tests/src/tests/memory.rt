@@ -6,6 +6,7 @@
 use crate::tests::packets::{EXCHANGED, ONE_PACKET, has_order, shift};
 use crate::tests::put::put_beside;
 use crate::tests::telegrams::TWO_PACKETS;
+use balise_devices::Memory;
 use balise_telegram::{Bits, Packet, PacketTag, Telegram, TelegramFault, Var};
 use std::alloc::Global;
 use std::process::Abort;
@@ -13,18 +14,6 @@ use std::process::Abort;
 const FIRST: PacketTag = PacketTag::Base(0);
 
 const SECOND: PacketTag = PacketTag::Base(1);
-
-/// Whether a growth may be refused in this run.
-#[derive(Clone, Copy, PartialEq, Eq)]
-enum Memory {
-    Ample,
-    OneRefused,
-}
-
-/// That a growth may be refused.
-fn check_short(rt: &impl Abort, memory: Memory) {
-    assert!(rt; memory == Memory::OneRefused);
-}
 
 /// A telegram of these digits, where there is memory for it.
 fn read(alloc: Global, text: &str) -> Option<Telegram> {
@@ -66,7 +55,7 @@ fn check_put(
     match put_beside(rt, telegram, true, None, SECOND, packet) {
         Ok(()) => assert!(rt; is_like(telegram, two, &[5, 7])),
         Err((fault, packet)) => {
-            check_short(rt, memory);
+            assert!(rt; memory == Memory::OneRefused);
             assert!(rt; fault == TelegramFault::OutOfMemory);
             assert!(rt; is_second(&packet) & is_like(telegram, one, &[5]));
         }
@@ -86,7 +75,7 @@ fn check_take(
             check_put(rt, telegram, packet, (one, two), memory);
         }
         Err(fault) => {
-            check_short(rt, memory);
+            assert!(rt; memory == Memory::OneRefused);
             assert!(rt; fault == TelegramFault::OutOfMemory);
             assert!(rt; is_like(telegram, two, &[5, 7]));
         }
@@ -95,7 +84,7 @@ fn check_take(
 
 fn take_out(rt: &impl Abort, alloc: Global, memory: Memory) {
     let Some((one, two, mut telegram)) = read_three(alloc, TWO_PACKETS) else {
-        check_short(rt, memory);
+        assert!(rt; memory == Memory::OneRefused);
         return;
     };
     check_take(rt, &mut telegram, (&one, &two), memory);
@@ -122,13 +111,16 @@ fn second(two: &Telegram) -> Option<Packet> {
     }
 }
 
+/// Those three, with one packet in the last, and the packet that it lacks.
+fn read_with_packet(alloc: Global) -> Option<(Telegram, Telegram, Telegram, Packet)> {
+    let (one, two, telegram) = read_three(alloc, ONE_PACKET)?;
+    let packet = second(&two)?;
+    Some((one, two, telegram, packet))
+}
+
 fn put_in(rt: &impl Abort, alloc: Global, memory: Memory) {
-    let Some((one, two, mut telegram)) = read_three(alloc, ONE_PACKET) else {
-        check_short(rt, memory);
-        return;
-    };
-    let Some(packet) = second(&two) else {
-        check_short(rt, memory);
+    let Some((one, two, mut telegram, packet)) = read_with_packet(alloc) else {
+        assert!(rt; memory == Memory::OneRefused);
         return;
     };
     check_put(rt, &mut telegram, packet, (&one, &two), memory);
@@ -158,7 +150,7 @@ fn check_shift(
             assert!(rt; (next == Some(SECOND)) & is_like(telegram, exchanged, &[7, 5]));
         }
         Err(fault) => {
-            check_short(rt, memory);
+            assert!(rt; memory == Memory::OneRefused);
             assert!(rt; fault == TelegramFault::OutOfMemory);
             assert!(rt; is_like(telegram, two, &[5, 7]));
         }
@@ -173,7 +165,7 @@ fn check_shifts(
 ) {
     for ahead in &[false, true] {
         let Some(mut telegram) = read(alloc, TWO_PACKETS) else {
-            check_short(rt, memory);
+            assert!(rt; memory == Memory::OneRefused);
             return;
         };
         check_shift(rt, &mut telegram, (two, exchanged), *ahead, memory);
@@ -181,12 +173,8 @@ fn check_shifts(
 }
 
 fn move_on(rt: &impl Abort, alloc: Global, memory: Memory) {
-    let Some(two) = read(alloc, TWO_PACKETS) else {
-        check_short(rt, memory);
-        return;
-    };
-    let Some(exchanged) = read(alloc, EXCHANGED) else {
-        check_short(rt, memory);
+    let (Some(two), Some(exchanged)) = (read(alloc, TWO_PACKETS), read(alloc, EXCHANGED)) else {
+        assert!(rt; memory == Memory::OneRefused);
         return;
     };
     check_shifts(rt, alloc, (&two, &exchanged), memory);

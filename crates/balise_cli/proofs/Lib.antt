@@ -4,7 +4,6 @@ pub mod BasePlans
 pub mod Answered
 pub mod ItemTexts
 pub mod Causes
-pub mod LinesTaken
 pub mod OneLine
 pub mod LinesDone
 pub mod LineByLine

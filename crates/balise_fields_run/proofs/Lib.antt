@@ -1,5 +1,4 @@
 pub mod RunSteps
-pub mod LinesTaken
 pub mod RunEnds
 pub mod ExplainedRuns
 pub mod ItemsPushed

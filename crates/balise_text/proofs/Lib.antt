@@ -3,6 +3,7 @@ pub mod Parts
 pub mod Taking
 pub mod DigitWords
 pub mod DigitChecks
+pub mod LinesTaken
 pub mod Lists
 pub mod DigitsLeft
 pub mod Decimals

@@ -6,7 +6,7 @@ use Rattle.balise_text.specs.declared.run_fault.RunFault.TheVariants.{OutOfMemor
 use Rattle.balise_cli.specs.Phases.{DidPart, DidSome, DidStep, WrittenOfLine, WroteSuch, commands_phase}
 use Rattle.balise_cli.specs.Progress.{RanToFault}
 use Rattle.balise_cli.proofs.Endings.{commands_ended, line_fails, line_over, went_on}
-use Rattle.balise_cli.proofs.LinesTaken.{took_line, took_none}
+use Rattle.balise_text.proofs.LinesTaken.{took_line, took_none}
 use Rattle.balise_cli.proofs.OneLine.{did_some}
 use Rattle.balise_cli.proofs.phases.answer_commands.Goals as goal
 

@@ -7,7 +7,7 @@ use Rattle.balise_cli.specs.Phases.{MayRunOutAt, journal_end, journal_phase, jou
 use Rattle.balise_cli.specs.Progress.{RanToFault}
 use Rattle.balise_cli.specs.declared.journal_reader.JournalStep.TheVariants as step
 use Rattle.balise_cli.proofs.Endings.{end_refused, line_out, line_read, read_here}
-use Rattle.balise_cli.proofs.LinesTaken.{took_line, took_none}
+use Rattle.balise_text.proofs.LinesTaken.{took_line, took_none}
 use Rattle.balise_cli.proofs.phases.read_journal.Goals as goal
 
 pub returns-in-Err-clause-reads : goal.returns-in-Err-clause-reads

@@ -6,7 +6,7 @@ use Rattle.balise_cli.specs.Output.{Bad, after_read, at_end}
 use Rattle.balise_cli.specs.Phases.{LineMayRunOut, is_telegram, plan_phase, plan_read}
 use Rattle.balise_cli.specs.Progress.{RanToFault}
 use Rattle.balise_cli.proofs.Endings.{end_out, end_refused, line_out, line_read, read_here}
-use Rattle.balise_cli.proofs.LinesTaken.{took_line, took_none}
+use Rattle.balise_text.proofs.LinesTaken.{took_line, took_none}
 use Rattle.balise_cli.proofs.OneLine.{none_of_end, none_of_line, plan_reading}
 use Rattle.balise_cli.proofs.phases.read_plan.Goals as goal
 

@@ -4,7 +4,7 @@ use Rattle.balise_lines.specs.Reading.{line_of}
 use Rattle.balise_text.specs.Texts.{Text}
 use Rattle.balise_fields_run.specs.Explained.{AreExplained}
 use Rattle.balise_fields_run.specs.Steps.{LineDone, LineFails}
-use Rattle.balise_fields_run.proofs.LinesTaken.{took_line, took_none}
+use Rattle.balise_text.proofs.LinesTaken.{took_line, took_none}
 use Rattle.balise_fields_run.proofs.ExplainedRuns.{IsExplainedSoFar, ended, line_fails, went_on}
 use Rattle.balise_fields_run.proofs.RunEnds.{none_ahead}
 use Rattle.balise_fields_run.proofs.RunSteps.{at_first}

@@ -3,7 +3,7 @@ use Rattle.std.proofs.Common.{◌≡◌, ◌∙◌, ℕ, refl, sym, subst}
 use Rattle.balise_text.specs.Texts.{Text}
 use Rattle.balise_fields_run.specs.ItemLines.{closed_bad, closed_text, line_bad, line_text, open_after}
 use Rattle.balise_fields_run.specs.ItemSteps.{TextDone, TextFails}
-use Rattle.balise_fields_run.proofs.LinesTaken.{took_line, took_none}
+use Rattle.balise_text.proofs.LinesTaken.{took_line, took_none}
 use Rattle.balise_fields_run.proofs.ItemRuns.{at_first, end_fails, ended, line_fails, went_on}
 use Rattle.balise_fields_run.proofs.RunEnds.{none_ahead}
 use Rattle.balise_fields_run.proofs.spelling.spell_lines.Goals as goal

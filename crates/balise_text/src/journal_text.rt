@@ -9,6 +9,9 @@ ghost use Rattle.balise_text.specs.Printing.{word_or_none, word_text};
 ghost use Rattle.balise_text.specs.Texts.{behind_marks};
 
 use crate::line_end::LineEnd;
+use crate::printing::Word::{
+    Anchor, Digits, GroupTag, Name, Neighbour, Number, PacketPath, TelegramPath,
+};
 use crate::printing::{Word, put_line, put_word, put_words};
 use balise_commands::{Bits, Line, LineEdit, Noted, Tag};
 use balise_lines::{Counted, WriteFault, put};
@@ -19,7 +22,7 @@ fn put_telegrams<W: Write>(writer: &mut Counted<W>, telegrams: &[Bits]) -> Resul
     ensures { Writes W.contents writer.old writer.new result (behind_marks 32 (map hex_of telegrams.now)) }
 {
     for bits in telegrams {
-        if let Err(fault) = put_words(writer, &[Word::Digits(bits)]) {
+        if let Err(fault) = put_words(writer, &[Digits(bits)]) {
             return Err(fault);
         }
     }
@@ -33,10 +36,10 @@ fn noted_word(noted: Noted) -> Option<Word<'static>>
 {
     match noted {
         Noted::Nothing => None,
-        Noted::Value(value) => Some(Word::Number(value)),
-        Noted::Number(number) => Some(Word::Number(number)),
-        Noted::BeforePacket(before) => Some(Word::Neighbour(before)),
-        Noted::BeforeGroup(before) => Some(Word::Neighbour(before)),
+        Noted::Value(value) => Some(Number(value)),
+        Noted::Number(number) => Some(Number(number)),
+        Noted::BeforePacket(before) => Some(Neighbour(before)),
+        Noted::BeforeGroup(before) => Some(Neighbour(before)),
     }
 }
 
@@ -52,90 +55,56 @@ pub fn put_entry<W: Write>(writer: &mut Counted<W>, line: &Line) -> Result<(), W
             var,
             k,
             value,
-        } => put_entry_line(
-            writer,
-            line,
-            &[
-                Word::Name(b"set"),
-                Word::PacketPath(*g, *t, *p),
-                Word::Name(var.name().as_bytes()),
-                Word::Number(*k),
-                Word::Number(*value),
-            ],
-            &[],
-        ),
-        LineEdit::SetHead { g, t, var, value } => put_entry_line(
-            writer,
-            line,
-            &[
-                Word::Name(b"seth"),
-                Word::TelegramPath(*g, *t),
-                Word::Name(var.name().as_bytes()),
-                Word::Number(*value),
-            ],
-            &[],
-        ),
+        } => {
+            let (packet, var) = (PacketPath(*g, *t, *p), Name(var.name().as_bytes()));
+            let words = [Name(b"set"), packet, var, Number(*k), Number(*value)];
+            put_edit(writer, line, &words)
+        }
+        LineEdit::SetHead { g, t, var, value } => {
+            let (telegram, var) = (TelegramPath(*g, *t), Name(var.name().as_bytes()));
+            let words = [Name(b"seth"), telegram, var, Number(*value)];
+            put_edit(writer, line, &words)
+        }
         LineEdit::InsertPacket {
             g,
             t,
             after,
             packet,
-        } => put_entry_line(
-            writer,
-            line,
-            &[
-                Word::Name(b"insert"),
-                Word::TelegramPath(*g, *t),
-                Word::Anchor(*after),
-                Word::Digits(packet),
-            ],
-            &[],
-        ),
-        LineEdit::DeletePacket { g, t, p } => put_entry_line(
-            writer,
-            line,
-            &[Word::Name(b"delete"), Word::PacketPath(*g, *t, *p)],
-            &[],
-        ),
-        LineEdit::MovePacket { g, t, p, after } => put_entry_line(
-            writer,
-            line,
-            &[
-                Word::Name(b"move"),
-                Word::PacketPath(*g, *t, *p),
-                Word::Anchor(*after),
-            ],
-            &[],
-        ),
-        LineEdit::AddGroup { after, telegrams } => put_entry_line(
-            writer,
-            line,
-            &[Word::Name(b"add"), Word::Anchor(*after)],
-            telegrams,
-        ),
-        LineEdit::DropGroup { g } => put_entry_line(
-            writer,
-            line,
-            &[Word::Name(b"drop"), Word::GroupTag(*g)],
-            &[],
-        ),
-        LineEdit::Renumber { g, number } => put_entry_line(
-            writer,
-            line,
-            &[
-                Word::Name(b"renumber"),
-                Word::GroupTag(*g),
-                Word::Number(*number),
-            ],
-            &[],
-        ),
-        LineEdit::TurnGroup { g } => put_entry_line(
-            writer,
-            line,
-            &[Word::Name(b"turn"), Word::GroupTag(*g)],
-            &[],
-        ),
+        } => {
+            let telegram = TelegramPath(*g, *t);
+            let words = [Name(b"insert"), telegram, Anchor(*after), Digits(packet)];
+            put_edit(writer, line, &words)
+        }
+        LineEdit::DeletePacket { g, t, p } => {
+            put_edit(writer, line, &[Name(b"delete"), PacketPath(*g, *t, *p)])
+        }
+        LineEdit::MovePacket { g, t, p, after } => {
+            let words = [Name(b"move"), PacketPath(*g, *t, *p), Anchor(*after)];
+            put_edit(writer, line, &words)
+        }
+        LineEdit::AddGroup { after, telegrams } => {
+            put_entry_line(writer, line, &[Name(b"add"), Anchor(*after)], telegrams)
+        }
+        LineEdit::DropGroup { g } => put_edit(writer, line, &[Name(b"drop"), GroupTag(*g)]),
+        LineEdit::Renumber { g, number } => {
+            let words = [Name(b"renumber"), GroupTag(*g), Number(*number)];
+            put_edit(writer, line, &words)
+        }
+        LineEdit::TurnGroup { g } => put_edit(writer, line, &[Name(b"turn"), GroupTag(*g)]),
     }
+}
+
+// Writes it by the words of its edit, which has no telegrams.
+#[inline(always)]
+fn put_edit<W: Write>(
+    writer: &mut Counted<W>,
+    line: &Line,
+    words: &[Word],
+) -> Result<(), WriteFault>
+    requires { edit_words (line_edit_of line.now.edit) ≡ map word_text words.now }
+    ensures { Writes W.contents writer.old writer.new result (entry_text (line_in line.now) ++ codes "\n") }
+{
+    put_entry_line(writer, line, words, &[])
 }
 
 // Writes it by the words of its edit: some words, and the digits of telegrams.
@@ -172,7 +141,7 @@ fn put_parts<W: Write>(
 ) -> Result<(), WriteFault>
     ensures { Writes W.contents writer.old writer.new result (decimal serial ++ (behind_marks 32 (map word_text words.now) ++ (behind_marks 32 (map hex_of telegrams.now) ++ (behind_marks 32 (word_or_none noted.now) ++ codes "\n")))) }
 {
-    if let Err(fault) = put_word(writer, &Word::Number(serial)) {
+    if let Err(fault) = put_word(writer, &Number(serial)) {
         return Err(fault);
     }
     if let Err(fault) = put_words(writer, words) {
@@ -207,12 +176,12 @@ fn put_word_or_none<W: Write>(
 pub fn put_head<W: Write>(writer: &mut Counted<W>, next: u32) -> Result<(), WriteFault>
     ensures { Writes W.contents writer.old writer.new result (head_text next ++ codes "\n") }
 {
-    put_line(writer, b"journal", &[Word::Name(b"2"), Word::Number(next)])
+    put_line(writer, b"journal", &[Name(b"2"), Number(next)])
 }
 
 /// Writes the line of an edit that was undone, with its end, by the edit's serial.
 pub fn put_undone<W: Write>(writer: &mut Counted<W>, serial: u32) -> Result<(), WriteFault>
     ensures { Writes W.contents writer.old writer.new result (undone_text serial ++ codes "\n") }
 {
-    put_line(writer, b"undone", &[Word::Number(serial)])
+    put_line(writer, b"undone", &[Number(serial)])
 }

@@ -54,14 +54,10 @@ pub(crate) fn id(number: u32) -> Id {
 /// The bits of a group's telegrams, of 210 bits each, whose digits stand apart by a space.
 pub(crate) fn telegrams(rt: &impl Abort, alloc: Global, text: &str) -> Vec<Bits> {
     let mut telegrams = Vec::new(alloc);
-    push_words(rt, alloc, &mut telegrams, text);
-    telegrams
-}
-
-fn push_words(rt: &impl Abort, alloc: Global, telegrams: &mut Vec<Bits>, text: &str) {
     for word in text.split_whitespace() {
-        push_bits(rt, telegrams, bits_of(rt, alloc, word));
+        push_bits(rt, &mut telegrams, bits_of(rt, alloc, word));
     }
+    telegrams
 }
 
 /// The bits of a telegram of 210 bits.

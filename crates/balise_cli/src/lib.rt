@@ -32,6 +32,6 @@ pub use balise_lines::Counted;
 pub use balise_program::{Exit, exit_after_arguments, report, stop_without_memory};
 pub use balise_text::RunFault;
 pub use exit::exit_of;
-pub use program::{Baliseplan, launch, start, work, work_facts};
+pub use program::{Baliseplan, launch, start, work};
 pub use running::{AtEnd, run, run_facts, run_lines};
 pub use status::Status;

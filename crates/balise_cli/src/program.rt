@@ -5,22 +5,23 @@ ghost use Rattle.std.specs.Vec.Iter.{into_iter_items};
 ghost use Rattle.std.specs.IoError.{error_kind};
 ghost use Rattle.balise_program.specs.Reporting.{StopsAtBadText, StopsWithoutMemory};
 ghost use Rattle.balise_program.specs.Starting.{MayStart, Starts};
-ghost use Rattle.balise_cli.specs.Asking.{asked_by, facts_asked};
 ghost use Rattle.balise_cli.specs.Program.{Asks, PlanWork, Works};
 
-use crate::asked::{Asked, asked_by, facts_asked};
+use crate::asked::{Asked, asked_by};
 use crate::exit::exit_of;
 use crate::running::{AtEnd, run_lines};
 use balise_arguments::{ArgsFault, Flags, flags};
-use balise_facts::Facts;
 use balise_program::{Counted, Exit, Program};
 use std::alloc::Global;
 use std::env::Args;
 use std::io;
 use std::io::{BufWriter, ErrorKind, Read, Write};
 
-// Runs, and then flushes, also where a fault ended the run.
-fn run_and_flush<R: Read, W: Write + Drop>(
+/// Runs, and then flushes, also where a fault ended the run. States how the program ends after both.
+///
+/// It is for a program that ends after it: the system takes the session's memory back then, all at once. `run` gives it
+/// back.
+pub fn work<R: Read, W: Write + Drop>(
     alloc: Global,
     asked: Asked,
     reader: &mut Counted<R>,
@@ -31,33 +32,6 @@ fn run_and_flush<R: Read, W: Write + Drop>(
     let ended = run_lines(alloc, asked, AtEnd::Leave, reader, writer);
     let flushed = writer.flush_buffer();
     exit_of(ended, flushed.is_ok())
-}
-
-/// Runs, and then flushes, also where a fault ended the run. States how the program ends after both.
-///
-/// It is for a program that ends after it: the system takes the session's memory back then, all at once. `run` gives it
-/// back.
-pub fn work<R: Read, W: Write + Drop>(
-    alloc: Global,
-    flags: Flags,
-    reader: &mut Counted<R>,
-    writer: &mut Counted<BufWriter<W>>,
-) -> Exit
-    ensures { Works R.remaining W.contents (asked_by flags) reader.old reader.new writer.old writer.new result }
-{
-    run_and_flush(alloc, asked_by(flags), reader, writer)
-}
-
-/// The same of a run that writes facts of the session in place of the plan.
-pub fn work_facts<R: Read, W: Write + Drop>(
-    alloc: Global,
-    facts: Facts,
-    reader: &mut Counted<R>,
-    writer: &mut Counted<BufWriter<W>>,
-) -> Exit
-    ensures { Works R.remaining W.contents (facts_asked facts) reader.old reader.new writer.old writer.new result }
-{
-    run_and_flush(alloc, facts_asked(facts), reader, writer)
 }
 
 /// The program: it edits a plan.
@@ -80,7 +54,7 @@ impl Program for Baliseplan {
         reader: &mut Counted<R>,
         writer: &mut Counted<BufWriter<W>>,
     ) -> Exit {
-        work(alloc, flags, reader, writer)
+        work(alloc, asked_by(flags), reader, writer)
     }
 }
 

@@ -4,7 +4,7 @@ ghost use Rattle.balise_facts_cli.specs.Arguments.{Asks};
 ghost use Rattle.balise_facts_cli.specs.Program.{FactsWork};
 
 use crate::arguments::check_words;
-use balise_cli::work_facts;
+use balise_cli::{facts_asked, work};
 use balise_facts::Facts;
 use balise_program::{ArgsFault, Counted, Exit, Program};
 use std::alloc::Global;
@@ -30,6 +30,6 @@ impl Program for Balisefacts {
         reader: &mut Counted<R>,
         writer: &mut Counted<BufWriter<W>>,
     ) -> Exit {
-        work_facts(alloc, facts, reader, writer)
+        work(alloc, facts_asked(facts), reader, writer)
     }
 }

@@ -1,7 +1,7 @@
 //! Runs that print facts of the session in place of the plan.
 
 use crate::tests::runs::{check_ended, check_text};
-use balise_cli::{Counted, Facts, RunFault, Status, run_facts, work_facts};
+use balise_cli::{Counted, Facts, RunFault, Status, facts_asked, run_facts, work};
 use balise_devices::{Failure, Narrow, Slow};
 use std::alloc::Global;
 use std::io::BufWriter;
@@ -67,7 +67,7 @@ fn facts_in_place_of_the_plan(rt: HostRuntime) {
 
 fn work_row(alloc: Global, row: &Row, writer: &mut Counted<BufWriter<Narrow>>) -> u8 {
     let mut reader = Slow::new(row.input.as_bytes(), 4096);
-    work_facts(alloc, row.facts, &mut reader, writer).code
+    work(alloc, facts_asked(row.facts), &mut reader, writer).code
 }
 
 /// The same with a flush, to a writer that takes three bytes a call, and fails at the call of a number.

@@ -1,7 +1,9 @@
 //! The whole program over its words: what it writes on each stream, and what it ends with.
 
 use crate::tests::runs::PLAIN;
-use balise_cli::{Counted, Exit, Refusal, launch, report, start, stop_without_memory, work};
+use balise_cli::{
+    Counted, Exit, Refusal, asked_by, launch, report, start, stop_without_memory, work,
+};
 use balise_devices::{Failure, Narrow, Slow, arguments};
 use std::alloc::Global;
 use std::env::Args;
@@ -185,7 +187,7 @@ fn a_read_fails(rt: HostRuntime) {
     let alloc = rt.alloc();
     let mut writer = buffered(&rt, alloc, 0);
     let mut reader = Slow::failing(b"plan 1\nedits\nundo\n", 4096, 2, ErrorKind::Other);
-    let exit = work(alloc, PLAIN, &mut reader, &mut writer);
+    let exit = work(alloc, asked_by(PLAIN), &mut reader, &mut writer);
     check_exit(&rt, exit, READ_FAULT);
     check_output(&rt, &writer, "refused 23 NothingToUndo\n");
 }
@@ -196,7 +198,7 @@ fn a_flush_fails(rt: HostRuntime) {
     let alloc = rt.alloc();
     let mut writer = buffered(&rt, alloc, 1);
     let mut reader = Slow::new(b"plan 1\nedits\n", 4096);
-    let exit = work(alloc, PLAIN, &mut reader, &mut writer);
+    let exit = work(alloc, asked_by(PLAIN), &mut reader, &mut writer);
     check_exit(&rt, exit, WRITE_FAULT);
     check_output(&rt, &writer, "");
 }

@@ -1,6 +1,6 @@
 use Rattle.balise_cli.proofs.Flushed.{runs_kept}
 use Rattle.balise_program.proofs.Flushes.{flush_counted, flush_done}
-use Rattle.balise_cli.proofs.program.run_and_flush.Goals as goal
+use Rattle.balise_cli.proofs.program.work.Goals as goal
 
 pub returns : goal.returns
 returns g c = record {

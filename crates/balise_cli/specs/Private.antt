@@ -1,27 +1,33 @@
 -- What a command is answered, and the review after it, as this crate has them.
-use Rattle.std.specs.Prelude.{◌≡◌, ◌⊎◌, ◌<◌, Bool, true, Option, Some, None, Result, Ok, Err}
+use Rattle.std.specs.Prelude.{◌≡◌, ◌⊎◌, ◌<◌, Bool, true, List, [], Result, Ok, Err}
 use Rattle.balise_rules.specs.declared.identity.Id.{Id}
 use Rattle.balise_rules.specs.declared.refusal.Refusal.{Refusal}
 use Rattle.balise_rules.specs.declared.refusal.Refusal.TheVariants.{OutOfMemory, Worn}
+use Rattle.balise_rules.specs.declared.review.ReviewLine.{ReviewLine}
 use Rattle.balise_rules.specs.Addresses.{AskTurn}
 use Rattle.balise_rules.specs.Journal.{line_of}
 use Rattle.balise_rules.specs.Paths.{Entry}
+use Rattle.balise_rules.specs.Plan.{Plan, group_named}
 use Rattle.balise_rules.specs.Session.{State, Call, Ask, Reply, Refused, answer, most_commands}
 use Rattle.balise_text.specs.Answers.{reply_of}
 use Rattle.balise_text.specs.Commands.{call_of}
 use Rattle.balise_text.specs.Texts.{Text}
 use Rattle.balise_cli.specs.PlanTexts as texts
-use Rattle.balise_cli.specs.Output.{MayAnswer, TakesMemory, reply_text, reviewed}
+use Rattle.balise_cli.specs.Output.{MayAnswer, TakesMemory, group_review, reply_text, reviewed}
 use Rattle.balise_cli.specs.declared.answers.Answer.{Answer}
 
 -- a command has its reply; one that takes memory may be refused for it, but not at the session's limit
 abbrev pub DidDo : Call → State → Reply → State → Type 0
 DidDo c s r t = (◌≡◌ {A = Reply × State} (r, t) (answer c s)) ⊎ (TakesMemory (Ok c) s × (s.count < most_commands) × (r ≡ Refused OutOfMemory) × (t ≡ s))
 
--- the identity of the group that a command turns
-abbrev pub turned_by : Call → Option Id
-turned_by (Ask (AskTurn i)) = Some i
-turned_by c = None
+-- a turn is asked for
+abbrev pub IsTurn : Call → Type 0
+IsTurn c = (i : Id) × (c ≡ Ask (AskTurn i))
+
+-- what is to be looked at once a command is done on this plan: after a turn alone
+abbrev pub review_after : Call → Plan → List ReviewLine
+review_after (Ask (AskTurn i)) plan = group_review (group_named i plan) plan
+review_after c plan = []
 
 -- a line may be refused so before anything is done
 abbrev pub IsRefused : Text → State → Refusal → Type 0
@@ -31,10 +37,6 @@ IsRefused line s r = MayAnswer true line s (Refused r) s
 abbrev pub at_limit : {A : Type 0} → Result A Refusal → Refusal
 at_limit (Err r) = r
 at_limit (Ok x) = Worn
-
--- a turn has its reply, and after it its review
-abbrev pub TurnsWith : Id → State → Answer → State → Type 0
-TurnsWith i s a t = DidDo (Ask (AskTurn i)) s (reply_of a.reply) t × (a.review.items ≡ reviewed (Ok (Ask (AskTurn i))) (reply_of a.reply) s)
 
 -- a line has this answer, and leaves this state
 abbrev pub DidAnswer : Text → State → Answer → State → Type 0

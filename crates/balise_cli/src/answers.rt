@@ -1,12 +1,11 @@
 //! The commands.
 
-ghost use Rattle.std.specs.Prelude.{◌≡◌, IfErr, IfOk, IsOkUnless, map, Ok};
+ghost use Rattle.std.specs.Prelude.{◌≡◌, ◌<◌, [], IfErr, IfOk, IsOkUnless, map, Ok, OnOk};
 ghost use Rattle.balise_cli.specs.Output.{group_review};
-ghost use Rattle.balise_cli.specs.Private.{answer_text, at_limit, turned_by, DidAnswer, DidDo, IsRefused, TurnsWith};
-ghost use Rattle.balise_commands.specs.Commands.{command_of};
+ghost use Rattle.balise_cli.specs.Private.{answer_text, at_limit, review_after, DidAnswer, DidDo, IsRefused, IsTurn};
 ghost use Rattle.balise_lines.specs.Writing.{Writes};
 ghost use Rattle.balise_rules.specs.Plan.{group_named};
-ghost use Rattle.balise_rules.specs.Session as rules;
+ghost use Rattle.balise_rules.specs.Session.{most_commands};
 ghost use Rattle.balise_text.specs.Answers.{reply_of};
 ghost use Rattle.balise_text.specs.Checks.{checked};
 ghost use Rattle.balise_text.specs.Commands.{call_of};
@@ -27,23 +26,15 @@ pub(crate) struct Answer {
     pub(crate) review: Vec<ReviewLine>,
 }
 
-// Does an edit that has no review.
-#[inline(always)]
-fn edit(session: &mut Session, command: Command) -> Reply
-    ensures { DidDo (rules.Ask (command_of command)) session.old.state (reply_of result) session.new.state }
-{
-    match session.edit(command) {
-        Ok(serial) => Reply::Done(serial),
-        Err(refusal) => Reply::Refused(refusal),
-    }
-}
-
-// Does what is asked for but a turn.
+// Does what is asked for.
 fn reply_to(session: &mut Session, request: Request) -> Reply
     ensures { DidDo (call request) session.old.state (reply_of result) session.new.state }
 {
     match request {
-        Request::Edit(command) => edit(session, command),
+        Request::Edit(command) => match session.edit(command) {
+            Ok(serial) => Reply::Done(serial),
+            Err(refusal) => Reply::Refused(refusal),
+        },
         Request::Undo => match session.undo() {
             Ok(serial) => Reply::Undone(serial),
             Err(refusal) => Reply::Refused(refusal),
@@ -73,38 +64,15 @@ fn review_of(alloc: Global, plan: &Plan, id: Id) -> Result<Vec<ReviewLine>, Refu
     }
 }
 
-// Turns a group. Its review is made before the turn, so that it can't run out of memory after it.
-fn turn(alloc: Global, session: &mut Session, id: Id) -> Answer
-    ensures { TurnsWith id session.old.state result session.new.state }
-{
-    let none = Vec::new(alloc);
-    if session.is_worn() {
-        return Answer {
-            reply: Reply::Refused(Refusal::Worn),
-            review: none,
-        };
-    }
-    let lines = match review_of(alloc, session.plan(), id) {
-        Ok(lines) => lines,
-        Err(refusal) => {
-            return Answer {
-                reply: Reply::Refused(refusal),
-                review: none,
-            };
-        }
-    };
-    let reply = edit(session, Command::TurnGroup { id });
-    let review = if reply.is_refused() { none } else { lines };
-    Answer { reply, review }
-}
-
-// The identity of the group that is to be turned, if that is asked for.
-fn turned(request: &Request) -> Option<Id>
-    ensures { result ≡ turned_by (call request.now) }
+// What is to be looked at once a request is done: after a turn alone. It is made before the turn, so that memory can't run
+// out after it.
+fn review_for(alloc: Global, plan: &Plan, request: &Request) -> Result<Vec<ReviewLine>, Refusal>
+    ensures ok { IfOk result (λ lines. lines.items ≡ review_after (call request.now) plan.now.groups) }
+    ensures fault { IfErr result (λ e. (e ≡ Refusal.OutOfMemory) × IsTurn (call request.now)) }
 {
     match request {
-        Request::Edit(Command::TurnGroup { id }) => Some(*id),
-        _ => None,
+        Request::Edit(Command::TurnGroup { id }) => review_of(alloc, plan, *id),
+        _ => Ok(Vec::new(alloc)),
     }
 }
 
@@ -122,6 +90,7 @@ fn refusal_at_limit(line: &[u8]) -> Refusal
 // The command that a line is, or why it is refused before anything is done.
 fn request_of(alloc: Global, session: &Session, line: &[u8]) -> Result<Request, Refusal>
     ensures ok { IfOk result (λ r. call_of line.now ≡ Ok (call r)) }
+    ensures time { OnOk result (session.now.state.count < most_commands) }
     ensures fault { IfErr result (λ e. IsRefused line.now session.now.state e) }
 {
     if session.is_worn() {
@@ -130,26 +99,35 @@ fn request_of(alloc: Global, session: &Session, line: &[u8]) -> Result<Request, 
     read_request(alloc, line)
 }
 
+// The answer to a line that is refused.
+fn refused(alloc: Global, refusal: Refusal) -> Answer
+    ensures reply { result.reply ≡ Reply.Refused refusal }
+    ensures review { result.review.items ≡ [] }
+{
+    Answer {
+        reply: Reply::Refused(refusal),
+        review: Vec::new(alloc),
+    }
+}
+
 /// Does what a line asks for.
 pub(crate) fn answer_line(alloc: Global, session: &mut Session, line: &[u8]) -> Answer
     ensures { DidAnswer line.now session.old.state result session.new.state }
 {
     let request = match request_of(alloc, session, line) {
         Ok(request) => request,
-        Err(refusal) => {
-            return Answer {
-                reply: Reply::Refused(refusal),
-                review: Vec::new(alloc),
-            };
-        }
+        Err(refusal) => return refused(alloc, refusal),
     };
-    if let Some(id) = turned(&request) {
-        return turn(alloc, session, id);
-    }
-    Answer {
-        reply: reply_to(session, request),
-        review: Vec::new(alloc),
-    }
+    let lines = match review_for(alloc, session.plan(), &request) {
+        Ok(lines) => lines,
+        Err(refusal) => return refused(alloc, refusal),
+    };
+    let reply = reply_to(session, request);
+    let review = match reply {
+        Reply::Done(_) => lines,
+        _ => Vec::new(alloc),
+    };
+    Answer { reply, review }
 }
 
 // Writes what is to be looked at.

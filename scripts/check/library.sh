@@ -98,13 +98,23 @@ build "examples/rust" cargo build -q --release --manifest-path examples/rust/Car
 
 passes "examples/c/calls.c" "$folder/calls" 10000
 passes "examples/c/calls.c without inlining" "$folder/calls0"
-# The last input has an output that is longer than the first room of an allocated one.
-{ cat examples/line.base; echo edits; yes 'turn 5.300' | head -n 300; } > "$folder/long.plan"
-for plan in examples/*.plan "$folder/long.plan"; do
+# turns COUNT: an input with an output that is longer than the first room of an allocated one
+turns() {
+    cat examples/line.base
+    echo edits
+    yes 'turn 5.300' | head -n "$1"
+}
+turns 300 > "$folder/long.plan"
+turns 60 > "$folder/long_facts.plan" # facts grow with the square of the edits
+refuse_each() { passes "$1 with each allocation refused" "$folder/heap" "$@"; }
+for plan in examples/*.plan; do
     for set in 0 15 facts; do
-        passes "$plan with each allocation refused" "$folder/heap" "$plan" "$set"
+        refuse_each "$plan" "$set"
     done
 done
+refuse_each "$folder/long.plan" 0
+refuse_each "$folder/long.plan" 15
+refuse_each "$folder/long_facts.plan" facts
 # Telegrams and packets, sound and damaged, and empty lines, which are explained as more than the first room too.
 for seed in {1..10}; do
     "$python" reference/random_fields.py "$seed" >> "$folder/digits"
@@ -113,8 +123,8 @@ for seed in {1..10}; do
     "$python" reference/random_fields.py "$seed" --spell --damaged >> "$folder/fields_given"
 done
 yes '' | head -n 2000 >> "$folder/digits"
-passes "digits with each allocation refused" "$folder/heap" "$folder/digits" explain
-passes "fields with each allocation refused" "$folder/heap" "$folder/fields_given" spell
+refuse_each "$folder/digits" explain
+refuse_each "$folder/fields_given" spell
 passes "examples/c/calls.c under valgrind" valgrind -q --error-exitcode=9 --leak-check=full --show-leak-kinds=all \
     "$folder/calls0" 10000
 tests=(-m pytest -q -p no:cacheprovider)

@@ -1,8 +1,10 @@
 // What makes a program wrong, by the macro WRONG. Loaded before the C library, and before failing_calls.c.
 #define _GNU_SOURCE
 #include <dlfcn.h>
+#include <signal.h>
 #include <stdlib.h>
 #include <string.h>
+#include <sys/prctl.h>
 #include <time.h>
 #include <unistd.h>
 
@@ -61,6 +63,8 @@ ssize_t read(int from, void *bytes, size_t size) {
     static reads next;
     if (!next) next = (reads) dlsym(RTLD_NEXT, "read");
     if (from == 0) {
+        // It has a session of its own, so a check that is killed meanwhile doesn't end it.
+        if (WRONG == HANGS) prctl(PR_SET_PDEATHSIG, SIGKILL);
         while (WRONG == HANGS) pause();
         if (WRONG == NEEDS_MEMORY) {
             volatile char *needed = malloc(16);

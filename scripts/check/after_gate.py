@@ -37,13 +37,13 @@ def kit_library() -> ModuleType:
 
 
 def stamp_once(crate_type: Any) -> None:
-    """Has each crate's stamp reckoned once, and not again for each crate above it."""
-    reckoned = crate_type.stamp
+    """Has each crate's stamp computed once, and not again for each crate above it."""
+    compute = crate_type.stamp
     known: dict[str, str] = {}
 
     def stamp(crate: Any) -> str:
         if crate.folder not in known:
-            known[crate.folder] = reckoned(crate)
+            known[crate.folder] = compute(crate)
         return known[crate.folder]
 
     crate_type.stamp = stamp

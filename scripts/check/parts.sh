@@ -20,7 +20,7 @@ part() {
     fi
 }
 
-# part_beside NAME COMMAND ..: a part that may run beside those before and after it which may too
+# part_beside NAME COMMAND ..: a part that may run at the same time as others of this kind
 part_beside() {
     beside[${#part_names[@]}]=beside
     part "$@"

@@ -131,7 +131,7 @@ abbrev pub group_review : Option (Tag × Group) → Plan → List ReviewLine
 group_review None plan = []
 group_review (Some g) plan = review g.0 plan
 
--- what is to be looked at after a command that was done: only after a turn
+-- the review lines after a command that was done: none but after a turn
 abbrev pub reviewed : Result Call Refusal → Reply → State → List ReviewLine
 reviewed (Ok (Ask (AskTurn i))) (Done serial) s = group_review (group_named i (held s)) (held s)
 reviewed c r s = []

@@ -24,7 +24,7 @@ DidDo c s r t = (◌≡◌ {A = Reply × State} (r, t) (answer c s)) ⊎ (TakesM
 abbrev pub IsTurn : Call → Type 0
 IsTurn c = (i : Id) × (c ≡ Ask (AskTurn i))
 
--- what is to be looked at once a command is done on this plan: after a turn alone
+-- the review lines after a command is done on this plan: none but after a turn
 abbrev pub review_after : Call → Plan → List ReviewLine
 review_after (Ask (AskTurn i)) plan = group_review (group_named i plan) plan
 review_after c plan = []

@@ -19,7 +19,7 @@ use balise_text::{Reply, Request, check_request, put_reply, put_review, read_req
 use std::alloc::Global;
 use std::io::Write;
 
-/// What a command is answered: its reply, and after a turn what is to be looked at.
+/// What a command is answered: its reply, and after a turn its review lines.
 #[derive(Drop)]
 pub(crate) struct Answer {
     pub(crate) reply: Reply,
@@ -50,7 +50,7 @@ fn reply_to(session: &mut Session, request: Request) -> Reply
     }
 }
 
-// What is to be looked at once the group of an identity is turned; nothing where there is none.
+// The review lines of a turn of the group of an identity; none if there is no such group.
 fn review_of(alloc: Global, plan: &Plan, id: Id) -> Result<Vec<ReviewLine>, Refusal>
     ensures ok { IfOk result (λ lines. lines.items ≡ group_review (group_named id plan.now.groups) plan.now.groups) }
     ensures fault { IsOkUnless result Refusal.OutOfMemory }
@@ -64,7 +64,7 @@ fn review_of(alloc: Global, plan: &Plan, id: Id) -> Result<Vec<ReviewLine>, Refu
     }
 }
 
-// What is to be looked at once a request is done: after a turn alone. It is made before the turn, so that memory can't run
+// The review lines of a request: none but for a turn. It is made before the turn, so that memory can't run
 // out after it.
 fn review_for(alloc: Global, plan: &Plan, request: &Request) -> Result<Vec<ReviewLine>, Refusal>
     ensures ok { IfOk result (λ lines. lines.items ≡ review_after (call request.now) plan.now.groups) }
@@ -130,7 +130,7 @@ pub(crate) fn answer_line(alloc: Global, session: &mut Session, line: &[u8]) -> 
     Answer { reply, review }
 }
 
-// Writes what is to be looked at.
+// Writes review lines.
 fn put_reviews<W: Write>(writer: &mut Counted<W>, lines: &[ReviewLine]) -> Result<(), WriteFault>
     ensures { Writes W.contents writer.old writer.new result (text_of (map review_line lines.now)) }
 {

@@ -3,6 +3,8 @@ use Rattle.std.specs.Prelude.{◌≡◌, ◌<◌, Bool, false, cond, ◌&&◌, L
 use Rattle.std.specs.BTreeSet as set
 use Rattle.std.specs.Option.{IfSome}
 use Rattle.balise_rules.specs.declared.identity.Id.{Id}
+use Rattle.balise_rules.specs.declared.refusal.Refusal.{Refusal}
+use Rattle.balise_rules.specs.declared.refusal.Refusal.TheVariants.{GroupTwice, OutOfMemory}
 use Rattle.balise_rules.specs.declared.tag.Tag.{Tag}
 use Rattle.balise_index.specs.declared.link_place.LinkPlace.{LinkPlace}
 use Rattle.balise_index.specs.declared.name_index.Named.{Named}
@@ -22,6 +24,11 @@ indexed m i = m i
 -- n has o under the identity, and under each other what m has
 abbrev pub Updates : {V : Type 0} → IndexOf V → IndexOf V → Id → Option V → Type 0
 Updates m n i o = (q : Id) → indexed n q ≡ cond (is_id i q) o (indexed m q)
+
+-- why an identity isn't given to a group: another one, of this tag, has it; or memory runs out, where none has
+abbrev pub IsUnclaimed : Refusal → Option Tag → Type 0
+IsUnclaimed e (Some g) = e ≡ GroupTwice
+IsUnclaimed e None = e ≡ OutOfMemory
 
 -- what is known of each identity, slot by slot; contracts see it by `tags_of` and `names_of` alone
 abbrev pub NameIndex : Type 0

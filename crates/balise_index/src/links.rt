@@ -120,6 +120,7 @@ impl Links {
 
     /// Puts a place in. Leaves all as before if an allocation fails, and if the telegram or the element is above 255. No
     /// plan has such a place: the standard has at most 8 telegrams in a group and 32 elements in a packet.
+    #[inline(always)]
     pub fn insert(&mut self, alloc: Global, place: LinkPlace) -> Result<(), AllocError>
         ensures put { OnOk result (Puts self.old self.new place true) }
         ensures some { OnOk result (0 < btree_set_len self.new) }
@@ -128,20 +129,11 @@ impl Links {
         let Some(narrow) = NarrowPlace::of(place) else {
             return Err(AllocError);
         };
-        match &self.held {
-            Held::Empty => {
-                self.held = Held::One(narrow);
-                Ok(())
-            }
-            Held::One(held) => match one_with(*held, narrow) {
-                Some(two) => {
-                    self.held = two;
-                    Ok(())
-                }
-                None => insert_far(&mut self.held, alloc, narrow),
-            },
-            _ => insert_far(&mut self.held, alloc, narrow),
+        if let Held::Empty = &self.held {
+            self.held = Held::One(narrow);
+            return Ok(());
         }
+        insert_next(&mut self.held, alloc, narrow)
     }
 
     /// Takes a place out. Takes no memory.
@@ -167,6 +159,24 @@ impl Links {
             }
         }
     }
+}
+
+// Puts a place in where others are. A function of its own, as most places are the first.
+#[inline(never)]
+fn insert_next(held: &mut Held, alloc: Global, place: NarrowPlace) -> Result<(), AllocError>
+    requires { IsOrdered compare_place (places_held held.old) }
+    ensures ordered { IsOrdered compare_place (places_held held.new) }
+    ensures put { OnOk result (Puts (places_held held.old) (places_held held.new) (wide_place place) true) }
+    ensures some { OnOk result (0 < btree_set_len (places_held held.new)) }
+    ensures unchanged { OnErr result (places_held held.new ≡ places_held held.old) }
+{
+    if let Held::One(one) = held {
+        if let Some(two) = one_with(*one, place) {
+            *held = two;
+            return Ok(());
+        }
+    }
+    insert_far(held, alloc, place)
 }
 
 // Puts a place in where it may take memory: a function of its own, as most are put in without any.

@@ -1,15 +1,15 @@
 //! Which group has an identity, and which places name it.
 
-ghost use Rattle.std.specs.Prelude.{◌≡◌, ◌≢◌, OnOk, OnErr, None, Some, true, false};
+ghost use Rattle.std.specs.Prelude.{◌≡◌, ◌≢◌, IfErr, OnOk, OnErr, None, Some, true, false};
 ghost use Rattle.std.specs.Option.{IsSome, option_copied};
 ghost use Rattle.balise_index.specs.Identities as slots;
-ghost use Rattle.balise_index.specs.NameIndex.{indexed, names_of, tags_of, Moves, Sets, Updates};
+ghost use Rattle.balise_index.specs.NameIndex.{indexed, names_of, tags_of, IsUnclaimed, Moves, Sets, Updates};
 
 use crate::identity_map::IdentityMap;
 use crate::link_place::LinkPlace;
 use crate::links::Links;
 use crate::tag_code::{own_code, tag_of_own};
-use balise_rules::{Id, Tag};
+use balise_rules::{Id, Refusal, Tag};
 use std::alloc::{AllocError, Global};
 use std::marker::Model;
 use std::mem;
@@ -95,6 +95,32 @@ impl NameIndex {
             links: Links::new(),
         };
         self.held.insert(id, named)?;
+        Ok(())
+    }
+
+    /// Notes the tag of the group that is to have an identity.
+    ///
+    /// Refused, and then all stays: `GroupTwice` where a group has it, `OutOfMemory` where `set_tag` leaves all as before.
+    pub fn claim(&mut self, id: Id, tag: Tag) -> Result<(), Refusal>
+        ensures free { OnOk result (indexed (tags_of self.old) id ≡ None) }
+        ensures set { OnOk result (Updates (tags_of self.old) (tags_of self.new) id (Some tag)) }
+        ensures fault { IfErr result (λ e. IsUnclaimed e (indexed (tags_of self.old) id)) }
+        ensures names { names_of self.new ≡ names_of self.old }
+        ensures unchanged { OnErr result (tags_of self.new ≡ tags_of self.old) }
+    {
+        if let Some(named) = self.held.get_mut(id) {
+            if tag_of_own(named.owner).is_some() {
+                return Err(Refusal::GroupTwice);
+            }
+            let Some(code) = own_code(tag) else {
+                return Err(Refusal::OutOfMemory);
+            };
+            named.owner = code;
+            return Ok(());
+        }
+        if self.set_tag(id, tag).is_err() {
+            return Err(Refusal::OutOfMemory);
+        }
         Ok(())
     }
 

@@ -7,8 +7,11 @@ ghost use Rattle.balise_layout.specs.Collected.{all_keyed};
 use crate::fault::LayoutFault;
 use crate::visit::Visit;
 use balise_rules::Var;
-use std::alloc::Global;
+use std::alloc::{AllocError, Global};
 use std::marker::Model;
+
+/// For how many fields memory is taken at first. Most packets have fewer, and each growth copies them.
+const FIELDS: usize = 32;
 
 /// Keeps each field: variable, occurrence and value.
 #[derive(Drop)]
@@ -59,6 +62,16 @@ impl Collect {
     }
 }
 
+// Takes memory for the fields of a packet where there is none of them yet.
+fn make_room(fields: &mut Vec<(Var, u32, u32)>) -> Result<(), AllocError>
+    ensures { fields.new.items ≡ fields.old.items }
+{
+    if fields.is_empty() {
+        fields.reserve(FIELDS)?;
+    }
+    Ok(())
+}
+
 impl Visit for Collect {
     ghost use Rattle.std.specs.Prelude.{true};
     ghost use Rattle.balise_layout.specs.Walks.{collect};
@@ -72,6 +85,7 @@ impl Visit for Collect {
         let Ok(occurrence) = u32::try_from(self.count(var)) else {
             return Err(LayoutFault::OutOfMemory);
         };
+        make_room(&mut self.fields)?;
         self.fields.push((var, occurrence, value))?;
         Ok(())
     }

@@ -2,6 +2,7 @@
 
 ghost use Rattle.std.specs.Prelude.{◌≡◌, ◌<◌, ◌≤◌, ◌↔◌, ◌⊎◌, ℕ, List, Bool, false, true, [], Ok, drop, length, IfNone, IfOk, IfSome, IsOkUnless, IsTrue, MatchResult};
 ghost use Rattle.balise_rules.specs.declared.variable.Var.TheVariants.{NidBg, NidPacket, QDir};
+ghost use Rattle.balise_rules.specs.Bits.{num, part};
 ghost use Rattle.balise_rules.specs.Forms.{count_of, Numbered};
 ghost use Rattle.balise_rules.specs.Names.{links_of};
 ghost use Rattle.balise_rules.specs.Packet.{bits_of, field_of, read_first, value, width, IsSpelt};
@@ -57,9 +58,18 @@ impl<'a> PacketRef<'a> {
         requires { (p : Packet) × (after : List Bool) × (read_first version (drop at bits.now) ≡ Ok (p, after)) }
         ensures { (p : Packet) (after : List Bool) → read_first version (drop at bits.now) ≡ Ok (p, after) → result ≡ p }
     {
-        let _len = bits.len();
-        // NID_PACKET, Q_DIR and L_PACKET
         let head = bits.number(at, 23);
+        PacketRef::of_head(bits, at, version, head)
+    }
+
+    /// The packet that `new` answers, where its first 23 bits were read: NID_PACKET, Q_DIR and L_PACKET.
+    #[inline(always)]
+    pub fn of_head(bits: &'a Bits, at: usize, version: u32, head: u32) -> PacketRef<'a>
+        requires there { (p : Packet) × (after : List Bool) × (read_first version (drop at bits.now) ≡ Ok (p, after)) }
+        requires head { head ≡ num (part at 23 bits.now) }
+        ensures { (p : Packet) (after : List Bool) → read_first version (drop at bits.now) ≡ Ok (p, after) → result ≡ p }
+    {
+        let _len = bits.len();
         let kind = PacketKind::of(version, head >> 15);
         let end = at + (head % 8192) as usize;
         PacketRef {

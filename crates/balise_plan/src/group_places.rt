@@ -1,17 +1,17 @@
 //! A group put into a plan's groups and indexes.
 
-ghost use Rattle.std.specs.Prelude.{◌≡◌, ◌≤◌, is_some, insert, length, IfErr, IfSome, None, OnOk};
+ghost use Rattle.std.specs.Prelude.{◌≡◌, ◌≤◌, is_some, insert, length, option_map, IfErr, IfSome, None, OnOk};
 ghost use Rattle.balise_rules.specs.Plan.{group_named, identity_of, Group as GroupValue};
 ghost use Rattle.balise_rules.specs.Tagged.{find};
 ghost use Rattle.balise_rules.specs.Tags.{same_tag};
 ghost use Rattle.balise_plan.specs.Held.{IsHeld};
-ghost use Rattle.balise_index.specs.NameIndex.{indexed, names_of, tags_of};
+ghost use Rattle.balise_index.specs.NameIndex.{indexed, names_of, tags_of, IsUnclaimed};
 ghost use Rattle.balise_index.specs.AtSpot.{put_in, spot_stands};
 
 use crate::group::Group;
 use crate::links::group::{add_group, forget_group};
 use balise_index::{NameIndex, OrderedMap, Spot};
-use balise_rules::{Id, Tag};
+use balise_rules::{Id, Refusal, Tag};
 use std::alloc::Global;
 
 /// The place that a spot names.
@@ -39,36 +39,40 @@ pub(crate) fn is_taken(index: &NameIndex, id: Id) -> bool
     index.tag(id).is_some()
 }
 
-/// Puts a group of a new identity in at a place, under a tag that is new, and notes its identity and its links. Where
-/// memory is wanting, all stays and the group is handed back.
+/// Puts a group in at a place, under a tag that is new, and notes its identity and its links.
+///
+/// Refused, and then all stays and the group is handed back: `GroupTwice` where a group has its identity; and as
+/// `OutOfMemory` where none has.
 pub(crate) fn put_at(
     groups: &mut OrderedMap<Group>,
     index: &mut NameIndex,
     i: usize,
     g: Tag,
     group: Group,
-) -> Result<(), Group>
+) -> Result<(), (Refusal, Group)>
     requires held { IsHeld (tags_of index.old) (names_of index.old) groups.old.entries }
     requires within { i ≤ length groups.old.entries }
     requires new { find same_tag g groups.old.entries ≡ None }
-    requires free { group_named (identity_of group) groups.old.entries ≡ None }
+    ensures free { OnOk result (group_named (identity_of group) groups.old.entries ≡ None) }
     ensures put { OnOk result (groups.new.entries ≡ insert groups.old.entries i (g, group)) }
-    ensures back { IfErr result (λ b. b ≡ group) }
+    ensures fault { IfErr result (λ b. IsUnclaimed b.0 (option_map (λ y. y.0) (group_named (identity_of group) groups.old.entries))) }
+    ensures back { IfErr result (λ b. b.1 ≡ group) }
     ensures unchanged { IfErr result (λ b. groups.new.entries ≡ groups.old.entries) }
     ensures held { IsHeld (tags_of index.new) (names_of index.new) groups.new.entries }
 {
     let alloc = groups.allocator();
     let own = group.sound_identity();
-    if groups.reserve(1).is_err() {
-        return Err(group);
+    if let Err(refusal) = index.claim(own, g) {
+        return Err((refusal, group));
     }
-    if index.set_tag(own, g).is_err() {
-        return Err(group);
+    if groups.reserve(1).is_err() {
+        index.forget_tag(own);
+        return Err((Refusal::OutOfMemory, group));
     }
     if add_group(alloc, index, g, &group).is_err() {
         forget_group(index, g, &group);
         index.forget_tag(own);
-        return Err(group);
+        return Err((Refusal::OutOfMemory, group));
     }
     groups.insert(i, g, group);
     Ok(())

@@ -118,7 +118,7 @@ impl<T: Drop> OneOrMore<T> {
         self.push_next(item)
     }
 
-    // The same in a list.
+    // Puts an item in at the end of a list, which is made where there was one item.
     #[inline(never)]
     fn push_next(&mut self, item: T) -> Result<(), AllocError>
         requires { AreInOrder self.old }
@@ -177,7 +177,7 @@ impl<T> Held<T> {
         }
     }
 
-    // The same, to change.
+    // The item with a tag, to change.
     fn at_mut(&mut self, tag: usize) -> &mut T
         requires { tag < length (by_tag self.old) }
         ensures* writes_back { sem 𝓛 (lends_held T.row self.entry tag result) }

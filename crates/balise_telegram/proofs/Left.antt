@@ -1,5 +1,5 @@
 -- The packets that are left from a place on.
-use Rattle.std.proofs.Common.{◌≡◌, ◌∙◌, ℕ, zero, suc, ◌+◌, ◌<◌, [], ◌∷◌, length, drop, slice_get, Some, None, option_map, refl, sym, ap, add-one, arith}
+use Rattle.std.proofs.Common.{◌≡◌, ◌∙◌, ℕ, zero, suc, ◌+◌, ◌<◌, ◌≤◌, [], ◌∷◌, length, drop, slice_get, Some, None, option_map, refl, sym, ap, add-one, arith}
 use Rattle.balise_rules.specs.declared.tag.Tag.{Tag}
 use Rattle.balise_rules.specs.Packet.{Packet}
 use Rattle.balise_telegram.proofs.Tagging.{Packets}
@@ -9,6 +9,12 @@ none_left [] zero e = refl
 none_left [] (suc i) e = refl
 none_left (p ∷ ps) zero e = absurd cc
 none_left (p ∷ ps) (suc i) e = none_left ps i e
+
+pub past_all : (ps : Packets) (i : ℕ) → length ps ≤ i → drop i ps ≡ []
+past_all [] zero h = refl
+past_all [] (suc i) h = refl
+past_all (p ∷ ps) zero h = absurd (omega (arith, h))
+past_all (p ∷ ps) (suc i) h = past_all ps i (omega (arith, h))
 
 pub some_left : (ps : Packets) (i : ℕ) (t : Tag) → Some t ≡ option_map (λ (q : Tag × Packet). q.0) (slice_get ps i) → (x : Packet) × (i < length ps) × (slice_get ps i ≡ Some (t, x))
 some_left [] zero t e = absurd cc

@@ -136,6 +136,14 @@ all_gone b y n at number s e is end = by (drop n y.packets) refl
         let same : eqb 255 255 ≡ false = ap (λ (k : ℕ). eqb k 255) (sym end ∙ front) ∙ f.no_end in
         absurd cc
 
+-- and where fewer than 23 bits are left
+pub too_short : (b : List Bool) (y : Telegram) (n at : ℕ) → IsShown b y → at + 8 ≡ used (take n y.packets) → length b < at + 23 → length y.packets ≤ n
+too_short b y n at s e short = by (drop n y.packets) refl
+  where
+    by : (l : Packets) → drop n y.packets ≡ l → length y.packets ≤ n
+    by [] h = omega (arith, ap length h, length-drop n y.packets)
+    by (x ∷ xs) h = let z = next_of b y n at x xs s e h in absurd (omega (arith, z.within, z.least, short))
+
 -- ---- the walk
 
 -- so many packets are gone over
@@ -146,12 +154,12 @@ pub record Walked (b : List Bool) (most n at : ℕ) : Type 0 where
 pub none_walked : (b : List Bool) (most : ℕ) → Walked b most 0 50
 none_walked b most = record { asked = omega arith; place = λ y s. (omega arith, refl) }
 
-pub one_walked : (b : List Bool) (most n at number size : ℕ) → Walked b most n at → (n ≡ most → ⊥) → number ≡ num (part at 8 b) → (number ≡ 255 → ⊥) → size ≡ num (part (at + 10) 13 b) → Walked b most (n + 1) (at + size)
-one_walked b most n at number size w more is still e = record {
+pub one_walked : (b : List Bool) (most n at size : ℕ) → Walked b most n at → (n ≡ most → ⊥) → ((y : Telegram) → IsShown b y → n < length y.packets) → size ≡ num (part (at + 10) 13 b) → Walked b most (n + 1) (at + size)
+one_walked b most n at size w more there e = record {
   asked = omega (arith, w.asked, more);
   place = λ y s.
       let p = w.place y s in
-      let z = next_there b y n at number s p.1 is still in
+      let z = next_below b y n at s p.1 (there y s) in
       (omega (arith, z.below), omega (arith, z.further, p.1, e, z.size));
 }
 
@@ -159,10 +167,10 @@ one_walked b most n at number size w more is still e = record {
 pub walked_most : (b : List Bool) (most n at : ℕ) → Walked b most n at → n ≡ most → (y : Telegram) → IsShown b y → Passes y.packets most n at
 walked_most b most n at w e y s = let p = w.place y s in record { counted = omega (arith, p.0, e); place = p.1 }
 
-pub walked_all : (b : List Bool) (most n at number : ℕ) → Walked b most n at → number ≡ num (part at 8 b) → number ≡ 255 → (y : Telegram) → IsShown b y → Passes y.packets most n at
-walked_all b most n at number w is end y s =
+pub walked_all : (b : List Bool) (most n at : ℕ) → Walked b most n at → (y : Telegram) → IsShown b y → length y.packets ≤ n → Passes y.packets most n at
+walked_all b most n at w y s gone =
     let p = w.place y s in
-    record { counted = omega (arith, p.0, w.asked, all_gone b y n at number s p.1 is end); place = p.1 }
+    record { counted = omega (arith, p.0, w.asked, gone); place = p.1 }
 
 -- each packet takes 23 bits at least
 spare : (version : ℕ) (ps : Packets) → All (λ p. IsSpelt version p.1) ps → 23 * length ps + 58 ≤ used ps

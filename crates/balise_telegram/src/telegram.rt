@@ -27,7 +27,7 @@ use crate::PacketTag;
 use crate::fault::TelegramFault;
 use crate::header::{Header, head_place};
 use crate::telegram::contents::{Contents, EditedBits};
-use crate::telegram::edited::{place_read, tag_read};
+use crate::telegram::edited::{place_read, tag_read, tag_there};
 use crate::telegram::walking::{Place, after, ends, walk};
 use balise_layout::{Bits, PacketRef};
 use balise_rules::{Id, Var};
@@ -168,7 +168,7 @@ impl Telegram {
         Some((tag, self.lent(place)))
     }
 
-    /// The same telegram once more.
+    /// A copy, with the same tags and the same padding.
     pub fn copy(&self) -> Result<Telegram, TelegramFault>
         ensures ok { IfOk result (λ telegram. telegram ≡ self.now) }
         ensures fault { IsOkUnless result TelegramFault.OutOfMemory }
@@ -229,24 +229,26 @@ impl Telegram {
         }
     }
 
+    // The tag of the packet that stands at a place.
+    #[inline(always)]
+    fn tag_there(&self, place: Place) -> Option<PacketTag>
+        requires place { IsPlace self.now place }
+        requires stands { place.index < length self.now.packets }
+        ensures { result ≡ option_map (λ q. q.0) (slice_get self.now.packets place.index) }
+    {
+        match &self.contents {
+            Contents::Edited(edited) => edited.kept.tag_at(place.index),
+            Contents::Read(bits) => Some(tag_there(bits, place)),
+        }
+    }
+
     // The packet at a place, lent.
     fn lent(&self, place: Place) -> PacketRef<'_>
         requires place { IsPlace self.now place }
         requires stands { place.index < length self.now.packets }
         ensures { (x : Tag × Packet) → slice_get self.now.packets place.index ≡ Some x → result ≡ x.1 }
     {
-        self.lent_in(place, self.version())
-    }
-
-    // The same, where the telegram's M_VERSION is known.
-    #[inline(always)]
-    fn lent_in(&self, place: Place, version: u32) -> PacketRef<'_>
-        requires place { IsPlace self.now place }
-        requires stands { place.index < length self.now.packets }
-        requires version { version ≡ version_of self.now }
-        ensures { (x : Tag × Packet) → slice_get self.now.packets place.index ≡ Some x → result ≡ x.1 }
-    {
-        PacketRef::new(self.packed(), place.at, version)
+        PacketRef::new(self.packed(), place.at, self.version())
     }
 
     // The place after the packet at a place.
@@ -260,9 +262,9 @@ impl Telegram {
         after(self.packed(), place)
     }
 
-    // The same, where a packet stands at the place.
+    // The place after the packet at a place, if one stands there.
     #[inline]
-    fn place_behind(&self, place: Place) -> Option<Place>
+    fn next_place(&self, place: Place) -> Option<Place>
         requires { IsPlace self.now place }
         ensures next { IfSome result (λ p. (p.index ≡ place.index + 1) × IsPlace self.now p × (place.index < length self.now.packets)) }
         ensures none { IfNone result (length self.now.packets ≤ place.index) }

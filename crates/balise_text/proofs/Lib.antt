@@ -1,5 +1,6 @@
 pub mod Numbers
 pub mod Parts
+pub mod UpTo
 pub mod Taking
 pub mod DigitWords
 pub mod DigitChecks

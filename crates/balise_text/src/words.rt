@@ -1,10 +1,10 @@
 //! The words of a line, one after another.
 
-ghost use Rattle.std.specs.Prelude.{◌≡◌, ◌==◌, ◌∷◌, ◌↔◌, [], IsTrue, MatchOption, position};
+ghost use Rattle.std.specs.Prelude.{◌≡◌, ◌==◌, ◌∷◌, ◌↔◌, [], IsTrue, MatchOption, length, position};
 ghost use Rattle.balise_rules.specs.Variables.{var_named};
 ghost use Rattle.balise_text.specs.Words.{id_of, no_more, number_of, parts_of, words_of};
 
-use crate::number::read_number;
+use crate::number::number_up_to;
 use balise_rules::{Id, Var};
 
 /// Where a byte stands first.
@@ -23,7 +23,7 @@ pub(crate) struct Words<'a> {
 }
 
 impl<'a> Words<'a> {
-    ghost use Rattle.balise_text.specs.Left.{left, TakesPart};
+    ghost use Rattle.balise_text.specs.Left.{left, up_to, TakesPart};
 
     /// The parts of a text.
     pub(crate) fn new(text: &'a [u8], mark: u8) -> Words<'a>
@@ -89,9 +89,33 @@ impl<'a> Words<'a> {
     pub(crate) fn number(self) -> Option<(u32, Words<'a>)>
         ensures { TakesPart number_of (left self.entry) result }
     {
-        let (word, rest) = self.next()?;
-        let number = read_number(word)?;
-        Some((number, rest))
+        if self.over {
+            return None;
+        }
+        let Some((number, len)) = number_up_to(self.text, self.mark) else {
+            return None;
+        };
+        Some((number, self.after(len)))
+    }
+
+    // What follows the part that comes next, of so many bytes.
+    #[inline(always)]
+    fn after(self, len: usize) -> Words<'a>
+        requires part { len ≡ length (up_to self.mark self.text.now) }
+        ensures { parts_of self.entry.mark self.entry.text.now ≡ up_to self.entry.mark self.entry.text.now ∷ left result }
+    {
+        if len >= self.text.len() {
+            return Words {
+                text: self.text,
+                mark: self.mark,
+                over: true,
+            };
+        }
+        Words {
+            text: &self.text[len + 1..],
+            mark: self.mark,
+            over: false,
+        }
     }
 
     /// The identity that comes next.

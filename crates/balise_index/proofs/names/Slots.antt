@@ -43,6 +43,10 @@ module _ (inner m n : NameIndex) (view : inner ≡ m) (q : Id) (a : Named) (was 
   pub lent : (b : Named) → (IsSome (slots.indexed inner q) → slots.Updates inner n q (Some b)) → (r : Id) → slots.indexed n r ≡ cond (is_id q r) (Some b) (slots.indexed m r)
   lent b w r = subst (λ x. slots.indexed n r ≡ cond (is_id q r) (Some b) (slots.indexed x r)) view (w (subst (λ o. IsSome o) was refl) r)
 
+  -- what is asked of it has the same answer
+  pub as_it_was : {B : Type 0} (f : Named → Option B) (b : Named) → f b ≡ f a → (IsSome (slots.indexed inner q) → slots.Updates inner n q (Some b)) → asked f n ≡ asked f m
+  as_it_was f b e w = stays f m n q (Some b) (lent b w) (e ∙ ap (option_and_then f) held_there)
+
 -- a slot that is written, and then taken out
 pub twice : (l m n : NameIndex) (q : Id) (a b : Option Named) → ((r : Id) → slots.indexed m r ≡ cond (is_id q r) a (slots.indexed l r)) → ((r : Id) → slots.indexed n r ≡ cond (is_id q r) b (slots.indexed m r)) →
     (r : Id) → slots.indexed n r ≡ cond (is_id q r) b (slots.indexed l r)

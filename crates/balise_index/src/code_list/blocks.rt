@@ -35,7 +35,7 @@ fn is_at(blocks: &Vec<Block>, b: usize, i: usize) -> bool
     i < blocks[b + 1].start
 }
 
-// The same by halving.
+// Finds that block by halving.
 fn halved(blocks: &Vec<Block>, i: usize) -> usize
     requires some { 0 < length blocks.now.items }
     requires laid { Laid 0 blocks.now.items }

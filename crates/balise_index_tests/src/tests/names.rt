@@ -4,7 +4,7 @@
 use crate::tests::identities::id;
 use crate::tests::links::{LOWEST, has, nth};
 use balise_index::NameIndex;
-use balise_rules::{Id, Tag};
+use balise_rules::{Id, Refusal, Tag};
 use std::alloc::Global;
 use std::process::Abort;
 
@@ -77,6 +77,27 @@ fn check_tags(rt: &impl Abort, alloc: Global) {
 #[test]
 fn the_first_and_the_last_tags(rt: HostRuntime) {
     check_tags(&rt, rt.alloc());
+}
+
+fn check_claims(rt: &impl Abort, alloc: Global) {
+    let mut index = NameIndex::new(alloc);
+    assert!(rt; index.claim(id(1, 1), Tag::Base(7)) == Ok(()));
+    assert!(rt; index.claim(id(1, 1), Tag::Base(8)) == Err(Refusal::GroupTwice));
+    assert!(rt; index.claim(id(1, 1), Tag::Base(292_999_999)) == Err(Refusal::GroupTwice));
+    assert!(rt; index.tag(id(1, 1)) == Some(Tag::Base(7)));
+    assert!(rt; index.claim(id(1, 2), Tag::Base(292_999_999)) == Err(Refusal::OutOfMemory));
+    assert!(rt; index.tag(id(1, 2)).is_none());
+    // One that is named, and that no group has.
+    assert!(rt; name(&mut index, alloc, id(1, 3), 0, 2) == 2);
+    assert!(rt; index.claim(id(1, 3), Tag::Base(292_999_999)) == Err(Refusal::OutOfMemory));
+    assert!(rt; index.claim(id(1, 3), Tag::Base(9)) == Ok(()));
+    assert!(rt; index.tag(id(1, 3)) == Some(Tag::Base(9)));
+    assert!(rt; index.names(id(1, 3)).is_some());
+}
+
+#[test]
+fn an_identity_is_claimed_once(rt: HostRuntime) {
+    check_claims(&rt, rt.alloc());
 }
 
 /// Moves so many names from one identity to another that a group has.

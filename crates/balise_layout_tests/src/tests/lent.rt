@@ -63,6 +63,15 @@ pub(crate) fn check_lent(rt: &impl Abort, bits: &Bits, at: usize, version: u32, 
     let lent = PacketRef::new(bits, at, version);
     check_alike(rt, &packet, &lent);
     check_cut(rt, bits.allocator(), &lent, digits);
+    let Some(left) = bits.len().checked_sub(at) else {
+        panic!(rt; "a place after the bits");
+    };
+    assert!(rt; left >= 23);
+    check_alike(
+        rt,
+        &packet,
+        &PacketRef::of_head(bits, at, version, bits.number(at, 23)),
+    );
 }
 
 // The packet with other bits before it and after it.

@@ -1,5 +1,5 @@
 -- A change of one item, as the code makes it at its place in a list or under its key in a map.
-use Rattle.std.proofs.Common.{◌≡◌, ℕ, Bool, cond, List, Some, None, position, refl, sym, ◌∙◌, ap, subst, slice_set, get_or, zero, suc, ◌<◌, ◌≤◌, [], ◌∷◌, length, arith}
+use Rattle.std.proofs.Common.{◌≡◌, ℕ, Bool, cond, List, Some, None, position, refl, sym, ◌∙◌, ap, subst, slice_set, get_or, zero, suc, ◌<◌, [], ◌∷◌, length, arith}
 use Rattle.std.specs.Map.{set_value}
 use Rattle.balise_rules.specs.Tagged.{find, each, Distinct}
 use Rattle.balise_rules.proofs.Tests.{IsTest}

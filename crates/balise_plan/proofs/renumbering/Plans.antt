@@ -252,7 +252,7 @@ there_and_back m mid n to g e put out r =
     (λ d. out r ∙ ap (λ b. cond b None (indexed mid r)) d ∙ sym (ap (indexed m) (sym (id_one to r d)) ∙ none-of (indexed m to) e))
     (λ d. out r ∙ ap (λ b. cond b None (indexed mid r)) d ∙ put r ∙ ap (λ b. cond b (Some g) (indexed m r)) d)
 
-none-map : {A B : Type 0} (f : A → B) (o : Option A) → option_map f o ≡ None → o ≡ None
+pub none-map : {A B : Type 0} (f : A → B) (o : Option A) → option_map f o ≡ None → o ≡ None
 none-map f None e = refl
 none-map f (Some x) e = absurd cc
 

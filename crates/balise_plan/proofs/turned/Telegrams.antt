@@ -1,5 +1,5 @@
 -- A telegram turned, step by step as the code does it.
-use Rattle.std.proofs.Common.{◌≡◌, ◌-◌, ◌<◌, ◌≤◌, ℕ, zero, suc, Bool, true, false, cond, not, ◌&&◌, ◌||◌, eqb, List, [], ◌∷◌, length, get_or, slice_get, Option, Some, None, Result, Ok, Err, refl, sym, ap, subst, ◌∙◌, arith}
+use Rattle.std.proofs.Common.{◌≡◌, ◌-◌, ◌<◌, ℕ, zero, suc, Bool, true, false, cond, not, ◌&&◌, ◌||◌, eqb, [], ◌∷◌, length, get_or, Option, Some, None, Result, Ok, Err, refl, sym, ap, subst, ◌∙◌, arith}
 use Rattle.std.specs.Option.{option_map}
 use Rattle.std.specs.Prelude.{is_none, unwrap_or, nat_lt}
 use Rattle.std.proofs.lemmas.Bool.{true≢false}
@@ -8,20 +8,17 @@ use Rattle.balise_rules.specs.declared.refusal.Refusal.TheVariants.{NoSuchVariab
 use Rattle.balise_rules.specs.Doing.{first_of, when}
 use Rattle.balise_rules.specs.declared.variable.Var.TheVariants.{NPig, NTotal, MDup}
 use Rattle.balise_rules.specs.Variables.{width_of, is_free_in_header}
-use Rattle.balise_rules.specs.Tagged.{find, each, Distinct}
 use Rattle.balise_rules.specs.Forms.{Fields}
 use Rattle.balise_rules.specs.Packet.{value, field_of, with_value}
 use Rattle.balise_rules.specs.Telegram.{Telegram}
 use Rattle.balise_rules.specs.Plan.{Group}
-use Rattle.balise_rules.proofs.Tests.{IsTest, split_on, key_test}
+use Rattle.balise_rules.proofs.Tests.{key_test}
 use Rattle.balise_rules.proofs.Lists.{find-each}
-use Rattle.balise_rules.proofs.Cases.{unsome}
 use Rattle.balise_telegram.specs.declared.fault.TelegramFault.{TelegramFault}
 use Rattle.balise_telegram.specs.Setting.{SetsHead, with_head, fields_refusal}
 use Rattle.balise_plan.specs.Walks.{FitsTotals}
 use Rattle.balise_plan.specs.Turned.{with_turned_head}
 use Rattle.balise_telegram.proofs.Turning.{each_to}
-use Rattle.balise_plan.proofs.items.Places.{absent-each}
 
 -- M_DUP is set where it is 1 or 2
 not_refused : (hs gs : Fields) (n d : ℕ) → gs ≡ with_value NPig 0 n hs → value MDup 0 hs ≡ d → (eqb d 1 || eqb d 2) ≡ true → fields_refusal MDup (3 - d) gs ≡ None

@@ -1,4 +1,4 @@
-//! A group once more.
+//! Copies of a group.
 
 ghost use Rattle.std.specs.Prelude.{◌≡◌, IfOk, IsOkUnless};
 
@@ -7,7 +7,7 @@ use crate::one_or_more::OneOrMore;
 use balise_rules::Refusal;
 
 impl Group {
-    /// The same group once more.
+    /// A copy, with the same tags.
     pub fn copy(&self) -> Result<Group, Refusal>
         ensures ok { IfOk result (λ group. group ≡ self.now) }
         ensures fault { IsOkUnless result Refusal.OutOfMemory }

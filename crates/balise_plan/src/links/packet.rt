@@ -29,7 +29,7 @@ pub(crate) fn add_packet(
     add_linking(alloc, index, place, country, packet)
 }
 
-// The same of a packet that has elements. Its elements stand in no frame of a packet that has none.
+// Notes the links of a packet that has elements. Out of line, so that a packet without any takes no stack for them.
 #[inline(never)]
 fn add_linking(
     alloc: Global,
@@ -102,7 +102,7 @@ pub(crate) fn forget_packet(
     }
 }
 
-// The same of a packet that has elements.
+// Forgets the links of a packet that has elements.
 #[inline(never)]
 fn forget_linking(index: &mut NameIndex, place: PacketPlace, country: u32, packet: &PacketRef)
     ensures forgotten { ForgetsAll (links_from place.group place.telegram place.packet 0 (links_of country packet.now)) (names_of index.old) (names_of index.new) }

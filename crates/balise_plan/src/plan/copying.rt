@@ -1,4 +1,4 @@
-//! A plan once more.
+//! Copies of a plan.
 
 ghost use Rattle.std.specs.Prelude.{◌≡◌, IfOk, IsOkUnless};
 
@@ -9,7 +9,7 @@ use balise_index::{NameIndex, OrderedMap};
 use balise_rules::Refusal;
 
 impl Plan {
-    /// The same plan once more, with its changes counted.
+    /// A copy, with the same tags and the same count of changes.
     pub fn copy(&self) -> Result<Plan, Refusal>
         ensures ok { IfOk result (λ plan. plan ≡ self.now) }
         ensures fault { IsOkUnless result Refusal.OutOfMemory }

@@ -10,7 +10,7 @@ ghost use Rattle.balise_plan.specs.Held.{DoesAlways, MayChange};
 ghost use Rattle.balise_plan.specs.Spots.{PutsGroup};
 
 use crate::group::Group;
-use crate::group_places::{is_taken, place_of, put_at};
+use crate::group_places::{place_of, put_at};
 use crate::links::group::forget_group;
 use crate::plan::Plan;
 use balise_index::{OrderedMap, Spot};
@@ -34,15 +34,13 @@ impl Plan {
         let Some(i) = place_of(&self.groups, spot) else {
             return Err((Refusal::NoSuchGroup, group));
         };
-        let own = group.identity();
-        if is_taken(&self.index, own) {
-            return Err((Refusal::GroupTwice, group));
+        match put_at(&mut self.groups, &mut self.index, i, g, group) {
+            Ok(()) => {
+                self.changes += 1;
+                Ok(())
+            }
+            Err(back) => Err(back),
         }
-        if let Err(back) = put_at(&mut self.groups, &mut self.index, i, g, group) {
-            return Err((Refusal::OutOfMemory, back));
-        }
-        self.changes += 1;
-        Ok(())
     }
 
     /// Takes a group out, and answers it and the tag of its next neighbour. What names the group stays.

@@ -2,8 +2,9 @@
 
 ghost use Rattle.std.specs.Prelude.{◌≡◌, ◌≢◌, Bool, IfErr, IfOk, OnOk, Ok, Err, List, map, []};
 ghost use Rattle.balise_plan.specs.GroupReading.{PushesGroup, PushesRead};
-ghost use Rattle.balise_rules.specs.Plan.{pushed, read_plan};
+ghost use Rattle.balise_rules.specs.Plan.{identity_of, pushed, read_plan};
 ghost use Rattle.balise_plan.specs.Spots.{Pushes};
+ghost use Rattle.balise_index.specs.NameIndex.{indexed, tags_of, IsUnclaimed};
 
 use crate::group::Group;
 use crate::group_places::{is_taken, put_at};
@@ -60,22 +61,18 @@ impl Plan {
         self.push_read(group)
     }
 
-    // The same of a group that was read.
+    // Puts a group in at the end, under the tag of its place.
     fn push_read(&mut self, group: Group) -> Result<(), Refusal>
         requires { self.old.changes ≡ 0 }
         ensures { PushesGroup group self.old result self.new }
     {
-        let own = group.identity();
-        if is_taken(&self.index, own) {
-            return Err(Refusal::GroupTwice);
-        }
         let place = self.groups.len();
         if place >= 4294967296 {
-            return Err(Refusal::OutOfMemory);
+            return Err(no_tag_for(&self.index, &group));
         }
         let tag = Tag::Base(place as u32);
-        if let Err(_back) = put_at(&mut self.groups, &mut self.index, place, tag, group) {
-            return Err(Refusal::OutOfMemory);
+        if let Err((refusal, _)) = put_at(&mut self.groups, &mut self.index, place, tag, group) {
+            return Err(refusal);
         }
         Ok(())
     }
@@ -94,5 +91,16 @@ impl Plan {
             }
         }
         Ok(plan)
+    }
+}
+
+// Why a group isn't put in where no tag counts its place.
+fn no_tag_for(index: &NameIndex, group: &Group) -> Refusal
+    ensures { IsUnclaimed result (indexed (tags_of index.now) (identity_of group.now)) }
+{
+    if is_taken(index, group.identity()) {
+        Refusal::GroupTwice
+    } else {
+        Refusal::OutOfMemory
     }
 }

@@ -97,7 +97,7 @@ impl Telegram {
         }
     }
 
-    /// The same in each packet.
+    /// Exchanges the directions 0 and 1 in Q_DIR of each packet.
     pub fn flip_dirs(&mut self)
         ensures { self.new ≡ with_packets self.old (each (λ _ x. turned x) self.old.packets) }
     {
@@ -105,7 +105,7 @@ impl Telegram {
         let mut place = first();
         'packets: loop {
             // It is read before the bits beside it change, since a processor waits for those.
-            let Some(next) = self.place_behind(place) else {
+            let Some(next) = self.next_place(place) else {
                 return;
             };
             self.flip_dir_there(place.at);
@@ -113,7 +113,7 @@ impl Telegram {
         }
     }
 
-    // The same in the packet that stands there among the bits.
+    // Exchanges them in the packet that begins at this bit.
     #[tactic(auto, unfolding(balise_rules::specs::Variables::steers, balise_rules::specs::Variables::width_of))]
     fn flip_dir_there(&mut self, packet: usize)
         requires { (tag : Tag) × (packet_place 50 tag self.old.packets ≡ Some packet) }

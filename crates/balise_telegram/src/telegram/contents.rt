@@ -83,7 +83,7 @@ impl Contents {
         }
     }
 
-    /// The same once more.
+    /// A copy.
     pub(crate) fn copy(&self) -> Result<Contents, TelegramFault>
         ensures ok { IfOk result (λ c. (y : Telegram) → StandsFor (packed_of self.now) (kept_of self.now) y → StandsFor (packed_of c) (kept_of c) y) }
         ensures fault { IsOkUnless result TelegramFault.OutOfMemory }

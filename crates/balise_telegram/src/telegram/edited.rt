@@ -9,7 +9,7 @@ ghost use Rattle.balise_telegram.specs.declared.telegram.walking.Place.{Place};
 
 use crate::PacketTag;
 use crate::fault::TelegramFault;
-use crate::telegram::walking::{Place, ends, walk};
+use crate::telegram::walking::{Place, ends, head_at, walk};
 use balise_layout::Bits;
 use smallvec::SmallVec;
 use std::alloc::Global;
@@ -45,7 +45,7 @@ impl Edited {
         }
     }
 
-    /// The same once more.
+    /// A copy.
     pub(crate) fn copy(&self, alloc: Global) -> Result<Edited, TelegramFault>
         ensures ok { IfOk result (λ e. (e.tags.items ≡ self.now.tags.items) × (e.ground ≡ self.now.ground) × (e.used ≡ self.now.used)) }
         ensures fault { IsOkUnless result TelegramFault.OutOfMemory }
@@ -70,9 +70,9 @@ pub(crate) fn place_read(bits: &Bits, tag: PacketTag) -> Option<Place>
     if place.index < number as usize {
         return None;
     }
-    if bits.number(place.at, 8) == 255 {
+    let Some(_head) = head_at(bits, place) else {
         return None;
-    }
+    };
     Some(place)
 }
 
@@ -81,10 +81,20 @@ pub(crate) fn tag_read(bits: &Bits, place: Place) -> Option<PacketTag>
     requires { (y : Telegram) × IsShown bits.now y × IsPlace y place }
     ensures { (y : Telegram) → IsShown bits.now y → IsPlace y place → TaggedFrom 0 y.packets → result ≡ option_map (λ q. q.0) (slice_get y.packets place.index) }
 {
-    if bits.number(place.at, 8) == 255 {
+    let Some(_head) = head_at(bits, place) else {
         return None;
-    }
-    Some(PacketTag::Base(place.index as u32))
+    };
+    Some(tag_there(bits, place))
+}
+
+/// The tag of the packet that stands at a place of packets as they were read.
+#[inline(always)]
+pub(crate) fn tag_there(bits: &Bits, place: Place) -> PacketTag
+    requires { (y : Telegram) × IsShown bits.now y × IsPlace y place × (place.index < length y.packets) }
+    ensures { (y : Telegram) → IsShown bits.now y → IsPlace y place → place.index < length y.packets → TaggedFrom 0 y.packets → Some result ≡ option_map (λ q. q.0) (slice_get y.packets place.index) }
+{
+    let _len = bits.len();
+    PacketTag::Base(place.index as u32)
 }
 
 /// Tags and ground of bits as they are read.

@@ -5,7 +5,7 @@ ghost use Rattle.std.specs.Prelude.{◌≡◌};
 
 use crate::PacketTag;
 use crate::telegram::Telegram;
-use crate::telegram::walking::{Place, first};
+use crate::telegram::walking::{Place, first, head_at};
 use balise_layout::PacketRef;
 use std::iter::FusedIterator;
 use std::marker::Model;
@@ -39,13 +39,19 @@ impl<'a> Iterator for Packets<'a> {
 
     ghost remaining = { item_count (λ rest. rest) };
 
+    // Inlined, so that a loop that looks at few packets doesn't put together the others.
+    #[inline(always)]
     fn next(&mut self) -> Option<(PacketTag, PacketRef<'a>)> {
         let place = self.place;
         let telegram = self.telegram;
-        let Some(tag) = telegram.tag_at(place) else {
+        let packed = telegram.packed();
+        let Some(head) = head_at(packed, place) else {
             return None;
         };
-        let packet = telegram.lent_in(place, self.version);
+        let Some(tag) = telegram.tag_there(place) else {
+            return None;
+        };
+        let packet = PacketRef::of_head(packed, place.at, self.version, head);
         self.place = telegram.after_lent(place, &packet);
         Some((tag, packet))
     }

@@ -1,6 +1,7 @@
 //! Walks over the packets of a telegram's bits.
 
-ghost use Rattle.std.specs.Prelude.{◌≡◌, ◌≤◌, ◌<◌, ◌+◌, length};
+ghost use Rattle.std.specs.Prelude.{◌≡◌, ◌≤◌, ◌<◌, ◌+◌, IfNone, IfSome, length};
+ghost use Rattle.balise_rules.specs.Bits.{num, part};
 ghost use Rattle.balise_rules.specs.Telegram.{used, Telegram};
 ghost use Rattle.balise_telegram.specs.Shown.{IsPlace, IsShown, Passes};
 
@@ -32,15 +33,33 @@ pub(crate) fn walk(bits: &Bits, most: usize) -> Place
         if count == most {
             return Place { index: count, at };
         }
-        let number = bits.number(at, 8);
-        if number == 255 {
+        let Some(head) = head_at(bits, Place { index: count, at }) else {
             return Place { index: count, at };
-        }
+        };
         // L_PACKET
-        let width = bits.number(at + 10, 13);
-        at += width as usize;
+        at += (head % 8192) as usize;
         count += 1;
     }
+}
+
+/// The first 23 bits of the packet at a place: NID_PACKET, Q_DIR and L_PACKET. `None` where packet 255 stands there.
+#[inline(always)]
+pub(crate) fn head_at(bits: &Bits, place: Place) -> Option<u32>
+    requires { (y : Telegram) × IsShown bits.now y × IsPlace y place }
+    ensures none { IfNone result ((y : Telegram) → IsShown bits.now y → IsPlace y place → length y.packets ≤ place.index) }
+    ensures within { IfSome result (λ _. place.at + 23 ≤ length bits.now) }
+    ensures head { IfSome result (λ head. head ≡ num (part place.at 23 bits.now)) }
+    ensures stands { IfSome result (λ _. (y : Telegram) → IsShown bits.now y → IsPlace y place → place.index < length y.packets) }
+{
+    // Packet 255 may be the last 8 bits. Each other one has 23 at least.
+    if place.at + 23 > bits.len() {
+        return None;
+    }
+    let head = bits.number(place.at, 23);
+    if head >> 15 == 255 {
+        return None;
+    }
+    Some(head)
 }
 
 /// The place after the last packet.

@@ -352,6 +352,12 @@ const NUMBERS: &[(&str, Option<u32>)] = &[
     ("01", None),
     ("-1", None),
     ("1a", None),
+    ("10", Some(10)),
+    ("1 2", None),
+    ("1 ", None),
+    (" 1", None),
+    (" ", None),
+    ("1.2", None),
     ("", None),
 ];
 

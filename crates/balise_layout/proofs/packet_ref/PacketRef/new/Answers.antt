@@ -1,33 +1,8 @@
--- The number and the length of the packet that is read there.
-use Rattle.std.proofs.Common.{◌≡◌, ◌∙◌, ◌+◌, ◌/◌, ◌%◌, ◌^◌, ℕ, List, Bool, Option, ap, arith}
-use Rattle.balise_rules.specs.Bits.{num, part}
-use Rattle.balise_rules.specs.Packet.{Packet}
-use Rattle.balise_layout.specs.Layouts.{next_of, layout_in}
-use Rattle.balise_layout.specs.Kinds.{number_of}
-use Rattle.balise_layout.proofs.Lent.{Lies, Read, head_parts, read_there, read_lies_there}
-use Rattle.balise_layout.proofs.Spelt.{held_is, is_held}
+use Rattle.std.proofs.Common.{arith}
+use Rattle.balise_layout.proofs.Lent.{read_there}
 use Rattle.balise_layout.proofs.packet_ref.PacketRef.new.Goals as goal
 
 pub number-head-requires-clause-within : goal.number-head-requires-clause-within
 number-head-requires-clause-within c =
     let r = read_there c.args.version c.args.at c.args.bits.now c.requires.0 c.requires.1 c.requires.2 in
     omega (arith, r.within, r.least)
-
-pub overflow_add-end : goal.overflow_add-end
-overflow_add-end c =
-    let r = read_there c.args.version c.args.at c.args.bits.now c.requires.0 c.requires.1 c.requires.2 in
-    let h = head_parts c.args.bits.now c.args.at c.number-head.result (omega (arith, r.within, r.least)) c.number-head.ensures in
-    omega (arith, r.within, r.said, h.1, c.len-len.ensures, c.len-len.type_inv)
-
-there : (version at h : ℕ) (b : List Bool) (p : Packet) (k : Option ℕ) → Read version at b p → h ≡ num (part at 23 b) → k ≡ layout_in version (h / 2 ^ 15) → Lies (next_of k) b at (at + h % 8192) p
-there version at h b p k r e of =
-    let s = head_parts b at h (omega (arith, r.within, r.least)) e in
-    read_lies_there version at (h % 8192) k b p r (of ∙ ap (layout_in version) s.0) s.1
-
-pub invariant_of-result : goal.invariant_of-result
-invariant_of-result c =
-    let l = there c.args.version c.args.at c.number-head.result c.args.bits.now c.requires.0 (number_of c.of-kind.result) (read_there c.args.version c.args.at c.args.bits.now c.requires.0 c.requires.1 c.requires.2) c.number-head.ensures c.of-kind.ensures in
-    (l.ordered, l.within, is_held _ _ c.requires.0 l.holds)
-
-pub returns : goal.returns
-returns c = λ p after e. held_is _ _ p (there c.args.version c.args.at c.number-head.result c.args.bits.now p (number_of c.of-kind.result) (read_there c.args.version c.args.at c.args.bits.now p after e) c.number-head.ensures c.of-kind.ensures).holds

@@ -9,9 +9,6 @@ use Rattle.balise_plan.proofs.plan.Plan.copy.Goals.{else-loop-i-test, then-loop-
 pub put_at-requires-clause-new : goal.put_at-requires-clause-new
 put_at-requires-clause-new c = (is-next c.self.inside.groups.entries c.loop-i.i c.in-Some.tag c.in-Some.group.now c.in_ok-group.group (tags_of c.loop-i.index) (names_of c.loop-i.index) c.loop-i.groups.entries c.self.invariant.held.sound c.loop-i.invariant (omega (arith, c.loop-i-test.true, c.len-i-end.ensures)) (sym c.in-Some.ensures) c.in_ok-group.ensures.ok).new
 
-pub put_at-requires-clause-free : goal.put_at-requires-clause-free
-put_at-requires-clause-free c = (is-next c.self.inside.groups.entries c.loop-i.i c.in-Some.tag c.in-Some.group.now c.in_ok-group.group (tags_of c.loop-i.index) (names_of c.loop-i.index) c.loop-i.groups.entries c.self.invariant.held.sound c.loop-i.invariant (omega (arith, c.loop-i-test.true, c.len-i-end.ensures)) (sym c.in-Some.ensures) c.in_ok-group.ensures.ok).free
-
 pub loop-i-preserved : goal.loop-i-preserved
 loop-i-preserved c =
     let next = is-next c.self.inside.groups.entries c.loop-i.i c.in-Some.tag c.in-Some.group.now c.in_ok-group.group (tags_of c.loop-i.index) (names_of c.loop-i.index) c.loop-i.groups.entries c.self.invariant.held.sound c.loop-i.invariant (omega (arith, c.loop-i-test.true, c.len-i-end.ensures)) (sym c.in-Some.ensures) c.in_ok-group.ensures.ok in

@@ -3,7 +3,7 @@ use Rattle.std.specs.List.{position}
 use Rattle.balise_rules.specs.declared.tag.Tag.TheVariants.{Base}
 use Rattle.balise_telegram.proofs.Tagging.{is_tagged}
 use Rattle.balise_telegram.proofs.KeptTags.{place_is, no_place}
-use Rattle.balise_telegram.proofs.Walking.{all_gone, next_there, passed_to, place_within}
+use Rattle.balise_telegram.proofs.Walking.{passed_to}
 use Rattle.balise_telegram.proofs.telegram.edited.place_read.Goals as goal
 
 pub returns-in_default-clause-place : goal.returns-in_default-clause-place
@@ -18,32 +18,24 @@ returns-then-place-number-clause-place c = λ y s u.
     let p = c.walk-place.ensures y s in
     omega (arith, p.counted, c.if-place-number.true, one, l))
 
-pub number-requires-clause-within : goal.number-requires-clause-within
-number-requires-clause-within c =
-    let y = c.requires.0 in
-    let s = c.requires.1 in
-    let p = passed_to y c.in-Base.number c.walk-place.result (c.walk-place.ensures y s) in
-    (place_within c.args.bits.now y c.walk-place.result.index c.walk-place.result.at s p.0 p.1).1
-
-pub returns-then-number-eq255-clause-place : goal.returns-then-number-eq255-clause-place
-returns-then-number-eq255-clause-place c = λ y s u.
+pub returns-in_default-head_at-clause-place : goal.returns-in_default-head_at-clause-place
+returns-in_default-head_at-clause-place c = λ y s u.
     no_place c.args.tag y.packets (position (is_tagged c.args.tag) y.packets) u refl
     (λ (j : ℕ) (t : c.args.tag ≡ Base j) (l : j < length y.packets).
     let both : Base c.in-Base.number ≡ Base j = sym c.in-Base.is ∙ t in
     let one : c.in-Base.number ≡ j = cc in
     let p = c.walk-place.ensures y s in
-    let gone = all_gone c.args.bits.now y c.walk-place.result.index c.walk-place.result.at c.number.result s p.place c.number.ensures c.if-number-eq255.true in
+    let gone = c.in_default-head_at.ensures.none y s (passed_to y c.in-Base.number c.walk-place.result p) in
     omega (arith, p.counted, c.if-place-number.false, one, l, gone))
 
 pub returns-clause-place : goal.returns-clause-place
 returns-clause-place c = λ y s u.
     let p = c.walk-place.ensures y s in
-    let z = next_there c.args.bits.now y c.walk-place.result.index c.walk-place.result.at c.number.result s p.place c.number.ensures c.if-number-eq255.false in
+    let below = c.in-Some.ensures.stands y s (passed_to y c.in-Base.number c.walk-place.result p) in
     let same : c.walk-place.result.index ≡ c.in-Base.number = omega (arith, p.counted, c.if-place-number.false) in
-    ap Some same ∙ place_is c.args.tag y.packets (position (is_tagged c.args.tag) y.packets) u refl c.in-Base.number c.in-Base.is (omega (arith, same, z.below))
+    ap Some same ∙ place_is c.args.tag y.packets (position (is_tagged c.args.tag) y.packets) u refl c.in-Base.number c.in-Base.is (omega (arith, same, below))
 
 pub returns-clause-stands : goal.returns-clause-stands
 returns-clause-stands c = λ y s.
-    let p = c.walk-place.ensures y s in
-    let z = next_there c.args.bits.now y c.walk-place.result.index c.walk-place.result.at c.number.result s p.place c.number.ensures c.if-number-eq255.false in
-    (passed_to y c.in-Base.number c.walk-place.result p, z.below)
+    let p = passed_to y c.in-Base.number c.walk-place.result (c.walk-place.ensures y s) in
+    (p, c.in-Some.ensures.stands y s p)

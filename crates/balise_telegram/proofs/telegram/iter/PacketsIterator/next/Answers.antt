@@ -1,17 +1,46 @@
-use Rattle.std.proofs.Common.{◌∙◌, sym}
-use Rattle.balise_telegram.proofs.Left.{first_left, none_left, some_left}
+use Rattle.std.proofs.Common.{◌≡◌, ◌∙◌, sym, ap}
+use Rattle.balise_rules.specs.Packet.{Packet}
+use Rattle.balise_rules.specs.declared.tag.Tag.{Tag}
+use Rattle.balise_rules.proofs.Cases.{unsome}
+use Rattle.balise_telegram.proofs.Left.{first_left, none_left, past_all, some_left}
+use Rattle.balise_telegram.proofs.Walking.{lent_at}
 use Rattle.balise_telegram.proofs.telegram.iter.PacketsIterator.next.Goals as goal
 
 pub returns-in_default-clause-steps : goal.returns-in_default-clause-steps
 returns-in_default-clause-steps c =
-    let none = sym c.self.view_is ∙ none_left c.self.inside.telegram.now.packets c.self.inside.place.index c.in_default.ensures in
+    let y = c.self.inside.telegram.now in
+    let none = sym c.self.view_is ∙ past_all y.packets c.self.inside.place.index (c.in_default.ensures.none y c.packed-packed.ensures c.self.invariant.1) in
     (none, none)
 
-pub lent_in-packet-requires-clause-stands : goal.lent_in-packet-requires-clause-stands
-lent_in-packet-requires-clause-stands c = (some_left c.self.inside.telegram.now.packets c.self.inside.place.index c.in-Some.tag c.in-Some.ensures).1
+pub returns-in_default-tag_there-clause-steps : goal.returns-in_default-tag_there-clause-steps
+returns-in_default-tag_there-clause-steps c =
+    let none = sym c.self.view_is ∙ none_left c.self.inside.telegram.now.packets c.self.inside.place.index c.in_default-tag_there.ensures in
+    (none, none)
+
+pub of_head-packet-requires-clause-there : goal.of_head-packet-requires-clause-there
+of_head-packet-requires-clause-there c =
+    let y = c.self.inside.telegram.now in
+    let s = c.packed-packed.ensures in
+    let p = c.self.invariant.1 in
+    let t = lent_at c.packed-packed.result.now y c.self.inside.place.index c.self.inside.place.at c.self.inside.version s (c.in-Some.ensures.stands y s p) p.1 c.self.invariant.0 in
+    (t.0.1, t.1, t.3)
+
+pub after_lent-self-inside-requires-clause-lent : goal.after_lent-self-inside-requires-clause-lent
+after_lent-self-inside-requires-clause-lent c = λ x e.
+    let y = c.self.inside.telegram.now in
+    let s = c.packed-packed.ensures in
+    let p = c.self.invariant.1 in
+    let t = lent_at c.packed-packed.result.now y c.self.inside.place.index c.self.inside.place.at c.self.inside.version s (c.in-Some.ensures.stands y s p) p.1 c.self.invariant.0 in
+    let same : t.0 ≡ x = unsome (sym t.2 ∙ e) in
+    c.of_head-packet.ensures t.0.1 t.1 t.3 ∙ ap (λ (q : Tag × Packet). q.1) same
 
 pub returns-clause-steps : goal.returns-clause-steps
 returns-clause-steps c =
-    let ps = c.self.inside.telegram.now.packets in
-    let l = some_left ps c.self.inside.place.index c.in-Some.tag c.in-Some.ensures in
-    sym c.self.view_is ∙ first_left ps c.self.inside.place.index c.in-Some.tag l.0 c.after_lent-self-inside.result.index c.lent_in-packet.result l.2 c.after_lent-self-inside.ensures.index (c.lent_in-packet.ensures (c.in-Some.tag, l.0) l.2)
+    let y = c.self.inside.telegram.now in
+    let s = c.packed-packed.ensures in
+    let p = c.self.invariant.1 in
+    let l = some_left y.packets c.self.inside.place.index c.in-Some-tag_there.tag c.in-Some-tag_there.ensures in
+    let t = lent_at c.packed-packed.result.now y c.self.inside.place.index c.self.inside.place.at c.self.inside.version s l.1 p.1 c.self.invariant.0 in
+    let same : t.0 ≡ (c.in-Some-tag_there.tag, l.0) = unsome (sym t.2 ∙ l.2) in
+    let is = c.of_head-packet.ensures t.0.1 t.1 t.3 ∙ ap (λ (q : Tag × Packet). q.1) same in
+    sym c.self.view_is ∙ first_left y.packets c.self.inside.place.index c.in-Some-tag_there.tag l.0 c.after_lent-self-inside.result.index c.of_head-packet.result l.2 c.after_lent-self-inside.ensures.index is

@@ -1,5 +1,5 @@
 use Rattle.balise_telegram.proofs.Walking.{all_gone, next_there, place_within}
-use Rattle.balise_telegram.proofs.telegram.Telegram.place_behind.Goals as goal
+use Rattle.balise_telegram.proofs.telegram.Telegram.next_place.Goals as goal
 
 pub number-requires-clause-within : goal.number-requires-clause-within
 number-requires-clause-within c =

@@ -113,12 +113,6 @@ put_at-pieces to at n m k x b h room =
 
 -- ---- what is read after bits were put
 
--- at the place itself
-pub part-put_at_same : (at : ℕ) (x b : List Bool) → at + length x ≤ length b → part at (length x) (put_at at x b) ≡ x
-part-put_at_same at x b h =
-    let size : length (take at b) ≡ at = omega (arith, length-take at b) in
-    ap (take (length x)) (drop_at (take at b) (x ++ drop (at + length x) b) at size) ∙ take_at x (drop (at + length x) b) (length x) refl
-
 -- before it
 pub part-put_at_before : (o n at : ℕ) (x b : List Bool) → o + n ≤ at → at ≤ length b → part o n (put_at at x b) ≡ part o n b
 part-put_at_before o n at x b h lt =

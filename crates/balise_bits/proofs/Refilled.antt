@@ -1,6 +1,6 @@
 -- A list that others were written over.
-use Rattle.std.proofs.Common.{◌≡◌, ℕ, ◌≤◌, List, ◌++◌, length, take, drop, arith, rules, length-take-le, length-append}
-use Rattle.std.proofs.lemmas.List.{same_lists, places, length-take, length-drop}
+use Rattle.std.proofs.Common.{◌≡◌, ℕ, ◌≤◌, List, length, take, arith, rules, length-take-le}
+use Rattle.std.proofs.lemmas.List.{same_lists, places}
 use Rattle.std.proofs.lemmas.Bool.{cases_lt}
 use Rattle.std.specs.List.{refill}
 
@@ -9,7 +9,3 @@ pub take-refill : (n : ℕ) (xs ws : List ℕ) → n ≤ length xs → take n (r
 take-refill n xs ws le =
     let cut = length-take-le n xs le in
     same_lists _ _ (search (rules, places)) (λ k d h. grind (arith, places, cases_lt k (length ws)))
-
-pub length-refill : (xs ws : List ℕ) → length (refill (length xs) xs ws) ≡ length xs
-length-refill xs ws =
-    omega (arith, length-take (length xs) (ws ++ drop (length ws) xs), length-append ws (drop (length ws) xs), length-drop (length ws) xs)

@@ -92,10 +92,6 @@ no_replies asked s t (d ∷ ds) [] out e a = absurd a
 no_replies asked s t [] (r ∷ rs) out e a = absurd cc
 no_replies asked s t (d ∷ ds) (r ∷ rs) out e a = absurd cc
 
-left_all : (stop : Bool) (rs : List Reply) (left : List Line) → rs ≡ [] → StopsAt stop rs left → left ≡ []
-left_all stop [] left e a = a
-left_all stop (r ∷ rs) left e a = absurd cc
-
 one_answered : (asked : Asked) (s t u : State) (ds ls es ks : List Line) (rs qs : List Reply) (out more : Text) → ds ++ ls ≡ es ++ ks → StopsAt asked.stop rs ls → StopsAt asked.stop qs ks
     → Answered asked false s ds rs out t → Answered asked false s es qs more u → Alike t u out more rs qs
 one_answered asked s t u [] ls es ks [] qs out more e a b x y =

@@ -1,11 +1,11 @@
 -- A changed value that doesn't steer keeps the form, the numbering and the length of fields.
 -- Each form of a packet is steady, that is, only variables that steer say what follows. So a packet stays spelt, and as long, whatever accepted edit changes its fields.
-use Rattle.std.proofs.Common.{◌≡◌, ℕ, suc, ◌+◌, Bool, true, IsTrue, List, [], ◌∷◌, ◌++◌, length, refl, sym, ap, subst, ◌∙◌, arith, length-append}
+use Rattle.std.proofs.Common.{◌≡◌, ℕ, ◌+◌, Bool, true, IsTrue, List, [], ◌∷◌, ◌++◌, length, refl, sym, ap, subst, ◌∙◌, arith, length-append}
 use Rattle.balise_rules.specs.declared.variable.Var.{Var}
 use Rattle.balise_rules.specs.Variables.{width_of}
 use Rattle.balise_rules.specs.Bits.{bits, fits}
 use Rattle.balise_rules.specs.Tagged.{each}
-use Rattle.balise_rules.specs.Tags.{Key, is_of}
+use Rattle.balise_rules.specs.Tags.{Key}
 use Rattle.balise_rules.specs.Forms.{Form, done, shut, never, valued, Fields, Matches, count_of, NumberedFrom, Numbered, spelling}
 use Rattle.balise_rules.specs.Steady.{IsSteady}
 use Rattle.balise_rules.proofs.Tests.{split_on}
@@ -33,10 +33,6 @@ matches-each S (valued v next) (x ∷ xs) rest s h k f m =
       subst (λ w. IsTrue (fits (width_of w) (h x.0 x.1))) m.0 (f x.0 x.1 wide),
       subst (λ form. Matches form (each h xs) rest) same_form (matches-each S (next x.1) xs rest (s.1 x.1) h k f m.2),
     )
-
-count-each : (v : Var) → (h : Key → ℕ → ℕ) → (fs : Fields) → count_of v (each h fs) ≡ count_of v fs
-count-each v h [] = refl
-count-each v h (x ∷ xs) = let ih = count-each v h xs in split_on (is_of v x.0) (λ e. simp e (ap suc ih)) (λ e. simp e ih)
 
 numbered_from : (h : Key → ℕ → ℕ) → (seen before fs : Fields) → ((v : Var) → count_of v before ≡ count_of v seen) → NumberedFrom seen fs → NumberedFrom before (each h fs)
 numbered_from h seen before [] c u = tt

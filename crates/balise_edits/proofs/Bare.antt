@@ -86,6 +86,3 @@ asks_of f e groups is l = subst (λ x. AsksBack (f.0.0, x) f.1 groups) is (last_
 
 pub back_of : (f : Entry) (e : Edit) (old : held.Plan) → f.0.1 ≡ e → changed_to (back (f.0.0, e) f.1 old.groups) old ≡ changed_to (back f.0 f.1 old.groups) old
 back_of f e old is = ap (λ x. changed_to (back (f.0.0, x) f.1 old.groups) old) (sym is)
-
-pub done_of : (f : Entry) (e : Edit) (old : held.Plan) → f.0.1 ≡ e → changed_to (done (f.0.0, e) old.groups) old ≡ changed_to (done f.0 old.groups) old
-done_of f e old is = ap (λ x. changed_to (done (f.0.0, x) old.groups) old) (sym is)

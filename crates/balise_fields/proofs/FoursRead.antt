@@ -15,10 +15,6 @@ abbrev pub onto : List Bool → Option (List Bool) → Option (List Bool)
 onto b None = None
 onto b (Some c) = Some (b ++ c)
 
-pub onto_none : (o : Option (List Bool)) → o ≡ onto [] o
-onto_none None = refl
-onto_none (Some c) = refl
-
 at_digit : (w : Text) (i : ℕ) → i < length w → digit_bits (drop i w) ≡ behind_digit (digit_value (get_or w i 0)) (digit_bits (drop (i + 1) w))
 unfolding digit_bits
 at_digit w i h = let e : suc i ≡ i + 1 = omega arith in ap digit_bits (drop-cons w i 0 h) ∙ ap (λ (k : ℕ). behind_digit (digit_value (get_or w i 0)) (digit_bits (drop k w))) e

@@ -16,15 +16,6 @@ none_from {X = X} xs i h = empty (drop i xs) (omega (arith, length-drop i xs, h)
     empty [] e = refl
     empty (y ∷ ys) e = absurd (omega arith)
 
-pub digit_here : (w : Text) (i n : ℕ) → i < length w → digit_value (get_or w i 0) ≡ Some n → digits_before (drop i w) ≡ 1 + digits_before (drop (i + 1) w)
-digit_here w i n h e = ap digits_before (from_here w i 0 h) ∙ simp e
-
-pub no_digit_here : (w : Text) (i : ℕ) → i < length w → digit_value (get_or w i 0) ≡ None → digits_before (drop i w) ≡ 0
-no_digit_here w i h e = ap digits_before (from_here w i 0 h) ∙ simp e
-
-pub no_digit_left : (w : Text) (i : ℕ) → length w ≤ i → digits_before (drop i w) ≡ 0
-no_digit_left w i h = ap digits_before (none_from w i h)
-
 first_bit : (b : List Bool) (x : Bool) (xs : List Bool) (i : ℕ) → drop i b ≡ x ∷ xs → num (part i 1 b) ≡ num (x ∷ [])
 first_bit b x xs i e = ap (λ (r : List Bool). num (take 1 r)) e
 
@@ -43,6 +34,3 @@ zero_here b i h n = by (get_or b i false) (from_here b i false h)
     by : (x : Bool) → drop i b ≡ x ∷ drop (i + 1) b → zeros_before (drop i b) ≡ 1 + zeros_before (drop (i + 1) b)
     by true e = let one : num (part i 1 b) ≡ 1 = first_bit b true (drop (i + 1) b) i e in absurd (omega (arith, one, n))
     by false e = ap zeros_before e
-
-pub no_one_left : (b : List Bool) (i : ℕ) → length b ≤ i → zeros_before (drop i b) ≡ 0
-no_one_left b i h = ap zeros_before (none_from b i h)

@@ -54,10 +54,6 @@ pub topped : (sk : List Gone) (n : ℕ) → top_serial sk ≡ Some n → Topped 
 topped [] n h = absurd cc
 topped (r ∷ rs) n h = record { rest = rs; whole = refl; serial = unsome h }
 
-pub untopped : (sk : List Gone) → top_serial sk ≡ None → sk ≡ []
-untopped [] h = refl
-untopped (r ∷ rs) h = absurd cc
-
 pub state-is : (b c : rules.Plan) (l m : List Item) (j k : List Removed) (serial count : ℕ) → b ≡ c → l ≡ m → j ≡ k →
     ◌≡◌ {A = State} (record { base = b; standing = l; stack = j; serial = serial; count = count }) (record { base = c; standing = m; stack = k; serial = serial; count = count })
 state-is b c l m j k serial count x y z =
@@ -186,13 +182,6 @@ undo-accepts u p h next n e B q k o g s z t =
       l.changes,
     )
 
-pub undo-none : (p : Plan) (h : History) (next : ℕ) → length h.standing ≡ 0 → Refuses Undo (view p h next) NothingToUndo (view p h next)
-undo-none p h next l = (inr (λ m. ap (answer_undo (state_at m (view p h next))) (empty h.standing l)), refl)
-  where
-    empty : (es : List Entry) → length es ≡ 0 → last (items_of es) ≡ None
-    empty [] e = refl
-    empty (x ∷ xs) e = absurd (omega arith)
-
 -- ---- redos
 
 pub is-next : (p : Plan) (h : History) (next n : ℕ) (r : Gone) (rs : List Gone) → HeldIn p h next → h.stack ≡ r ∷ rs → n ≡ place_of r.0.0.0 h.standing → IsNext r.0 p.groups × Ascends r.1
@@ -223,9 +212,6 @@ redo-accepts u p h next n r rs q k o s g t =
           ∙ ap (λ (x : State). (Redone r.0.0.0, x)) (sym (state-is (back_along k.standing q.groups) base (items_of k.standing) (put_back (removed_of r) is) (map removed_of k.stack) (map removed_of rs) next (suc m) l.base l.standing l.stack_is))),
       l.changes,
     )
-
-pub redo-none : (p : Plan) (h : History) (next : ℕ) → h.stack ≡ [] → Refuses Redo (view p h next) NothingToRedo (view p h next)
-redo-none p h next s = (inr (λ m. ap (λ (x : List Gone). answer_redo (state_at m (view p h next)) (map removed_of x)) s), refl)
 
 -- ---- edits
 

@@ -148,17 +148,6 @@ is-noted-else p h next l o c e g r n f q k x a b d =
     let w = is-entered p h next (record l { noted = m }) o c e g r (same_itself m) f q k x a b d in
     (inr (refl, not-noted p h next l o c e g r n), inr (refl, (m, w)))
 
--- what stays is held
-pub enters-held : {A : Type 0} (l : Line) (next : ℕ) (p : Plan) (h : History) (r : Result A Refusal) (q : Plan) (k : History) → HeldIn p h next → EntersIn l next p h r q k → HeldIn q k next
-enters-held l next p h (Ok u) q k o w = w.0
-enters-held l next p h (Err r) q k o w = ⊎_elim (λ s. stays s.0 s.1 s.2) (λ n. n.1.1.0) w.1
-  where
-    stays : q ≡ p → k.standing ≡ h.standing → k.stack ≡ h.stack → HeldIn q k next
-    stays a b c =
-        let x = subst (λ (y : Plan). IsHeld y.groups h.standing h.stack next) (sym a) o in
-        let z = subst (λ (y : List Entry). IsHeld q.groups y h.stack next) (sym b) x in
-        subst (λ (y : List Gone). IsHeld q.groups k.standing y next) (sym c) z
-
 -- so it is seen
 pub enters-seen : {A : Type 0} (l : Line) (next : ℕ) (p : Plan) (h : History) (r : Result A Refusal) (q : Plan) (k : History) → EntersIn l next p h r q k → Enters l (view p h next) r (view q k next)
 enters-seen l next p h (Ok u) q k w = (w.1, w.2, few-held q.groups k.standing k.stack next w.0)

@@ -39,17 +39,6 @@ Added version all i old new = (b : List Bool) × (packets_of version all ≡ joi
 pub none_added : (version : ℕ) (all : List Given) (old : List Bool) → Added version all 0 old old
 none_added version all old = ([], joined-none (packets_of version all), sym (append-nil old))
 
-left_here : (version : ℕ) (all : List Given) (i : ℕ) (s : Given) → i < length all → s ≡ get_or all i s → packets_of version (drop i all) ≡ joined (packet_of version s) (packets_of version (drop (i + 1) all))
-left_here version all i s h e = ap (packets_of version) (from_here all i s h) ∙ ap (λ (x : Given). joined (packet_of version x) (packets_of version (drop (i + 1) all))) (sym e)
-
-pub one_added : (version : ℕ) (all : List Given) (i : ℕ) (s : Given) (old now new : List Bool) → i < length all → s ≡ get_or all i s → Added version all i old now → Adds now new (packet_of version s) → Added version all (i + 1) old new
-one_added version all i s old now new h e a r = (
-  a.0 ++ r.0,
-  a.1 ∙ ap (joined (Ok a.0)) (left_here version all i s h e) ∙ sym (joined-assoc (Ok a.0) (packet_of version s) (packets_of version (drop (i + 1) all)))
-      ∙ ap (λ (x : Part). joined (joined (Ok a.0) x) (packets_of version (drop (i + 1) all))) r.1,
-  r.2 ∙ ap (λ (x : List Bool). x ++ r.0) a.2 ∙ append_assoc old a.0 r.0,
-)
-
 pub all_added : (version : ℕ) (all : List Given) (i : ℕ) (old new : List Bool) → length all ≤ i → Added version all i old new → Adds old new (packets_of version all)
 all_added version all i old new h a = (a.0, a.1 ∙ ap (λ (x : List Given). joined (Ok a.0) (packets_of version x)) (none_from all i h) ∙ joined-end (Ok a.0), a.2)
 
@@ -62,11 +51,6 @@ first_stops x y stop.OutOfMemory h = tt
 later_stops : (b : List Bool) (y : Part) (e : Stop) → Stops y e → Stops (joined (Ok b) y) e
 later_stops b y (stop.Bad x) h = ap (joined (Ok b)) h
 later_stops b y stop.OutOfMemory h = tt
-
-pub one_stops : (version : ℕ) (all : List Given) (i : ℕ) (s : Given) (old now : List Bool) (e : Stop) → i < length all → s ≡ get_or all i s → Added version all i old now → Stops (packet_of version s) e → Stops (packets_of version all) e
-one_stops version all i s old now e h is a t =
-    subst (λ (r : Part). Stops r e) (sym (a.1 ∙ ap (joined (Ok a.0)) (left_here version all i s h is)))
-    (later_stops a.0 (joined (packet_of version s) (packets_of version (drop (i + 1) all))) e (first_stops (packet_of version s) (packets_of version (drop (i + 1) all)) e t))
 
 -- ---- the header, the packets and the last of them
 

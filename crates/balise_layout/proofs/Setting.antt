@@ -1,10 +1,10 @@
 -- A packet with another value of one of its fields is a packet still, of the same form and length, spelt by the same versions.
-use Rattle.std.proofs.Common.{◌≡◌, ℕ, suc, ◌+◌, ◌^◌, ◌<◌, Bool, true, false, IsTrue, cond, List, [], ◌∷◌, ◌++◌, length, Option, Some, unwrap_or, refl, sym, ap, subst, ◌∙◌}
+use Rattle.std.proofs.Common.{◌≡◌, ℕ, ◌+◌, ◌^◌, ◌<◌, Bool, true, false, IsTrue, cond, List, [], ◌∷◌, ◌++◌, length, Option, Some, unwrap_or, refl, sym, ap, subst, ◌∙◌}
 use Rattle.balise_rules.specs.declared.variable.Var.{Var}
 use Rattle.balise_rules.specs.declared.variable.Var.TheVariants.{LPacket}
 use Rattle.balise_rules.specs.Variables.{width_of, steers}
 use Rattle.balise_rules.specs.Bits.{bits, fits, put_at}
-use Rattle.balise_rules.specs.Tags.{Key, same_key, is_of}
+use Rattle.balise_rules.specs.Tags.{Key, same_key}
 use Rattle.balise_rules.specs.Forms.{Form, done, shut, never, valued, Fields, Matches, Numbered, NumberedFrom, count_of}
 use Rattle.balise_rules.specs.Packets.{body}
 use Rattle.balise_rules.specs.Packet.{Packet, field_of, value, with_value, bits_of, width, IsSpelt}
@@ -35,11 +35,6 @@ Matches-with_value S (valued w next) (f ∷ fs) raw v k n s free fit m = at (sam
         let v_is : v ≡ w = ap (λ (x : Key). x.0) (key_test.one (v, k) f.0 is) ∙ m.0 in
         (m.0, is_fit (width_of w) n (subst (λ (x : Var). n < 2 ^ width_of x) v_is fit), subst (λ (x : Form). Matches x (with_value v k n fs) raw) (s.0 (ap S (sym v_is) ∙ free) f.1 n) later)
     at false is later = (m.0, m.1, later)
-
--- how often a variable stands hangs on the keys alone
-count_of-with_value : (w v : Var) (k n : ℕ) (fs : Fields) → count_of w (with_value v k n fs) ≡ count_of w fs
-count_of-with_value w v k n [] = refl
-count_of-with_value w v k n (f ∷ fs) = ap (λ (x : ℕ). cond (is_of w f.0) (suc x) x) (count_of-with_value w v k n fs)
 
 -- two keys that aren't one
 abbrev pub Apart : Key → Key → Type 0

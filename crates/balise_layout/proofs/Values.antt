@@ -45,14 +45,6 @@ pub dir_stands : (next : ℕ → Form) (b : List Bool) (p : Packet) → Holds ne
 unfolding width_of
 dir_stands next b p h = ap (before (QDir, 0)) (head_of next p.fields p.rest h.form h.numbered).is
 
-pub number_within : (next : ℕ → Form) (b : List Bool) (p : Packet) → Holds next b p → 0 + 8 ≤ length b
-unfolding width_of
-number_within next b p h = stands_within next b p NidPacket 0 0 h (number_stands next b p h)
-
-pub number_value : (next : ℕ → Form) (b : List Bool) (p : Packet) → Holds next b p → num (take 8 (drop 0 b)) ≡ value NidPacket 0 p.fields
-unfolding width_of
-number_value next b p h = sym (value_is NidPacket 0 _ p.fields (stands_value next b p NidPacket 0 0 h (number_stands next b p h)))
-
 pub dir_within : (next : ℕ → Form) (b : List Bool) (p : Packet) → Holds next b p → 8 + 2 ≤ length b
 unfolding width_of
 dir_within next b p h = stands_within next b p QDir 0 8 h (dir_stands next b p h)

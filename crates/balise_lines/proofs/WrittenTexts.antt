@@ -1,5 +1,5 @@
 -- Texts that were written one after another, all of them or up to a fault.
-use Rattle.std.proofs.Common.{◌≡◌, ◌≢◌, ℕ, ◌-◌, List, [], ◌∷◌, ◌++◌, length, take, drop, Option, refl, sym, ap, ◌∙◌, append_assoc, append-nil, take-append-drop}
+use Rattle.std.proofs.Common.{◌≡◌, ◌≢◌, ℕ, ◌-◌, List, [], ◌∷◌, ◌++◌, length, take, drop, Option, refl, sym, ap, ◌∙◌, append_assoc, take-append-drop}
 use Rattle.std.proofs.lemmas.List.{take_rest}
 use Rattle.std.specs.Io.KnownBytes.{Appends}
 use Rattle.std.proofs.KnownBytes.{Appends-nil, Appends-trans}
@@ -19,10 +19,6 @@ more_left (b ∷ rest) more h = λ e. absurd cc
 -- nothing was written: it is a beginning of any text
 pub some_nothing : (old : Option (List ℕ)) (text : List ℕ) → AppendsSome old old text
 some_nothing old text = record { done = []; begins = (text, refl); appended = Appends-nil old }
-
--- all of the text was written
-pub some_all : (old new : Option (List ℕ)) (text : List ℕ) → Appends old new text → AppendsSome old new text
-some_all old new text p = record { done = text; begins = ([], append-nil text); appended = p }
 
 -- a beginning of the first text was written: it is a beginning of both
 pub some_front : (old new : Option (List ℕ)) (xs ys : List ℕ) → AppendsSome old new xs → AppendsSome old new (xs ++ ys)

@@ -167,11 +167,6 @@ one_walked b most n at size w more there e = record {
 pub walked_most : (b : List Bool) (most n at : ℕ) → Walked b most n at → n ≡ most → (y : Telegram) → IsShown b y → Passes y.packets most n at
 walked_most b most n at w e y s = let p = w.place y s in record { counted = omega (arith, p.0, e); place = p.1 }
 
-pub walked_all : (b : List Bool) (most n at : ℕ) → Walked b most n at → (y : Telegram) → IsShown b y → length y.packets ≤ n → Passes y.packets most n at
-walked_all b most n at w y s gone =
-    let p = w.place y s in
-    record { counted = omega (arith, p.0, w.asked, gone); place = p.1 }
-
 -- each packet takes 23 bits at least
 spare : (version : ℕ) (ps : Packets) → All (λ p. IsSpelt version p.1) ps → 23 * length ps + 58 ≤ used ps
 spare version [] a = omega arith

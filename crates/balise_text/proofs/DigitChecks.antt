@@ -151,10 +151,6 @@ bits_read w b e = split_on (length w % 2 == 0) (λ q. by (digit_bits w) (rw q at
     by None h = cc h
     by (Some x) h = cc h
 
-pub hex_fault : (n : ℕ) (r : Bits) (e : Refusal) → checked r ≡ Err e → checked (first_bits n r) ≡ Err e
-hex_fault n (Ok b) e h = absurd cc
-hex_fault n (Err x) e h = h
-
 other_test : (x y : ℕ) → x ≢ y → (x == y) ≡ false
 other_test x y e = grind (arith, nat_tests)
 

@@ -27,15 +27,6 @@ continues_more done b w ws old all h e r =
 
 -- whether digits are there
 
-pub not_last : (w : Word) (ws : List Word) → (w ≡ [] → ⊥) → (ws ≡ [] → ⊥) → have_digits (w ∷ ws) ≡ have_digits ws
-not_last [] ws h k = absurd (h refl)
-not_last (b ∷ bs) [] h k = absurd (k refl)
-not_last (b ∷ bs) (v ∷ ws) h k = refl
-
-pub last_one : (w : Word) → (w ≡ [] → ⊥) → have_digits (w ∷ []) ≡ true
-last_one [] h = absurd (h refl)
-last_one (b ∷ bs) h = refl
-
 pub none_first : (ws : List Word) → have_digits ([] ∷ ws) ≡ false
 none_first [] = refl
 none_first (v ∷ ws) = refl

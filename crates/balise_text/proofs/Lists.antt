@@ -33,9 +33,6 @@ item_word f xs i x h e = word_left 32 f xs i x h ∙ ap (λ y. 32 ∷ (f y ++ be
 pub item_marked : {X : Type 0} (f : X → Text) (xs : List X) (i : ℕ) (x : X) → i < length xs → x ≡ get_or xs i x → behind_marks 32 (map f (drop i xs)) ≡ behind_marks 32 (f x ∷ []) ++ behind_marks 32 (map f (drop (i + 1) xs))
 item_marked f xs i x h e = item_word f xs i x h e ∙ ap (λ (t : Text). 32 ∷ (t ++ behind_marks 32 (map f (drop (i + 1) xs)))) (sym (append-nil (f x)))
 
-pub no_word_left : {X : Type 0} (mark : ℕ) (f : X → Text) (xs : List X) (i : ℕ) → length xs ≤ i → behind_marks mark (map f (drop i xs)) ≡ []
-no_word_left mark f xs i h = ap (λ ys. behind_marks mark (map f ys)) (nothing_left xs i h)
-
 pub behind-append : (mark : ℕ) (vs ws : List Text) → behind_marks mark (vs ++ ws) ≡ behind_marks mark vs ++ behind_marks mark ws
 behind-append mark [] ws = refl
 behind-append mark (v ∷ vs) ws = ap (λ (t : Text). mark ∷ t) (ap (λ (t : Text). v ++ t) (behind-append mark vs ws) ∙ sym (append_assoc v (behind_marks mark vs) (behind_marks mark ws)))

@@ -19,10 +19,6 @@ abbrev pub AllLack : ℕ → List Word → Type 0
 AllLack mark [] = Unit {0}
 AllLack mark (w ∷ ws) = (lacks mark w ≡ true) × AllLack mark ws
 
-pub all_lacking : (mark : ℕ) (ws : List Word) → AllLack mark ws → all_lack mark ws ≡ true
-all_lacking mark [] h = refl
-all_lacking mark (w ∷ ws) h = rw (h.0, all_lacking mark ws h.1) refl
-
 pub lacks-append : (mark : ℕ) (v w : Word) → lacks mark v ≡ true → lacks mark w ≡ true → lacks mark (v ++ w) ≡ true
 lacks-append mark [] w p q = q
 lacks-append mark (b ∷ bs) w p q = by (b == mark) (lacks mark bs) p (λ r. lacks-append mark bs w r q)

@@ -15,11 +15,6 @@ pub or_bad_as : {A B : Type 0} (f : A → B) (x : Option (Result A Refusal)) →
 or_bad_as f None = refl
 or_bad_as f (Some r) = refl
 
--- a name of no other command is an edit's
-pub named_edit : (name : Word) (ws : List Word) → bytes_eq name (codes "undo") ≡ false → bytes_eq name (codes "redo") ≡ false → bytes_eq name (codes "strike") ≡ false
-    → named_words name ws ≡ option_map (read_as Ask) (command_words (kind_of name) ws)
-named_edit name ws a b c = rw (a, b, c) refl
-
 -- an edit's command that is refused
 pub named_fault : (name : Word) (ws : List Word) (r : Refusal) → named_words name ws ≡ option_map (read_as Ask) (command_words (kind_of name) ws)
     → or_bad (command_words (kind_of name) ws) ≡ Err r → or_bad (named_words name ws) ≡ Err r

@@ -8,9 +8,6 @@ use Rattle.std.proofs.lemmas.List.{take_all, length-drop}
 use Rattle.balise_text.specs.declared.words.Words.{Words}
 use Rattle.balise_text.specs.Left.{left, up_to}
 
-pub at_mark : (mark b : ℕ) (bs : Word) → (b == mark) ≡ true → up_to mark (b ∷ bs) ≡ []
-at_mark mark b bs e = simp e
-
 pub before_mark : (mark b : ℕ) (bs : Word) → (b == mark) ≡ false → up_to mark (b ∷ bs) ≡ b ∷ up_to mark bs
 before_mark mark b bs e = simp e
 
@@ -77,15 +74,6 @@ pub no_number : (w : Word) → value_from 0 w ≡ None → number_of w ≡ None
 no_number [] e = refl
 no_number (b ∷ []) e = e
 no_number (b ∷ c ∷ bs) e = split_on (b == 48) (λ f. rw f refl) (λ f. rw f e)
-
-pub empty_number : (w : Word) → length w ≡ 0 → number_of w ≡ None
-empty_number [] e = refl
-empty_number (b ∷ bs) e = absurd (omega (arith, e))
-
-pub zero_before : (w : Word) → 1 < length w → (get_or w 0 0 == 48) ≡ true → number_of w ≡ None
-zero_before [] h e = absurd (omega (arith, h))
-zero_before (b ∷ []) h e = absurd (omega (arith, h))
-zero_before (b ∷ c ∷ bs) h e = rw e refl
 
 pub number_is : (w : Word) → 0 < length w → (1 < length w → (get_or w 0 0 == 48) ≡ false) → number_of w ≡ value_from 0 w
 number_is [] h e = absurd (omega (arith, h))

@@ -1,19 +1,16 @@
 -- Groups of a sound plan copied one after another: each is new among those before it.
-use Rattle.std.proofs.Common.{◌≡◌, ◌∙◌, ℕ, zero, suc, ◌+◌, ◌<◌, ◌≤◌, Bool, true, false, ◌&&◌, List, [], ◌∷◌, Some, None, length, insert, take, slice_get, refl, sym, ap, subst, arith, length-take}
+use Rattle.std.proofs.Common.{◌≡◌, ◌∙◌, ℕ, zero, suc, ◌+◌, ◌<◌, ◌≤◌, Bool, false, List, [], ◌∷◌, Some, None, length, insert, take, slice_get, refl, sym, ap, subst, arith, length-take}
 use Rattle.std.specs.BTreeSet as set
 use Rattle.std.proofs.lemmas.List.{take_all}
 use Rattle.balise_rules.specs.declared.tag.Tag.{Tag}
 use Rattle.balise_rules.specs.Tagged.{find, Distinct}
 use Rattle.balise_rules.specs.Tags.{same_tag, same_id}
-use Rattle.balise_rules.specs.Names.{is_real}
 use Rattle.balise_rules.specs.Plan.{Group, Plan, IdentitiesDiffer, IsSound, group_named, identity_of}
 use Rattle.balise_rules.proofs.Cases.{unsome}
 use Rattle.balise_rules.proofs.Tests.{IsTest, split_keys, flip_no, tag_test, id_test}
 use Rattle.balise_edit_laws.proofs.Naming.{no_group_from}
 use Rattle.balise_plan.specs.Held.{IsHeld}
-use Rattle.balise_index.specs.NameIndex.{indexed, IndexOf}
-use Rattle.balise_rules.specs.declared.identity.Id.{Id}
-use Rattle.std.proofs.Math.Path.{fun_ext}
+use Rattle.balise_index.specs.NameIndex.{IndexOf}
 use Rattle.balise_index.specs.declared.link_place.LinkPlace.{LinkPlace}
 use Rattle.balise_plan.proofs.naming.GroupLists.{found_at}
 
@@ -47,23 +44,6 @@ pub record Copied (plan : Plan) (i : ℕ) (ids : IndexOf Tag) (names : IndexOf (
 
 abbrev nobody : {V : Type 0} → IndexOf V
 nobody i = None
-
-held-none : IsHeld nobody nobody []
-held-none = record {
-  sound = record { tags = tt; identities = tt; groups = λ k d l. absurd (omega (arith, l)) };
-  tags = λ i. refl;
-  named = λ q w. by (is_real q);
-}
-  where
-    by : (b : Bool) → false ≡ (b && false)
-    by true = refl
-    by false = refl
-
-pub copied-none : (plan : Plan) (ids : IndexOf Tag) (names : IndexOf (set.BTreeSet LinkPlace)) (groups : Plan) → ((q : Id) → indexed ids q ≡ None) → ((q : Id) → indexed names q ≡ None) → groups ≡ [] → Copied plan 0 ids names groups
-copied-none plan ids names groups i n e = record {
-  first = e;
-  held = subst (IsHeld ids names) (sym e) (subst (λ m. IsHeld ids m []) (sym (fun_ext n)) (subst (λ m. IsHeld m nobody []) (sym (fun_ext i)) held-none));
-}
 
 -- the next group may be put in at the end
 pub record IsNext (plan : Plan) (i : ℕ) (g : Tag) (ys : Group) (groups : Plan) : Type 0 where

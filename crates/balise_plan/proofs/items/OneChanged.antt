@@ -3,7 +3,6 @@ use Rattle.std.proofs.Common.{◌≡◌, ℕ, Bool, cond, List, Some, None, posi
 use Rattle.std.specs.Map.{set_value}
 use Rattle.balise_rules.specs.Tagged.{find, each, Distinct}
 use Rattle.balise_rules.proofs.Tests.{IsTest}
-use Rattle.balise_rules.proofs.Distincts.{distinct-each}
 use Rattle.balise_telegram.proofs.Turning.{each_to}
 use Rattle.balise_plan.specs.Within.{Within, Absent, Changed}
 use Rattle.balise_plan.proofs.items.Places.{absent-each, at-position, none-position, at-lookup, set-each, value-each}
@@ -22,10 +21,6 @@ module _ {K X B : Type 0} {same : K → K → Bool} (t : IsTest same) (k : K) (n
   at_key xs old v u x h r y c =
       subst (λ o. Within same k none R o r (set_value (same k) xs y)) v
       (Changed x y h c (value-each t k (λ _. y) xs x y u h refl))
-
-pub distinct_at : {K X : Type 0} {same : K → K → Bool} (t : IsTest same) (k : K) (xs : List (K × X)) → Distinct same xs → (i : ℕ) → Some i ≡ position (λ q. same k q.0) xs → (d : K × X) → d ≡ get_or xs i d → (y : X) → Distinct same (slice_set xs i (d.0, y))
-distinct_at {same = same} t k xs u i e d q y =
-    subst (Distinct same) (sym (set-each t k (λ _. y) xs i d y u (at-position (same k) xs i (sym e)) q refl)) (distinct-each t _ xs u)
 
 pub absent_at : {K X : Type 0} {same : K → K → Bool} (t : IsTest same) (k : K) (f : X → X) (xs old : List (K × X)) → xs ≡ old → None ≡ position (λ q. same k q.0) xs → each (λ q x. cond (same k q) (f x) x) old ≡ old
 absent_at {same = same} t k f xs old v e = absent-each same k f old (ap (find same k) (sym v) ∙ none-position (same k) xs (sym e))

@@ -70,9 +70,6 @@ pub when_err : {A E P Q : Type 0} (r : Result A E) → (P → Q) → OnErr r P �
 when_err (Ok a) f p = tt
 when_err (Err e) f p = f p
 
-pub keeps_others : (ls : Links) (old new : Index) → Keeps old new → KeepsOthers ls old new
-keeps_others ls old new k q w e = k q w
-
 -- ---- one link
 
 or_false : (b : Bool) → (b || false) ≡ b

@@ -25,7 +25,7 @@ indexed m i = m i
 abbrev pub Updates : {V : Type 0} → IndexOf V → IndexOf V → Id → Option V → Type 0
 Updates m n i o = (q : Id) → indexed n q ≡ cond (is_id i q) o (indexed m q)
 
--- why an identity isn't given to a group: another one, of this tag, has it; or memory runs out, where none has
+-- why a group doesn't get an identity: the group of this tag has it; or none has it, and memory runs out
 abbrev pub IsUnclaimed : Refusal → Option Tag → Type 0
 IsUnclaimed e (Some g) = e ≡ GroupTwice
 IsUnclaimed e None = e ≡ OutOfMemory

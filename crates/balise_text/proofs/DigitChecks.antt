@@ -6,7 +6,7 @@ use Rattle.std.proofs.lemmas.Bool.Decides.{nat_tests}
 use Rattle.balise_rules.specs.declared.refusal.Refusal.{Refusal}
 use Rattle.balise_rules.specs.declared.refusal.Refusal.TheVariants.{BadHex, BadLength, SpareBits}
 use Rattle.balise_rules.specs.Bits.{num, bits, part}
-use Rattle.balise_rules.specs.Digits.{digit_value, behind_digit, digit_bits, digits_or_bad, read_digits, fill, first_bits, read_hex}
+use Rattle.balise_rules.specs.Digits.{digit_value, behind_digit, digit_bits, digits_or_bad, read_digits, fill, read_hex}
 use Rattle.balise_rules.proofs.Cases.{unsome}
 use Rattle.balise_rules.proofs.Numbers.{length-bits, num-bits}
 use Rattle.balise_rules.proofs.Tests.{split_on}

@@ -1,6 +1,6 @@
 -- What a line is, by what a part of it was read as.
-use Rattle.std.proofs.Common.{◌≡◌, ◌∙◌, ◌&&◌, ℕ, true, false, List, [], ◌∷◌, drop, is_some, Option, Some, None, Result, Ok, Err, IfErr, codes, refl, ap}
-use Rattle.std.specs.Prelude.{bytes_eq, option_map}
+use Rattle.std.proofs.Common.{◌≡◌, ◌∙◌, ◌&&◌, ℕ, true, List, [], ◌∷◌, drop, is_some, Option, Some, None, Result, Ok, Err, IfErr, refl, ap}
+use Rattle.std.specs.Prelude.{option_map}
 use Rattle.balise_rules.specs.declared.refusal.Refusal.{Refusal}
 use Rattle.balise_rules.specs.Session.{Ask}
 use Rattle.balise_rules.proofs.Cases.{unsome}

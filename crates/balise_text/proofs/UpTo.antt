@@ -1,5 +1,5 @@
--- A text up to a mark: the first of its parts, the number that it is, and how long it is.
-use Rattle.std.proofs.Common.{◌≡◌, ℕ, suc, ◌+◌, ◌<◌, ◌≤◌, ◌-◌, Bool, true, false, cond, ◌&&◌, ltb, List, [], ◌∷◌, length, take, drop, get_or, Option, Some, None, option_map, refl, sym, ap, ◌∙◌, arith}
+-- A text up to a mark: the first of its parts, and the number that it is.
+use Rattle.std.proofs.Common.{◌≡◌, ℕ, suc, ◌+◌, ◌<◌, ◌≤◌, ◌-◌, Bool, true, false, cond, ◌&&◌, ltb, List, [], ◌∷◌, length, take, drop, Option, Some, None, option_map, refl, sym, ap, ◌∙◌, arith}
 use Rattle.std.specs.Prelude.{◌==◌, nat_le}
 use Rattle.std.proofs.lemmas.Bool.{eqb-true, lt-ltb, le-ltb, ltb-true, ltb-false}
 use Rattle.balise_rules.proofs.Tests.{split_on}
@@ -10,12 +10,6 @@ use Rattle.balise_text.specs.Left.{left, up_to}
 
 pub before_mark : (mark b : ℕ) (bs : Word) → (b == mark) ≡ false → up_to mark (b ∷ bs) ≡ b ∷ up_to mark bs
 before_mark mark b bs e = simp e
-
-pub within : (mark : ℕ) (w : Word) → length (up_to mark w) ≤ length w
-within mark [] = omega arith
-within mark (b ∷ bs) = split_on (b == mark)
-    (λ e. rw e (omega arith))
-    (λ e. rw e (omega (arith, within mark bs)))
 
 -- the parts that come after it
 abbrev rest : ℕ → Word → ℕ → List Word
@@ -74,19 +68,6 @@ pub no_number : (w : Word) → value_from 0 w ≡ None → number_of w ≡ None
 no_number [] e = refl
 no_number (b ∷ []) e = e
 no_number (b ∷ c ∷ bs) e = split_on (b == 48) (λ f. rw f refl) (λ f. rw f e)
-
-pub number_is : (w : Word) → 0 < length w → (1 < length w → (get_or w 0 0 == 48) ≡ false) → number_of w ≡ value_from 0 w
-number_is [] h e = absurd (omega (arith, h))
-number_is (b ∷ []) h e = refl
-number_is (b ∷ c ∷ bs) h e = rw (e (omega arith)) refl
-
--- ---- a text up to a mark
-
-pub first_byte : (mark : ℕ) (w : Word) → 0 < length (up_to mark w) → get_or (up_to mark w) 0 0 ≡ get_or w 0 0
-first_byte mark [] h = refl
-first_byte mark (b ∷ bs) h = split_on (b == mark)
-    (λ e. absurd (let g : 0 < 0 = simp e at h in omega (arith, g)))
-    (λ e. rw e refl)
 
 -- a text with a space is no number
 no_digits : (w : Word) → length (up_to 32 w) < length w → all_digits w ≡ false

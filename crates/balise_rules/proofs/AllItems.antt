@@ -2,7 +2,7 @@
 -- From the changes of a list, item by item.
 use Rattle.std.proofs.Common.{◌≡◌, Bool, All, List, [], ◌∷◌, Option, Some, None, sym, subst}
 use Rattle.std.proofs.lemmas.List.Elements.{All-head, All-tail, All-cons, All-nil}
-use Rattle.balise_rules.specs.Tagged.{find, each, Distinct, put, put_behind, put_found, without, move}
+use Rattle.balise_rules.specs.Tagged.{find, each, Distinct, put, put_found, without, move}
 use Rattle.balise_rules.proofs.Cases.{unsome, found}
 use Rattle.balise_rules.proofs.Tests.{IsTest, split_on}
 use Rattle.balise_rules.proofs.Each.{found_later}
@@ -20,17 +20,14 @@ pub all-each : {K A : Type 0} → (P Q : A → Type 0) → (f : K → A → A) �
 all-each P Q f h [] a = All-nil (λ z. Q z.1)
 all-each P Q f h (y ∷ ys) a = All-cons (λ z. Q z.1) (y.0, f y.0 y.1) (each f ys) (h y.0 y.1 (All-head (λ z. P z.1) y ys a)) (all-each P Q f h ys (All-tail (λ z. P z.1) y ys a))
 
-all-put_behind : {K A : Type 0} → (P : A → Type 0) → (same : K → K → Bool) → (k : K) → (z : K × A) → (xs : List (K × A)) → P z.1 → All (λ w. P w.1) xs → All (λ w. P w.1) (put_behind same k z xs)
-all-put_behind P same k z [] h a = a
-all-put_behind P same k z (y ∷ ys) h a =
+pub all-put : {K A : Type 0} → (P : A → Type 0) → (same : K → K → Bool) → (a : Option K) → (z : K × A) → (xs : List (K × A)) → P z.1 → All (λ w. P w.1) xs → All (λ w. P w.1) (put same a z xs)
+all-put P same None z xs h a = All-cons (λ w. P w.1) z xs h a
+all-put P same (Some k) z [] h a = a
+all-put P same (Some k) z (y ∷ ys) h a =
     let b = All-head (λ w. P w.1) y ys a in let d = All-tail (λ w. P w.1) y ys a in
     split_on (same k y.0)
     (λ e. simp e (All-cons (λ w. P w.1) y (z ∷ ys) b (All-cons (λ w. P w.1) z ys h d)))
-    (λ e. simp e (All-cons (λ w. P w.1) y (put_behind same k z ys) b (all-put_behind P same k z ys h d)))
-
-pub all-put : {K A : Type 0} → (P : A → Type 0) → (same : K → K → Bool) → (a : Option K) → (z : K × A) → (xs : List (K × A)) → P z.1 → All (λ w. P w.1) xs → All (λ w. P w.1) (put same a z xs)
-all-put P same None z xs h a = All-cons (λ w. P w.1) z xs h a
-all-put P same (Some k) z xs h a = all-put_behind P same k z xs h a
+    (λ e. simp e (All-cons (λ w. P w.1) y (put same (Some k) z ys) b (all-put P same (Some k) z ys h d)))
 
 pub all-without : {K A : Type 0} → (P : A → Type 0) → (same : K → K → Bool) → (k : K) → (xs : List (K × A)) → All (λ w. P w.1) xs → All (λ w. P w.1) (without same k xs)
 all-without P same k [] a = a

@@ -2,6 +2,7 @@
 -- From nothing but the cases themselves.
 use Rattle.std.proofs.Common.{◌≡◌, Bool, true, false, ◌&&◌, Option, Some, None, Result, Ok, refl, sym, ap, cond, Err}
 use Rattle.std.specs.Option.{option_map}
+use Rattle.std.proofs.lemmas.Bool.{and_parts}
 
 pub unsome : {A : Type 0} {a b : A} → Some a ≡ Some b → a ≡ b
 unsome e = cc
@@ -30,14 +31,7 @@ map_itself h k None = refl
 map_itself h k (Some x) = ap Some (sym (k x))
 
 pub parts3 : (a b c : Bool) → (a && (b && c)) ≡ true → (a ≡ true) × (b ≡ true) × (c ≡ true)
-parts3 true true true h = (refl, refl, refl)
-parts3 true true false h = cc
-parts3 true false c h = cc
-parts3 false b c h = cc
+parts3 a b c h = let p = and_parts a (b && c) h in let q = and_parts b c p.1 in (p.0, q.0, q.1)
 
 pub parts4 : (a b c d : Bool) → (a && (b && (c && d))) ≡ true → (a ≡ true) × (b ≡ true) × (c ≡ true) × (d ≡ true)
-parts4 true true true true h = (refl, refl, refl, refl)
-parts4 true true true false h = cc
-parts4 true true false d h = cc
-parts4 true false c d h = cc
-parts4 false b c d h = cc
+parts4 a b c d h = let p = and_parts a (b && (c && d)) h in let q = parts3 b c d p.1 in (p.0, q.0, q.1, q.2)

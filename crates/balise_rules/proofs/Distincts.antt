@@ -1,7 +1,7 @@
 -- A list that has each key once has each key once after each of its changes, where what is put in is new.
 use Rattle.std.proofs.Common.{◌≡◌, Bool, false, List, [], ◌∷◌, Option, Some, None, refl, ap, ◌∙◌}
 use Rattle.std.specs.Option.{option_map}
-use Rattle.balise_rules.specs.Tagged.{find, put_behind, put, without, put_found, move, each, Distinct, Change, Each, Put, Take, Move, changed, IsNew}
+use Rattle.balise_rules.specs.Tagged.{find, put, without, put_found, move, each, Distinct, Change, Each, Put, Take, Move, changed, IsNew}
 use Rattle.balise_rules.proofs.Tests.{IsTest, split_on, flip_no}
 use Rattle.balise_rules.proofs.Lists.{find-each, find-put_behind, find-without_same}
 
@@ -26,18 +26,15 @@ distinct-without same p (y ∷ ys) u =
     let ih = distinct-without same p ys u.1 in
     split_on (same p y.0) (λ d. simp d ih) (λ d. simp d (absent-without same y.0 p ys u.0, ih))
 
-distinct-put_behind : {K A : Type 0} → {same : K → K → Bool} → IsTest same → (a : K) → (z : K × A) → (xs : List (K × A)) → Distinct same xs → find same z.0 xs ≡ None → Distinct same (put_behind same a z xs)
-distinct-put_behind t a z [] u n = tt
-distinct-put_behind {same = same} t a z (y ∷ ys) u n =
+pub distinct-put : {K A : Type 0} → {same : K → K → Bool} → IsTest same → (a : Option K) → (z : K × A) → (xs : List (K × A)) → Distinct same xs → find same z.0 xs ≡ None → Distinct same (put same a z xs)
+distinct-put t None z xs u n = (n, u)
+distinct-put t (Some a) z [] u n = tt
+distinct-put {same = same} t (Some a) z (y ∷ ys) u n =
     split_on (same z.0 y.0) (λ e. absurd (let h = simp e at n in cc))
     (λ e. let h : find same z.0 ys ≡ None = simp e at n in let other : same y.0 z.0 ≡ false = flip_no t z.0 y.0 e in
     split_on (same a y.0)
     (λ d. simp d (simp other u.0, (h, u.1)))
-    (λ d. simp d (find-put_behind same y.0 a z other ys ∙ u.0, distinct-put_behind t a z ys u.1 h)))
-
-pub distinct-put : {K A : Type 0} → {same : K → K → Bool} → IsTest same → (a : Option K) → (z : K × A) → (xs : List (K × A)) → Distinct same xs → find same z.0 xs ≡ None → Distinct same (put same a z xs)
-distinct-put t None z xs u n = (n, u)
-distinct-put t (Some a) z xs u n = distinct-put_behind t a z xs u n
+    (λ d. simp d (find-put_behind same y.0 a z other ys ∙ u.0, distinct-put t (Some a) z ys u.1 h)))
 
 pub distinct-put_found : {K A : Type 0} → {same : K → K → Bool} → IsTest same → (o : Option A) → (k : K) → (a : Option K) → (xs : List (K × A)) → Distinct same xs → find same k xs ≡ None → Distinct same (put_found same o k a xs)
 distinct-put_found t None k a xs u n = u

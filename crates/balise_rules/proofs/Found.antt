@@ -1,7 +1,8 @@
 -- What soundness says of a group, telegram, packet and field that is found.
 -- From the records of soundness and the numbering of fields.
 -- The laws speak of what is found under tags, never of places in lists.
-use Rattle.std.proofs.Common.{◌≡◌, ℕ, suc, ◌+◌, ◌-◌, ◌≤◌, Bool, eqb, IsTrue, List, [], ◌∷◌, length, Some, sym, ap, subst, ◌∙◌, arith}
+use Rattle.std.proofs.Common.{◌≡◌, ℕ, suc, ◌+◌, ◌-◌, ◌≤◌, ◌&&◌, Bool, true, eqb, IsTrue, List, [], ◌∷◌, length, Some, sym, ap, subst, ◌∙◌, arith}
+use Rattle.std.proofs.lemmas.Bool.{and_parts}
 use Rattle.balise_rules.specs.declared.tag.Tag.{Tag}
 use Rattle.balise_rules.specs.declared.identity.Id.{Id}
 use Rattle.balise_rules.specs.Variables.{width_of}
@@ -12,14 +13,10 @@ use Rattle.balise_rules.specs.Forms.{Form, done, shut, never, valued, Fields, Ma
 use Rattle.balise_rules.specs.Packet.{Packet, IsSpelt}
 use Rattle.balise_rules.specs.Telegram.{Telegram, version_of}
 use Rattle.balise_rules.specs.Plan.{Group, Plan, identity_of, telegram_at, IsSoundTelegram, SoundFrom, IsSoundGroup, IsSound}
-use Rattle.balise_rules.proofs.Tests.{split_on, split_keys, key_test}
+use Rattle.balise_rules.proofs.Tests.{split_on, split_keys, key_test, tag_test, nat_test}
 use Rattle.balise_rules.proofs.Cases.{found, unsome}
 use Rattle.balise_rules.proofs.AllItems.{all_found}
 use Rattle.balise_rules.proofs.Keys.{numbered_distinct}
-use Rattle.std.proofs.lemmas.Bool.{and_parts}
-use Rattle.balise_rules.proofs.Cases.{found, unsome}
-use Rattle.balise_rules.proofs.Tests.{tag_test, nat_test}
-use Rattle.std.proofs.Common.{◌&&◌, true}
 
 pub group_sound : (plan : Plan) → IsSound plan → (g : Tag) → (ys : Group) → find same_tag g plan ≡ Some ys → IsSoundGroup ys
 group_sound plan s g ys h = all_found IsSoundGroup same_tag plan s.groups g ys h

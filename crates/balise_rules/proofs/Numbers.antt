@@ -17,12 +17,7 @@ num_below (false ∷ bs) = omega (arith, num_below bs, pow-suc 2 (length bs))
 
 -- the last bit of a number
 last_bit : (x : ℕ) → bit (eqb (x % 2) 1) ≡ x % 2
-last_bit x = below (x % 2) (omega arith)
-  where
-    below : (y : ℕ) → y < 2 → bit (eqb y 1) ≡ y
-    below zero h = refl
-    below (suc zero) h = refl
-    below (suc (suc y)) h = absurd (omega arith)
+last_bit x = grind arith
 
 pub num-bits : (w n : ℕ) → num (bits w n) ≡ n % 2 ^ w
 unfolding num bits

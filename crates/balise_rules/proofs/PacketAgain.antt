@@ -1,6 +1,6 @@
 -- A packet that is spelt is read again, whatever stands after it; its number is neither 0 nor 255.
 -- From reading again what is spelt, and L_PACKET's place.
-use Rattle.std.proofs.Common.{◌≡◌, ℕ, ◌+◌, ◌≤◌, ◌^◌, Bool, true, false, cond, ltb, eqb, ◌||◌, List, [], ◌++◌, length, take, drop, Ok, Err, refl, sym, ap, ◌∙◌, append_assoc, arith, length-append}
+use Rattle.std.proofs.Common.{◌≡◌, ℕ, ◌+◌, ◌≤◌, ◌^◌, Bool, false, cond, ltb, eqb, ◌||◌, List, [], ◌++◌, length, take, drop, Ok, Err, refl, sym, ap, ◌∙◌, append_assoc, arith, length-append}
 use Rattle.std.proofs.lemmas.Bool.{le-ltb, ltb-true, or_parts}
 use Rattle.std.proofs.lemmas.List.{take_at, drop_at}
 use Rattle.balise_rules.specs.declared.refusal.Refusal.TheVariants.{PacketCut}
@@ -8,6 +8,7 @@ use Rattle.balise_rules.specs.Bits.{num, bits}
 use Rattle.balise_rules.specs.Forms.{Fields, Matches, spelling, read_form}
 use Rattle.balise_rules.specs.Packets.{packet, body}
 use Rattle.balise_rules.specs.Packet.{Packet, bits_of, IsSpelt, length_said, is_cut, read_packet, read_body, read_first}
+use Rattle.balise_rules.proofs.Tests.{split_on}
 use Rattle.balise_rules.proofs.Numbers.{length-bits, num-bits_fit}
 use Rattle.balise_rules.proofs.Spelt.{read_again}
 use Rattle.balise_rules.proofs.PacketRead.{begins, three_spelt, said_is, said_within}
@@ -23,11 +24,7 @@ pub record Front (b : List Bool) : Type 0 where
 -- packets 0 and 255 have no body
 pub bodied : (version n : ℕ) (fs : Fields) (rest : List Bool) → Matches (body version n) fs rest → (eqb n 0 || eqb n 255) ≡ false
 unfolding body
-bodied version n fs rest m = at (eqb n 0 || eqb n 255) refl
-  where
-    at : (c : Bool) → (eqb n 0 || eqb n 255) ≡ c → (eqb n 0 || eqb n 255) ≡ false
-    at false h = h
-    at true h = absurd (let k = simp h at m in k)
+bodied version n fs rest m = split_on (eqb n 0 || eqb n 255) (λ h. absurd (let k = simp h at m in k)) (λ h. h)
 
 pub front_of : (version : ℕ) (p : Packet) → IsSpelt version p → Front (bits_of p)
 front_of version p s =

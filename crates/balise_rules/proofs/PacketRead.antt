@@ -1,12 +1,11 @@
 -- A packet's bits have one spelling, and the packet that is read is spelt by the bits before those that are left.
 -- From what reading by a form finds; L_PACKET stands 10 bits after the begin of any packet.
-use Rattle.std.proofs.Common.{◌≡◌, ℕ, ◌+◌, ◌-◌, ◌^◌, ◌≤◌, Bool, true, false, cond, ltb, ◌||◌, List, [], ◌∷◌, ◌++◌, length, take, drop, Option, Some, None, Ok, Err, refl, sym, ap, subst, ◌∙◌, append_assoc, arith, length-append, eqb}
+use Rattle.std.proofs.Common.{◌≡◌, ℕ, ◌+◌, ◌-◌, ◌^◌, ◌≤◌, Bool, false, ltb, List, [], ◌∷◌, ◌++◌, length, take, drop, Option, Some, None, Ok, refl, sym, ap, subst, ◌∙◌, append_assoc, arith, length-append, eqb}
 use Rattle.std.specs.Prelude.{IsTrue}
-use Rattle.std.proofs.lemmas.Bool.{ltb-false, ltb-true}
+use Rattle.std.proofs.lemmas.Bool.{ltb-false, ltb-true, or_parts}
 use Rattle.std.proofs.lemmas.List.{take_at, drop_at, take-append-drop, length-take, drop-take, take-take}
 use Rattle.balise_rules.specs.declared.variable.Var.{Var}
 use Rattle.balise_rules.specs.declared.variable.Var.TheVariants.{NidPacket, QDir, LPacket}
-use Rattle.balise_rules.specs.declared.refusal.Refusal.TheVariants.{PacketCut}
 use Rattle.balise_rules.specs.Variables.{width_of}
 use Rattle.balise_rules.specs.Bits.{num, bits, fits}
 use Rattle.balise_rules.specs.Tags.{Key}
@@ -17,17 +16,11 @@ use Rattle.balise_rules.proofs.Numbers.{length-bits, num-bits_fit}
 use Rattle.balise_rules.proofs.Spelt.{read_found, read_again}
 use Rattle.balise_rules.proofs.Cases.{unsome, unok, unless}
 
-packet_from : Fields × List Bool → Packet
-packet_from r = record { fields = r.0; rest = r.1 }
-
-same_parts : (p q : Packet) → ◌≡◌ {A = Option (Fields × List Bool)} (Some (p.fields, p.rest)) (Some (q.fields, q.rest)) → p ≡ q
-unfolding packet_from
-same_parts p q e = ap packet_from (unsome e)
-
 -- the bits of one packet have one spelling
 pub one_packet : (version : ℕ) (b : List Bool) (p q : Packet) → Spells version b p → Spells version b q → p ≡ q
 one_packet version b p q s t =
-    same_parts p q (sym (read_again (packet version) [] p.fields p.rest s.form s.numbered) ∙ ap (read_form (packet version) []) (sym s.spelt ∙ t.spelt) ∙ read_again (packet version) [] q.fields q.rest t.form t.numbered)
+    let again = sym (read_again (packet version) [] p.fields p.rest s.form s.numbered) ∙ ap (read_form (packet version) []) (sym s.spelt ∙ t.spelt) ∙ read_again (packet version) [] q.fields q.rest t.form t.numbered in
+    ap (λ (r : Fields × List Bool). record { fields = r.0; rest = r.1 }) (unsome again)
 
 -- the first three fields of a packet
 abbrev pub three : ℕ → ℕ → ℕ → Fields → Fields
@@ -106,13 +99,7 @@ record Whole (b : List Bool) : Type 0 where
   within : length_said b ≤ length b
 
 whole : (b : List Bool) → is_cut b ≡ false → Whole b
-whole b h = elim_or (ltb (length b) 23) (ltb (length_said b) 23) (ltb (length b) (length_said b)) h (λ e. ltb-false (length_said b) 23 e) (λ e. ltb-false (length b) (length_said b) e)
-  where
-    elim_or : (x y z : Bool) → (x || y || z) ≡ false → (y ≡ false → 23 ≤ length_said b) → (z ≡ false → length_said b ≤ length b) → Whole b
-    elim_or true y z h f g = absurd cc
-    elim_or false true z h f g = absurd cc
-    elim_or false false true h f g = absurd cc
-    elim_or false false false h f g = record { least = f refl; within = g refl }
+whole b h = let tests = or_parts _ _ h in record { least = ltb-false _ _ (or_parts _ _ tests.0).1; within = ltb-false _ _ tests.1 }
 
 -- What reading a packet finds.
 pub record PacketFound (version : ℕ) (b : List Bool) (r : Packet × List Bool) : Type 0 where
@@ -137,11 +124,7 @@ found_in version b r w (Some q) e h =
 
 pub body_found : (version : ℕ) (b : List Bool) (r : Packet × List Bool) → read_body version b ≡ Ok r → PacketFound version b r
 unfolding read_body
-body_found version b r e = at (is_cut b) refl e
-  where
-    at : (c : Bool) → is_cut b ≡ c → cond c (Err PacketCut) (read_packet (drop (length_said b) b) (read_form (packet version) [] (take (length_said b) b))) ≡ Ok r → PacketFound version b r
-    at true h e = absurd cc
-    at false h e = found_in version b r (whole b h) (read_form (packet version) [] (take (length_said b) b)) refl e
+body_found version b r e = let read = unless (is_cut b) _ _ r e in found_in version b r (whole b read.0) _ refl read.1
 
 pub first_found : (version : ℕ) (b : List Bool) (r : Packet × List Bool) → read_first version b ≡ Ok r → PacketFound version b r
 unfolding read_first

@@ -6,7 +6,6 @@ use Rattle.std.proofs.lemmas.List.{reverse-append}
 use Rattle.balise_rules.specs.Tagged.{find, each, Distinct}
 use Rattle.balise_rules.proofs.Tests.{IsTest, split_on, split_keys, flip_no}
 use Rattle.balise_rules.proofs.Cases.{found}
-use Rattle.balise_rules.proofs.Cases.{found}
 use mathlib.Core.List.{reverse_aux}
 
 each-aux : {K A : Type 0} → (f : K → A → A) → (xs ys : List (K × A)) → each f (reverse_aux xs ys) ≡ reverse_aux (each f xs) (each f ys)

@@ -1,12 +1,11 @@
 -- Reading by a form finds fields of that form, each under its number, and their spelling; and what is spelt is found again.
 -- From the laws of numbers, by induction on the form.
 use Rattle.std.proofs.Common.{◌≡◌, ℕ, ◌^◌, ◌<◌, ◌≤◌, Bool, true, false, cond, ltb, List, [], ◌∷◌, ◌++◌, length, take, drop, Option, Some, None, refl, sym, ap, subst, ◌∙◌, append_assoc, arith, length-append}
-use Rattle.std.specs.Prelude.{IsTrue}
 use Rattle.std.proofs.lemmas.Bool.{ltb-false, ltb-true, le-ltb, lt-ltb}
 use Rattle.std.proofs.lemmas.List.{take_at, drop_at, take-append-drop, length-take, append-nil}
 use Rattle.balise_rules.specs.declared.variable.Var.{Var}
 use Rattle.balise_rules.specs.Variables.{width_of}
-use Rattle.balise_rules.specs.Bits.{num, bits, fits}
+use Rattle.balise_rules.specs.Bits.{num, bits}
 use Rattle.balise_rules.specs.Tags.{Key}
 use Rattle.balise_rules.specs.Forms.{Form, done, shut, never, valued, Fields, Matches, NumberedFrom, count_of, spelling, read_form}
 use Rattle.balise_rules.proofs.Numbers.{length-bits, num-bits_fit, bits-num, num_below}
@@ -60,16 +59,6 @@ read_found (valued v next) seen b r e =
       spelt = sym (take-append-drop w b) ∙ ap (λ (x : List Bool). take w b ++ x) more.spelt ∙ ap (λ (x : List Bool). x ++ (spelling more.fields ++ r.1)) (sym own) ∙ sym (spelling-cons f more.fields r.1);
     }
 
--- a value that is written is read, and what stands after it
-front : (w n : ℕ) (rest : List Bool) → IsTrue (fits w n) → num (take w (bits w n ++ rest)) ≡ n
-front w n rest h = ap num (take_at (bits w n) rest w (length-bits w n)) ∙ num-bits_fit w n (ltb-true n (2 ^ w) h)
-
-back : (w n : ℕ) (rest : List Bool) → drop w (bits w n ++ rest) ≡ rest
-back w n rest = drop_at (bits w n) rest w (length-bits w n)
-
-enough : (w n : ℕ) (rest : List Bool) → ltb (length (bits w n ++ rest)) w ≡ false
-enough w n rest = le-ltb _ _ (omega (arith, length-append (bits w n) rest, length-bits w n))
-
 pub read_again : (form : Form) (seen fs : Fields) (rest : List Bool) → Matches form fs rest → NumberedFrom seen fs → read_form form seen (spelling fs ++ rest) ≡ Some (seen ++ fs, rest)
 unfolding read_form
 read_again done seen [] rest m u = ap (λ (x : List Bool). Some (seen, x)) (sym (spelling-nil rest)) ∙ ap (λ (x : Fields). Some (x, rest)) (sym (append-nil seen))
@@ -81,13 +70,14 @@ read_again shut seen (f ∷ fs) rest m u = absurd m
 read_again never seen fs rest m u = absurd m
 read_again (valued v next) seen [] rest m u = absurd m
 read_again (valued v next) seen (((v', k), n) ∷ fs) rest m u =
+    let w = width_of v in
     let more = spelling fs ++ rest in
     let e : v' ≡ v = m.0 in
     let f : Key × ℕ = ((v, count_of v seen), n) in
     let key : ◌≡◌ {A = Key × ℕ} ((v', k), n) f = ap (λ (i : ℕ). ((v', i), n)) u.0 ∙ ap (λ (x : Var). ((x, count_of x seen), n)) e in
-    let whole : spelling (((v', k), n) ∷ fs) ++ rest ≡ bits (width_of v) n ++ more = spelling-cons ((v', k), n) fs rest ∙ ap (λ (x : Var). bits (width_of x) n ++ more) e in
+    let whole : spelling (((v', k), n) ∷ fs) ++ rest ≡ bits w n ++ more = spelling-cons ((v', k), n) fs rest ∙ ap (λ (x : Var). bits (width_of x) n ++ more) e in
     let numbered : NumberedFrom (seen ++ f ∷ []) fs = subst (λ (x : Key × ℕ). NumberedFrom (seen ++ x ∷ []) fs) key u.1 in
-    let long = enough (width_of v) n more in
-    let value = front (width_of v) n more m.1 in
-    let left = back (width_of v) n more in
+    let long : ltb (length (bits w n ++ more)) w ≡ false = le-ltb _ _ (omega (arith, length-append (bits w n) more, length-bits w n)) in
+    let value = ap num (take_at (bits w n) more w (length-bits w n)) ∙ num-bits_fit w n (ltb-true n (2 ^ w) m.1) in
+    let left = drop_at (bits w n) more w (length-bits w n) in
     rw (whole, long, value, left) (read_again (next n) (seen ++ f ∷ []) fs rest m.2 numbered ∙ ap (λ (x : Fields). Some (x, rest)) (append_assoc seen (f ∷ []) fs ∙ ap (λ (x : Key × ℕ). seen ++ x ∷ fs) (sym key)))

@@ -1,6 +1,5 @@
 -- What holds of each of the standard's tables: it is steady, that is, in a packet only variables that steer say what follows them, and in a header none does; and no known packet ends with its first three fields.
-use Rattle.std.proofs.Common.{ℕ, zero, suc, Bool, true, false, cond, ◌||◌, eqb, List, [], refl}
-use Rattle.balise_rules.specs.declared.variable.Var.{Var}
+use Rattle.std.proofs.Common.{ℕ, zero, suc, Bool, true, false, cond, ◌||◌, eqb, List, [], refl, rules}
 use Rattle.balise_rules.specs.declared.variable.Var.TheVariants.{NidPacket, QDir, LPacket, NidC}
 use Rattle.balise_rules.specs.Variables.{steers}
 use Rattle.balise_rules.specs.Forms.{Form, done, shut, never, valued, plain, repeat, Matches}
@@ -13,9 +12,6 @@ use Rattle.balise_rules.specs.Steady.{IsSteady}
 pub steady_if : (b : Bool) (x y : Form) → IsSteady steers x → IsSteady steers y → IsSteady steers (cond b x y)
 steady_if true x y s t = s
 steady_if false x y s t = t
-
-steady_plain : (v : Var) (rest : Form) → IsSteady steers rest → IsSteady steers (plain v rest)
-steady_plain v rest s = (λ _ x y. refl, λ _. s)
 
 -- a part that is steady before each steady rest
 abbrev SteadyPart : (Form → Form) → Type 0
@@ -30,7 +26,7 @@ unfolding counted steers
 steady_counted part h rest s = (λ e. absurd cc, λ n. steady_repeat part h n rest s)
 
 steady_country : (new : ℕ) → SteadyPart (country new)
-steady_country new rest s = steady_if (eqb new 1) (plain NidC rest) rest (steady_plain NidC rest s) s
+steady_country new rest s = steady_if (eqb new 1) (plain NidC rest) rest (λ _ x y. refl, λ _. s) s
 
 -- ---- the parts of packets
 
@@ -40,7 +36,7 @@ steady_link rest s = (λ _ x y. refl, λ _. (λ e. absurd cc, λ new. steady_cou
 
 steady_gradient : SteadyPart gradient
 unfolding gradient
-steady_gradient rest s = (λ _ x y. refl, λ _. (λ _ x y. refl, λ _. (λ _ x y. refl, λ _. s)))
+steady_gradient rest s = search rules
 
 steady_difference : SteadyPart difference
 unfolding difference steers
@@ -56,37 +52,16 @@ steady_level rest s = (λ e. absurd cc, λ m. steady_if (eqb m 1) _ _ (λ _ x y.
 
 -- ---- the packets
 
-steady_linking : SteadyPart linking
-unfolding linking
-steady_linking rest s = (λ _ x y. refl, λ _. steady_link _ (steady_counted link steady_link rest s))
-
-steady_gradients : SteadyPart gradients
-unfolding gradients
-steady_gradients rest s = (λ _ x y. refl, λ _. steady_gradient _ (steady_counted gradient steady_gradient rest s))
-
-steady_speeds : SteadyPart speeds
-unfolding speeds
-steady_speeds rest s = (λ _ x y. refl, λ _. steady_section _ (steady_counted section steady_section rest s))
-
-steady_levels : SteadyPart levels
-unfolding levels
-steady_levels rest s = (λ _ x y. refl, λ _. (λ _ x y. refl, λ _. steady_level _ (steady_counted level steady_level rest s)))
-
-steady_restriction : SteadyPart restriction
-unfolding restriction
-steady_restriction rest s = (λ _ x y. refl, λ _. (λ _ x y. refl, λ _. (λ _ x y. refl, λ _. (λ _ x y. refl, λ _. (λ _ x y. refl, λ _. (λ _ x y. refl, λ _. s))))))
-
-steady_revocation : SteadyPart revocation
-unfolding revocation
-steady_revocation rest s = (λ _ x y. refl, λ _. s)
-
-steady_infill : SteadyPart infill
-unfolding infill steers
-steady_infill rest s = (λ e. absurd cc, λ new. steady_country new _ (λ _ x y. refl, λ _. s))
-
 pub known_steady : (n : ℕ) → IsSteady steers (known_body n)
-unfolding known_body
-known_steady n = steady_if (eqb n 5) _ _ (steady_linking shut tt) (steady_if (eqb n 21) _ _ (steady_gradients shut tt) (steady_if (eqb n 27) _ _ (steady_speeds shut tt) (steady_if (eqb n 41) _ _ (steady_levels shut tt) (steady_if (eqb n 65) _ _ (steady_restriction shut tt) (steady_if (eqb n 66) _ _ (steady_revocation shut tt) (steady_infill shut tt))))))
+unfolding known_body linking gradients speeds levels restriction revocation infill steers
+known_steady n =
+    steady_if (eqb n 5) _ _ (λ _ x y. refl, λ _. steady_link _ (steady_counted link steady_link shut tt))
+    (steady_if (eqb n 21) _ _ (λ _ x y. refl, λ _. steady_gradient _ (steady_counted gradient steady_gradient shut tt))
+    (steady_if (eqb n 27) _ _ (λ _ x y. refl, λ _. steady_section _ (steady_counted section steady_section shut tt))
+    (steady_if (eqb n 41) _ _ (λ _ x y. refl, λ _. (λ _ x y. refl, λ _. steady_level _ (steady_counted level steady_level shut tt)))
+    (steady_if (eqb n 65) _ _ (search rules)
+    (steady_if (eqb n 66) _ _ (search rules)
+    (λ e. absurd cc, λ new. steady_country new _ (λ _ x y. refl, λ _. tt)))))))
 
 pub body_steady : (version n : ℕ) → IsSteady steers (body version n)
 unfolding body
@@ -104,7 +79,7 @@ packet_steady version = headed_steady (body version) (body_steady version)
 -- a header's variables say nothing of what follows
 pub header_steady : IsSteady (λ v. false) header
 unfolding header
-header_steady = (λ _ x y. refl, λ _. (λ _ x y. refl, λ _. (λ _ x y. refl, λ _. (λ _ x y. refl, λ _. (λ _ x y. refl, λ _. (λ _ x y. refl, λ _. (λ _ x y. refl, λ _. (λ _ x y. refl, λ _. (λ _ x y. refl, λ _. (λ _ x y. refl, λ _. tt))))))))))
+header_steady = search rules
 
 -- ---- no known packet ends with its first three fields
 
@@ -119,4 +94,5 @@ fields_if false x y s t = t
 pub known_fields : (n : ℕ) (rest : List Bool) → Matches (known_body n) [] rest → ⊥
 unfolding known_body linking gradients speeds levels restriction revocation infill
 known_fields n =
-    fields_if (eqb n 5) _ _ (λ _ m. m) (fields_if (eqb n 21) _ _ (λ _ m. m) (fields_if (eqb n 27) _ _ (λ _ m. m) (fields_if (eqb n 41) _ _ (λ _ m. m) (fields_if (eqb n 65) _ _ (λ _ m. m) (fields_if (eqb n 66) _ _ (λ _ m. m) (λ _ m. m))))))
+    fields_if (eqb n 5) _ _ (λ _ m. m) (fields_if (eqb n 21) _ _ (λ _ m. m) (fields_if (eqb n 27) _ _ (λ _ m. m)
+    (fields_if (eqb n 41) _ _ (λ _ m. m) (fields_if (eqb n 65) _ _ (λ _ m. m) (fields_if (eqb n 66) _ _ (λ _ m. m) (λ _ m. m))))))

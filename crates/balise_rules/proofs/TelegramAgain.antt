@@ -19,15 +19,11 @@ use Rattle.balise_rules.proofs.PacketAgain.{front_of, body_again}
 use Rattle.balise_rules.proofs.TelegramRead.{Fixed, header_fixed}
 use Rattle.balise_rules.proofs.TelegramShown.{used_is}
 
-nothing_more : (behind : List Bool) → num (take 8 (ones 8 ++ behind)) ≡ 255
-unfolding num
-nothing_more behind = refl
-
 end_read : (most version n : ℕ) (behind : List Bool) → read_packets (suc most) version n (ones 8 ++ behind) ≡ Ok ([], behind)
-unfolding read_packets
+unfolding read_packets num
 end_read most version n behind =
     let long : ltb (length (ones 8 ++ behind)) 8 ≡ false = le-ltb _ _ (omega (arith, length-append (ones 8) behind)) in
-    rw (long, nothing_more behind) refl
+    rw long refl
 
 -- one packet read, where the rest is
 step_read : (most version n : ℕ) (p : Packet) (ps : List (Tag × Packet)) (rest behind : List Bool) → IsSpelt version p → read_packets most version (suc n) rest ≡ Ok (ps, behind) → read_packets (suc most) version n (bits_of p ++ rest) ≡ Ok ((Base n, p) ∷ ps, behind)

@@ -1,12 +1,11 @@
 -- A telegram that is read is one, and shows the bits that were read, padding included.
 -- From what reading a header, a packet and the list of packets finds.
-use Rattle.std.proofs.Common.{◌≡◌, ℕ, zero, suc, ◌-◌, ◌≤◌, Bool, true, false, cond, ltb, eqb, List, [], ◌∷◌, ◌++◌, length, take, drop, Some, Result, Ok, Err, refl, sym, ap, subst, ◌∙◌, append_assoc, arith}
+use Rattle.std.proofs.Common.{◌≡◌, ℕ, zero, suc, ◌-◌, ◌≤◌, Bool, false, ltb, eqb, List, [], ◌∷◌, ◌++◌, length, take, drop, Some, Result, Ok, Err, refl, sym, ap, subst, ◌∙◌, append_assoc, arith}
 use Rattle.std.specs.Prelude.{All}
 use Rattle.std.proofs.lemmas.Bool.{ltb-false, le-ltb, eqb-true}
 use Rattle.std.proofs.lemmas.List.{take-append-drop, length-take, length-drop, append-nil}
 use Rattle.std.proofs.lemmas.List.Elements.{All-cons, All-nil}
 use Rattle.balise_rules.specs.declared.refusal.Refusal.{Refusal}
-use Rattle.balise_rules.specs.declared.refusal.Refusal.TheVariants.{NoEnd, PacketZero}
 use Rattle.balise_rules.specs.declared.tag.Tag.{Tag}
 use Rattle.balise_rules.specs.declared.tag.Tag.TheVariants.{Base}
 use Rattle.balise_rules.specs.Variables.{width_of}
@@ -17,7 +16,8 @@ use Rattle.balise_rules.specs.Telegram.{header, packets_bits, TaggedFrom, with_m
 use Rattle.balise_rules.proofs.Numbers.{num_injective}
 use Rattle.balise_rules.proofs.Spelt.{read_found}
 use Rattle.balise_rules.proofs.PacketRead.{PacketFound, body_found}
-use Rattle.balise_rules.proofs.Cases.{unok}
+use Rattle.balise_rules.proofs.Cases.{unok, unless}
+use Rattle.balise_rules.proofs.Tests.{split_on}
 
 -- eight bits of value 255 are ones
 eight_ones : (b : List Bool) → 8 ≤ length b → num (take 8 b) ≡ 255 → take 8 b ≡ ones 8
@@ -48,22 +48,19 @@ and_more_found : (version n : ℕ) (b : List Bool) (p : Result (Packet × List B
 and_more_found version n b (Err e) is rest k r h = absurd cc
 and_more_found version n b (Ok p) is rest k r h = with_more_found version n b p (body_found version b p is) (rest p.1) (k p.1) r h
 
-packets_step : (version n : ℕ) (b : List Bool) (more : Result Packets Refusal) → ((r : Packets) → more ≡ Ok r → PacketsFound version n b r) → (r : Packets) → (short end nil : Bool) → ltb (length b) 8 ≡ short → eqb (num (take 8 b)) 255 ≡ end → cond short (Err NoEnd) (cond end (Ok ([], drop 8 b)) (cond nil (Err PacketZero) more)) ≡ Ok r → PacketsFound version n b r
-packets_step version n b more k r true end nil s e h = absurd cc
-packets_step version n b more k r false true nil s e h =
-    let is : ([], drop 8 b) ≡ r = unok h in
-    let eight = eight_ones b (ltb-false (length b) 8 s) (eqb-true (num (take 8 b)) 255 e) in
-    subst (λ (y : Packets). PacketsFound version n b y) is (record { tags = tt; packets = All-nil (λ (q : Tag × Packet). IsSpelt version q.1); parts = sym (take-append-drop 8 b) ∙ ap (λ (x : List Bool). x ++ drop 8 b) eight })
-packets_step version n b more k r false false true s e h = absurd cc
-packets_step version n b more k r false false false s e h = k r h
-
 pub packets_found : (most version n : ℕ) (b : List Bool) (r : Packets) → read_packets most version n b ≡ Ok r → PacketsFound version n b r
 unfolding read_packets
 packets_found zero version n b r h = absurd cc
 packets_found (suc most) version n b r h =
-    packets_step version n b (and_more (Base n) (read_body version b) (λ rest. read_packets most version (suc n) rest))
-    (λ x e. and_more_found version n b (read_body version b) refl (λ rest. read_packets most version (suc n) rest) (λ c y i. packets_found most version (suc n) c y i) x e)
-    r (ltb (length b) 8) (eqb (num (take 8 b)) 255) (eqb (num (take 8 b)) 0) refl refl h
+    let long = unless (ltb (length b) 8) _ _ r h in
+    split_on (eqb (num (take 8 b)) 255)
+    (λ e. let k = simp e at long.1 in
+    let is : ([], drop 8 b) ≡ r = unok k in
+    let eight = eight_ones b (ltb-false (length b) 8 long.0) (eqb-true (num (take 8 b)) 255 e) in
+    subst (λ (y : Packets). PacketsFound version n b y) is (record { tags = tt; packets = All-nil (λ (q : Tag × Packet). IsSpelt version q.1); parts = sym (take-append-drop 8 b) ∙ ap (λ (x : List Bool). x ++ drop 8 b) eight }))
+    (λ e. let k = simp e at long.1 in
+    let more = unless (eqb (num (take 8 b)) 0) _ _ r k in
+    and_more_found version n b (read_body version b) refl (λ rest. read_packets most version (suc n) rest) (λ c y i. packets_found most version (suc n) c y i) r more.1)
 
 -- The header: each variable in turn, so that it is read from any 50 bits.
 
@@ -79,13 +76,10 @@ record FixedRead (form : Form) (seen : Fields) (b : List Bool) : Type 0 where
   fields : Fields
   is : read_form form seen b ≡ Some (fields, [])
 
-empty_of : (b : List Bool) → length b ≡ 0 → b ≡ []
-empty_of [] e = refl
-empty_of (x ∷ b) e = absurd cc
-
 fixed_read : (form : Form) (seen : Fields) (b : List Bool) → Fixed form (length b) → FixedRead form seen b
 unfolding read_form
-fixed_read done seen b h = record { fields = seen; is = ap (λ (x : List Bool). Some (seen, x)) (empty_of b h) }
+fixed_read done seen [] h = record { fields = seen; is = refl }
+fixed_read done seen (x ∷ b) h = absurd cc
 fixed_read shut seen [] h = record { fields = seen; is = refl }
 fixed_read shut seen (x ∷ b) h = absurd cc
 fixed_read never seen b h = absurd h

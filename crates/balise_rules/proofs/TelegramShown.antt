@@ -1,18 +1,18 @@
 -- What a telegram shows after reading is what was read, bit for bit, padding included.
 -- From the parts that reading finds, by counting how many bits stand before the padding.
-use Rattle.std.proofs.Common.{◌≡◌, ℕ, ◌+◌, ◌≤◌, Bool, true, false, cond, ◌||◌, not, eqb, inl, inr, List, [], ◌∷◌, ◌++◌, length, drop, Result, Ok, Err, refl, sym, ap, subst, ◌∙◌, append_assoc, arith, length-append}
-use Rattle.std.proofs.lemmas.Bool.{eqb-true}
+use Rattle.std.proofs.Common.{◌≡◌, ℕ, ◌+◌, ◌≤◌, Bool, true, ◌||◌, not, eqb, inl, inr, List, [], ◌∷◌, ◌++◌, length, drop, Result, Ok, Err, refl, sym, ap, subst, ◌∙◌, append_assoc, arith, length-append}
+use Rattle.std.proofs.lemmas.Bool.{eqb-true, not-false}
 use Rattle.std.proofs.lemmas.List.{drop_at, take-append-drop, length-take, length-replicate}
 use Rattle.balise_rules.specs.declared.variable.Var.TheVariants.{MVersion}
 use Rattle.balise_rules.specs.declared.refusal.Refusal.{Refusal}
-use Rattle.balise_rules.specs.declared.refusal.Refusal.TheVariants.{BadLength, NotABalise}
 use Rattle.balise_rules.specs.declared.tag.Tag.{Tag}
 use Rattle.balise_rules.specs.Bits.{ones}
 use Rattle.balise_rules.specs.Forms.{spelling}
 use Rattle.balise_rules.specs.Packet.{Packet, bits_of, value}
 use Rattle.balise_rules.specs.Telegram.{Telegram, is_balise, used, packets_bits, IsLength, IsRead, read_packets, read_header, with_header, read_telegram}
 use Rattle.balise_rules.proofs.TelegramRead.{packets_found, header_found}
-use Rattle.balise_rules.proofs.Cases.{unok}
+use Rattle.balise_rules.proofs.Cases.{unok, unless}
+use Rattle.balise_rules.proofs.Tests.{split_on}
 
 -- header and packet 255 take 58 bits
 pub used_is : (ps : List (Tag × Packet)) → length (packets_bits ps) + 58 ≡ used ps
@@ -20,12 +20,7 @@ used_is [] = refl
 used_is (p ∷ ps) = omega (arith, length-append (bits_of p.1) (packets_bits ps), used_is ps)
 
 length_is : (n : ℕ) → (eqb n 210 || eqb n 830) ≡ true → IsLength n
-length_is n h = at (eqb n 210) (eqb n 830) refl refl h
-  where
-    at : (a b : Bool) → eqb n 210 ≡ a → eqb n 830 ≡ b → (a || b) ≡ true → IsLength n
-    at true b p q h = inl (eqb-true n 210 p)
-    at false true p q h = inr (eqb-true n 830 q)
-    at false false p q h = absurd cc
+length_is n h = split_on (eqb n 210) (λ p. inl (eqb-true n 210 p)) (λ p. inr (eqb-true n 830 (simp p at h)))
 
 least : (n : ℕ) → IsLength n → 50 ≤ n
 least n (inl e) = omega (arith, e)
@@ -57,16 +52,11 @@ made_of b size balise r e =
 
 pub telegram_read : (b : List Bool) (y : Telegram) → read_telegram b ≡ Ok y → IsRead b y
 unfolding read_telegram
-telegram_read b y e = sized (eqb (length b) 210 || eqb (length b) 830) refl e
+telegram_read b y e =
+    let sized = unless (not (eqb (length b) 210 || eqb (length b) 830)) _ _ y e in
+    let headed = unless (not (is_balise (read_header b))) _ _ y sized.1 in
+    at_end (length_is (length b) (not-false _ sized.0)) (not-false _ headed.0) _ refl headed.1
   where
     at_end : IsLength (length b) → is_balise (read_header b) ≡ true → (r : Result (List (Tag × Packet) × List Bool) Refusal) → read_packets (length b) (value MVersion 0 (read_header b)) 0 (drop 50 b) ≡ r → with_header (read_header b) r ≡ Ok y → IsRead b y
     at_end size balise (Err x) h e = absurd cc
     at_end size balise (Ok r) h e = subst (λ (x : Telegram). IsRead b x) (unok e) (made_of b size balise r h)
-
-    headed : IsLength (length b) → (c : Bool) → is_balise (read_header b) ≡ c → cond (not c) (Err NotABalise) (with_header (read_header b) (read_packets (length b) (value MVersion 0 (read_header b)) 0 (drop 50 b))) ≡ Ok y → IsRead b y
-    headed size true h e = at_end size h (read_packets (length b) (value MVersion 0 (read_header b)) 0 (drop 50 b)) refl e
-    headed size false h e = absurd cc
-
-    sized : (c : Bool) → (eqb (length b) 210 || eqb (length b) 830) ≡ c → cond (not c) (Err BadLength) (cond (not (is_balise (read_header b))) (Err NotABalise) (with_header (read_header b) (read_packets (length b) (value MVersion 0 (read_header b)) 0 (drop 50 b)))) ≡ Ok y → IsRead b y
-    sized true h e = headed (length_is (length b) h) (is_balise (read_header b)) refl e
-    sized false h e = absurd cc

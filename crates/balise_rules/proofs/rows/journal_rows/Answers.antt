@@ -1,19 +1,10 @@
 use Rattle.std.proofs.Common.{refl}
-use Rattle.balise_rules.specs.Variables.{width_of, steers, is_free_in_header, is_distance}
-use Rattle.balise_rules.specs.Bits.{num, bits}
-use Rattle.balise_rules.specs.Digits.{digit_bits, digits_in}
-use Rattle.balise_rules.specs.Forms.{spelling, read_form}
-use Rattle.balise_rules.specs.Packets.{counted, link, linking, gradient, gradients, difference, section, speeds, level, levels, restriction, revocation, infill, is_known, known_body, body, packet}
-use Rattle.balise_rules.specs.Packet.{read_body}
-use Rattle.balise_rules.specs.Telegram.{header, read_packets, read_header, read_telegram}
-use Rattle.balise_rules.specs.Plan.{read_telegrams, read_group}
-use Rattle.balise_rules.specs.Edits.{group_of}
-use Rattle.balise_rules.specs.Addresses.{packet_in}
+use Rattle.balise_rules.proofs.Computed.{computed}
 use Rattle.balise_rules.proofs.rows.journal_rows.Goals as goal
 
 -- each side of a row computes to the other
 pub returns : goal.returns
-unfolding width_of steers is_free_in_header is_distance num bits digit_bits digits_in spelling read_form counted link linking gradient gradients difference section speeds level levels restriction revocation infill is_known known_body body packet read_body header read_packets read_header read_telegram read_telegrams read_group group_of packet_in
+unfolding computed
 returns c = record {
   set_said = (refl, refl, refl, refl);
   struck_said = (refl, refl);

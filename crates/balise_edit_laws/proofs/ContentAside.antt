@@ -1,20 +1,13 @@
 -- Places don't look at the content that was taken out.
 -- By going through the nine kinds of edits.
 use Rattle.std.proofs.Common.{◌≡◌, refl}
-use Rattle.balise_rules.specs.declared.tagged_edit.TaggedEdit.TheVariants.{SetVar, SetHead, InsertPacket, DeletePacket, MovePacket, AddGroup, DropGroup, Renumber, TurnGroup}
+use Rattle.balise_rules.specs.declared.tagged_edit.TaggedEdit.TheVariants.{SetVar}
 use Rattle.balise_rules.specs.Paths.{Entry, changes, needs}
 use Rattle.balise_edit_laws.specs.Content.{taken, ContentAside}
 
 same_places : (e : Entry) → (changes (taken e) ≡ changes e) × (needs (taken e) ≡ needs e)
 same_places ((s, SetVar g t p v k n), m) = (refl, refl)
-same_places ((s, SetHead g t v n), m) = (refl, refl)
-same_places ((s, InsertPacket g t a x), m) = (refl, refl)
-same_places ((s, DeletePacket g t p), m) = (refl, refl)
-same_places ((s, MovePacket g t p a), m) = (refl, refl)
-same_places ((s, AddGroup a bs), m) = (refl, refl)
-same_places ((s, DropGroup g), m) = (refl, refl)
-same_places ((s, Renumber g n), m) = (refl, refl)
-same_places ((s, TurnGroup g), m) = (refl, refl)
+same_places e = (refl, refl)
 
 pub content_aside : ContentAside
 content_aside e f =

@@ -4,8 +4,7 @@ use Rattle.std.proofs.Common.{◌≡◌, [], ◌∷◌, Option, Some, None, Resu
 use Rattle.balise_rules.specs.declared.refusal.Refusal.{Refusal}
 use Rattle.balise_rules.specs.Refusals.{and_then}
 use Rattle.balise_rules.specs.Plan.{Plan}
-use Rattle.balise_rules.specs.Doing.{refusal, done, or_done, do_edit}
-use Rattle.balise_rules.specs.Accepting.{Accepted}
+use Rattle.balise_rules.specs.Doing.{refusal, done, or_done}
 use Rattle.balise_rules.specs.Session.{do_all}
 use Rattle.balise_edit_laws.specs.Done.{DoneExactly, DoneAlong}
 use Rattle.balise_edit_laws.proofs.Refusing.{refused_exactly}
@@ -15,13 +14,10 @@ given None q p h = (refl, cc)
 given (Some r) q p h = absurd cc
 
 pub done_exactly : DoneExactly
-done_exactly e plan sound = (forward, backward)
-  where
-    forward : Accepted e.1 plan → do_edit e plan ≡ Ok (done e plan)
-    forward a = ap (λ o. or_done o (done e plan)) ((refused_exactly e.1 plan sound).1 a)
-
-    backward : (p : Plan) → do_edit e plan ≡ Ok p → Accepted e.1 plan × (p ≡ done e plan)
-    backward p h = let g = given (refusal e.1 plan) (done e plan) p h in ((refused_exactly e.1 plan sound).0 g.0, g.1)
+done_exactly e plan sound = (
+  λ a. ap (λ o. or_done o (done e plan)) ((refused_exactly e.1 plan sound).1 a),
+  λ p h. let g = given (refusal e.1 plan) (done e plan) p h in ((refused_exactly e.1 plan sound).0 g.0, g.1),
+)
 
 pub done_along : DoneAlong
 done_along [] plan r = refl

@@ -24,27 +24,12 @@ use Rattle.balise_rules.proofs.Untouched.{KeepsFields, field_untouched, country_
 steers_other : (v w : Var) → steers v ≡ false → steers w ≡ true → same_var v w ≡ false
 steers_other v w n s = split_on (same_var v w) (λ e. absurd (true≢false (sym s ∙ sym (ap steers (var_test.one v w e)) ∙ n))) (λ e. e)
 
-number_free : steers NidBg ≡ false
-unfolding steers
-number_free = refl
-
-orientation_free : steers QLinkorientation ≡ false
-unfolding steers
-orientation_free = refl
-
-direction_free : steers QDir ≡ false
-unfolding steers
-direction_free = refl
-
-country_steers : steers NidC ≡ true
-unfolding steers
-country_steers = refl
-
 -- an edit that is lawful sets no variable that steers
 pub steering_untouched : (e : Edit) → Lawful e → (v : Var) → steers v ≡ true → KeepsFields e v
+unfolding steers
 steering_untouched (SetVar g0 t0 p0 v0 k0 new) l v s = steers_other v0 v l.0 s
-steering_untouched (Renumber g0 new) l v s = steers_other NidBg v number_free s
-steering_untouched (TurnGroup g0) l v s = (steers_other QLinkorientation v orientation_free s, steers_other QDir v direction_free s)
+steering_untouched (Renumber g0 new) l v s = steers_other NidBg v refl s
+steering_untouched (TurnGroup g0) l v s = (steers_other QLinkorientation v refl s, steers_other QDir v refl s)
 steering_untouched e l v s = tt
 
 -- a field that steers stays
@@ -52,7 +37,8 @@ pub steering_stays : (e : Edit) → Lawful e → (i : Id) → (g : Tag) → (t c
 steering_stays e l i g t c p fs key n s = field_untouched e key (steering_untouched e l key.0 s) i g t c p fs n
 
 pub country_kept : (e : Edit) → Lawful e → KeepsFields e NidC
-country_kept e l = steering_untouched e l NidC country_steers
+unfolding steers
+country_kept e l = steering_untouched e l NidC refl
 
 -- the country in force at an element stays
 pub country_stays : (e : Edit) → Lawful e → (i : Id) → (g : Tag) → (t c : ℕ) → (p : Tag) → (k : ℕ) → (fs : Fields) → country_at c k (each (field_after e i g t c p fs) fs) ≡ country_at c k fs

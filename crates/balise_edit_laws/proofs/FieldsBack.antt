@@ -12,7 +12,7 @@ use Rattle.balise_rules.specs.Tagged.{find}
 use Rattle.balise_rules.specs.Tags.{Key, same_tag, same_id, same_key, is_of}
 use Rattle.balise_rules.specs.Packet.{Packet}
 use Rattle.balise_rules.specs.Telegram.{Telegram, version_of}
-use Rattle.balise_rules.specs.Plan.{Plan, Group, country_of, identity_of, telegram_at, IsSound}
+use Rattle.balise_rules.specs.Plan.{Plan, country_of, identity_of, telegram_at, IsSound}
 use Rattle.balise_rules.specs.Names.{country_at, is_it}
 use Rattle.balise_rules.specs.Notes.{noted, note_at, note_group, set_note}
 use Rattle.balise_rules.specs.Doing.{done}
@@ -36,16 +36,15 @@ set_back s g t p v k n plan sound accepted =
     (λ g1 t1 y q. let w = (stood g1 t1 plan sound y q).placed.sound in
     telegram-back (s, SetVar g t p v k note.old) note.own (s, SetVar g t p v k n) note.own accepted.0 g1 t1 y (two-ids y.head)
     (packets-back (SetVar g t p v k note.old) note.own (SetVar g t p v k n) note.own g1 t1 (country_of y) y.packets w.tags
-    (λ p1 x h. (fields_distinct (version_of y) x (packet_spelt y w p1 x h), λ key old d. undo_set (same_tag g g1 && (eqb t t1 && (same_tag p p1 && same_key (v, k) key))) n note.old old (λ e. old_is g1 t1 y q p1 x h key old d e)))))
-  where
-    old_is : (g1 : Tag) → (t1 : ℕ) → (y : Telegram) → telegram_at g1 t1 plan ≡ Some y → (p1 : Tag) → (x : Packet) → find same_tag p1 y.packets ≡ Some x → (key : Key) → (old : ℕ) → find same_key key x.fields ≡ Some old →
-        (same_tag g g1 && (eqb t t1 && (same_tag p p1 && same_key (v, k) key))) ≡ true → (noted (SetVar g t p v k n) plan).old ≡ old
-    old_is g1 t1 y q p1 x h key old d e =
-        let w = parts4 (same_tag g g1) (eqb t t1) (same_tag p p1) (same_key (v, k) key) e in
-        let here : telegram_at g t plan ≡ Some y = place_is g g1 t t1 plan (and_from (same_tag g g1) (eqb t t1) w.0 w.1) ∙ q in
-        let packet : find same_tag p y.packets ≡ Some x = ap (λ u. find same_tag u y.packets) (tag_test.one p p1 w.2) ∙ h in
-        let field : find same_key (v, k) x.fields ≡ Some old = ap (λ u. find same_key u x.fields) (key_test.one (v, k) key w.3) ∙ d in
-        ap (λ o. (note_at (SetVar g t p v k n) o).old) here ∙ ap (λ o. (set_note v k n (country_of y) o).old) packet ∙ value_found v k old x.fields field
+    (λ p1 x h. (
+      fields_distinct (version_of y) x (packet_spelt y w p1 x h),
+      λ key old d. undo_set (same_tag g g1 && (eqb t t1 && (same_tag p p1 && same_key (v, k) key))) n note.old old (λ e.
+          let w = parts4 (same_tag g g1) (eqb t t1) (same_tag p p1) (same_key (v, k) key) e in
+          let here : telegram_at g t plan ≡ Some y = place_is g g1 t t1 plan (and_from (same_tag g g1) (eqb t t1) w.0 w.1) ∙ q in
+          let packet : find same_tag p y.packets ≡ Some x = ap (λ u. find same_tag u y.packets) (tag_test.one p p1 w.2) ∙ h in
+          let field : find same_key (v, k) x.fields ≡ Some old = ap (λ u. find same_key u x.fields) (key_test.one (v, k) key w.3) ∙ d in
+          ap (λ o. (note_at (SetVar g t p v k n) o).old) here ∙ ap (λ o. (set_note v k n (country_of y) o).old) packet ∙ value_found v k old x.fields field),
+    ))))
 
 pub set_head_back : (s : ℕ) → (g : Tag) → (t : ℕ) → (v : Var) → (n : ℕ) → (plan : Plan) → IsSound plan → Accepted (SetHead g t v n) plan → back (s, SetHead g t v n) (noted (SetHead g t v n) plan) (done (s, SetHead g t v n) plan) ≡ plan
 set_head_back s g t v n plan sound accepted =
@@ -54,15 +53,12 @@ set_head_back s g t v n plan sound accepted =
     (λ g1 t1 y q. let w = (stood g1 t1 plan sound y q).placed.sound in
     telegram-back (s, SetHead g t v note.old) note.own (s, SetHead g t v n) note.own accepted.0 g1 t1 y
     (head-back (SetHead g t v note.old) (SetHead g t v n) g1 t1 y.head (head_distinct y w)
-    (λ key old h. undo_set (same_key (v, 0) key && (same_tag g g1 && eqb t t1)) n note.old old (λ e. old_is g1 t1 y q key old h e)))
+    (λ key old h. undo_set (same_key (v, 0) key && (same_tag g g1 && eqb t t1)) n note.old old (λ e.
+    let d = and_parts (same_key (v, 0) key) (same_tag g g1 && eqb t t1) e in
+    let here : telegram_at g t plan ≡ Some y = place_is g g1 t t1 plan d.1 ∙ q in
+    ap (λ o. (note_at (SetHead g t v n) o).old) here ∙ value_found v 0 old y.head (ap (λ u. find same_key u y.head) (key_test.one (v, 0) key d.0) ∙ h))))
     (packets-back (SetHead g t v note.old) note.own (SetHead g t v n) note.own g1 t1 (country_of y) y.packets w.tags
     (λ p1 x h. (fields_distinct (version_of y) x (packet_spelt y w p1 x h), λ key old d. refl))))
-  where
-    old_is : (g1 : Tag) → (t1 : ℕ) → (y : Telegram) → telegram_at g1 t1 plan ≡ Some y → (key : Key) → (old : ℕ) → find same_key key y.head ≡ Some old → (same_key (v, 0) key && (same_tag g g1 && eqb t t1)) ≡ true → (noted (SetHead g t v n) plan).old ≡ old
-    old_is g1 t1 y q key old h e =
-        let w = and_parts (same_key (v, 0) key) (same_tag g g1 && eqb t t1) e in
-        let here : telegram_at g t plan ≡ Some y = place_is g g1 t t1 plan w.1 ∙ q in
-        ap (λ o. (note_at (SetHead g t v n) o).old) here ∙ value_found v 0 old y.head (ap (λ u. find same_key u y.head) (key_test.one (v, 0) key w.0) ∙ h)
 
 -- a number given and then given back: nothing else had the new one
 renamed_back : (c n a0 a1 new : ℕ) → (eqb c a0 && eqb n new) ≡ false → cond (eqb c a0 && eqb (cond (eqb c a0 && eqb n a1) new n) new) a1 (cond (eqb c a0 && eqb n a1) new n) ≡ n
@@ -83,9 +79,6 @@ renumber_back s g new plan sound accepted =
     (packets-back (Renumber g note.old) (record { country = note.own.country; number = new }) (Renumber g new) note.own g1 t1 (country_of y) y.packets w.tags
     (λ p1 x h. (fields_distinct (version_of y) x (packet_spelt y w p1 x h), fields g1 t1 y q p1 x h))))
   where
-    group : Group
-    group = accepted.1.0
-
     number_is : (g1 : Tag) → (t1 : ℕ) → (y : Telegram) → telegram_at g1 t1 plan ≡ Some y → (key : Key) → (old : ℕ) → find same_key key y.head ≡ Some old → (is_of NidBg key && same_tag g g1) ≡ true → (noted (Renumber g new) plan).old ≡ old
     number_is g1 t1 y q key old h e =
         let w = and_parts (is_of NidBg key) (same_tag g g1) e in

@@ -17,7 +17,7 @@ use Rattle.balise_rules.specs.Packet.{Packet, IsSpelt}
 use Rattle.balise_rules.specs.Names.{country_at, calls, is_it}
 use Rattle.balise_rules.specs.Accepting.{Lawful}
 use Rattle.balise_rules.specs.Edits.{Edit, exchanged, field_after, packet_after}
-use Rattle.balise_rules.specs.declared.tagged_edit.TaggedEdit.TheVariants.{SetVar, SetHead, Renumber, TurnGroup}
+use Rattle.balise_rules.specs.declared.tagged_edit.TaggedEdit.TheVariants.{SetVar, Renumber, TurnGroup}
 use Rattle.balise_rules.proofs.Tests.{var_test}
 use Rattle.balise_rules.proofs.Cases.{parts4}
 use Rattle.balise_rules.proofs.Values.{value_kept}
@@ -60,20 +60,16 @@ fields_fit (TurnGroup g0) l i g t c p fs key n h =
     (λ e. fits_if (calls c key.1 fs i) (width_of key.0) (1 - n) n (λ d. wide QLinkorientation key (1 - n) e (flipped_fits n (narrow QLinkorientation key n e h))) (λ d. h))
     (λ e. fits_if (is_of QDir key && same_tag g0 g) (width_of key.0) (exchanged 0 1 n) n
     (λ d. let w = (and_parts (is_of QDir key) (same_tag g0 g) d).0 in wide QDir key (exchanged 0 1 n) w (swapped_fits n (narrow QDir key n w h))) (λ d. h))
-fields_fit (SetHead g0 t0 v0 new) l i g t c p fs key n h = h
 fields_fit e l i g t c p fs key n h = h
-
-length_steers : steers LPacket ≡ true
-unfolding steers
-length_steers = refl
 
 -- the packet stays spelt
 pub packet_kept : (e : Edit) → Lawful e → (i : Id) → (g : Tag) → (t c : ℕ) → (p : Tag) → (version : ℕ) → (x : Packet) → IsSpelt version x → IsSpelt version (packet_after e i g t c p x)
+unfolding steers
 packet_kept e l i g t c p version x s =
     let h = field_after e i g t c p x.fields in
     record {
       spelt = refl;
       form = matches-each steers (packet version) x.fields x.rest (packet_steady version) h (λ key n k. steering_stays e l i g t c p x.fields key n k) (fields_fit e l i g t c p x.fields) s.form;
       numbered = numbered-each h x.fields s.numbered;
-      said = value_kept h LPacket 0 x.fields (λ n. steering_stays e l i g t c p x.fields (LPacket, 0) n length_steers) ∙ s.said ∙ sym (width-each h x);
+      said = value_kept h LPacket 0 x.fields (λ n. steering_stays e l i g t c p x.fields (LPacket, 0) n refl) ∙ s.said ∙ sym (width-each h x);
     }

@@ -33,11 +33,10 @@ widths (v ∷ vs) = width_of v + widths vs
 plains_length : (vs : List Var) → (hs : Fields) → (rest : List Bool) → Matches (plains vs) hs rest → length (spelling hs) ≡ widths vs
 unfolding spelling
 plains_length [] [] rest m = refl
-plains_length [] (f ∷ fs) rest m = absurd m
-plains_length (v ∷ vs) [] rest m = absurd m
 plains_length (v ∷ vs) (f ∷ fs) rest m =
     let w : width_of f.0.0 ≡ width_of v = ap width_of m.0 in
     omega (arith, length-append (bits (width_of f.0.0) f.1) (spelling fs), length-bits (width_of f.0.0) f.1, w, plains_length vs fs rest m.2)
+plains_length vs fs rest m = absurd m
 
 header_length : (hs : Fields) → Matches header hs [] → length (spelling hs) ≡ 50
 unfolding header width_of
@@ -93,9 +92,8 @@ record Parted (n : ℕ) (r : Result Telegram Refusal) (q : Result Group Refusal)
   is : (n, telegram) ∷ more ≡ ys
 
 parted : (n : ℕ) → (r : Result Telegram Refusal) → (q : Result Group Refusal) → (ys : Group) → with_telegrams n r q ≡ Ok ys → Parted n r q ys
-parted n (Err x) q ys h = absurd cc
-parted n (Ok y) (Err x) ys h = absurd cc
 parted n (Ok y) (Ok zs) ys h = record { telegram = y; more = zs; read = refl; rest = refl; is = unok h }
+parted n r q ys h = absurd cc
 
 telegrams_read : (n : ℕ) → (bs : List (List Bool)) → (ys : Group) → read_telegrams n bs ≡ Ok ys → ReadFrom n ys × (length ys ≡ length bs)
 unfolding read_telegrams

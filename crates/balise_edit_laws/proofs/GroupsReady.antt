@@ -47,16 +47,13 @@ drop_ready s g plan r =
       record {
         gone = find-without_same same_tag g plan;
         neighbour = subst (λ b. Stands b (without same_tag g plan)) (sym (ap (λ (m : Note). m.before) note)) (neighbour_without g plan r.sound.tags);
-        free = free ys r.accepted.1.1;
+        free = λ h zs q.
+            split_keys tag_test h g
+            (λ e k. absurd (let w = sym q ∙ ap (λ u. find same_tag u (without same_tag g plan)) k ∙ find-without_same same_tag g plan in cc))
+            (λ e. differ_apart plan r.sound.identities h g zs ys (sym (find-without tag_test h g e plan) ∙ q) r.accepted.1.1 e);
         sound = group_sound plan r.sound g ys r.accepted.1.1;
       },
     )
-  where
-    free : (ys : Group) → find same_tag g plan ≡ Some ys → NoGroup (identity_of ys) (without same_tag g plan)
-    free ys here h zs q =
-        split_keys tag_test h g
-        (λ e k. absurd (let w = sym q ∙ ap (λ u. find same_tag u (without same_tag g plan)) k ∙ find-without_same same_tag g plan in cc))
-        (λ e. differ_apart plan r.sound.identities h g zs ys (sym (find-without tag_test h g e plan) ∙ q) here e)
 
 pub turn_ready : (s : ℕ) → (g : Tag) → (plan : Plan) → IsReady (s, TurnGroup g) plan → Accepted (TurnGroup g) (done (s, TurnGroup g) plan)
 turn_ready s g plan r =
@@ -94,23 +91,15 @@ renumber_ready s g n plan r =
     let f = group_after (s, Renumber g n) own in
     let old_is : (noted (Renumber g n) plan).old ≡ (identity_of ys).number = ap (λ o. (note_group o).old) r.accepted.1.1 in
     let sound = group_sound plan r.sound g ys r.accepted.1.1 in
-    let now : identity_of (f g ys) ≡ named (identity_of ys) n = identity_then g ys r.accepted.1.1 ∙ own_case (tag_test.itself g) in
+    let now : identity_of (f g ys) ≡ named (identity_of ys) n = identity_then g ys r.accepted.1.1 ∙ ap (λ b. cond b (named (identity_of ys) n) (identity_of ys)) (tag_test.itself g) in
     let target : renumbered (Some (f g ys)) (identity_of ys).number ≡ identity_of ys = ap (λ i. named i (identity_of ys).number) now in
-    subst (λ m. Accepted (Renumber g m) (done (s, Renumber g n) plan)) (sym old_is) (
-      (number_fits ys sound, sound.number),
-      (
-        f g ys,
-        find-each tag_test f g plan ∙ ap (option_map (f g)) r.accepted.1.1,
-        subst (λ i. NoGroup i (done (s, Renumber g n) plan)) (sym target) no_group,
-        subst (λ i. NoName i (done (s, Renumber g n) plan)) (sym target) no_name,
-      ),
-    )
+    let stands = find-each tag_test f g plan ∙ ap (option_map (f g)) r.accepted.1.1 in
+    let group = subst (λ i. NoGroup i (done (s, Renumber g n) plan)) (sym target) no_group in
+    let name = subst (λ i. NoName i (done (s, Renumber g n) plan)) (sym target) no_name in
+    subst (λ m. Accepted (Renumber g m) (done (s, Renumber g n) plan)) (sym old_is) ((number_fits ys sound, sound.number), (f g ys, stands, group, name))
   where
     identity_then : (h : Tag) → (zs : Group) → find same_tag h plan ≡ Some zs → identity_of (group_after (s, Renumber g n) (noted (Renumber g n) plan).own h zs) ≡ cond (same_tag g h) (named (identity_of zs) n) (identity_of zs)
     identity_then h zs q = (groups_kept (s, Renumber g n) (noted (Renumber g n) plan).own plan r.sound r.accepted (λ g1 t1 y k. tt) h zs q).identity
-
-    own_case : same_tag g g ≡ true → cond (same_tag g g) (named (identity_of r.accepted.1.0) n) (identity_of r.accepted.1.0) ≡ named (identity_of r.accepted.1.0) n
-    own_case e = ap (λ b. cond b (named (identity_of r.accepted.1.0) n) (identity_of r.accepted.1.0)) e
 
     -- the new identity isn't the old one
     other : same_id (identity_of r.accepted.1.0) (named (identity_of r.accepted.1.0) n) ≡ false
@@ -120,14 +109,11 @@ renumber_ready s g n plan r =
     no_group h zs q =
         let own = (noted (Renumber g n) plan).own in
         some_is (find same_tag h plan) (group_after (s, Renumber g n) own h) zs (sym (find-each tag_test (group_after (s, Renumber g n) own) h plan) ∙ q)
-        (λ xs k is. ap (λ u. same_id (identity_of u) (identity_of r.accepted.1.0)) is ∙ ap (λ i. same_id i (identity_of r.accepted.1.0)) (identity_then h xs k) ∙ apart h xs k)
-      where
-        apart : (h : Tag) → (xs : Group) → find same_tag h plan ≡ Some xs → same_id (cond (same_tag g h) (named (identity_of xs) n) (identity_of xs)) (identity_of r.accepted.1.0) ≡ false
-        apart h xs k =
-            split_keys tag_test g h
-            (λ e d. let same : xs ≡ r.accepted.1.0 = unsome (sym k ∙ ap (λ u. find same_tag u plan) (sym d) ∙ r.accepted.1.1) in
-            simp e (ap (λ u. same_id (named (identity_of u) n) (identity_of r.accepted.1.0)) same ∙ flip_no id_test (identity_of r.accepted.1.0) (named (identity_of r.accepted.1.0) n) other))
-            (λ e. simp e (differ_apart plan r.sound.identities h g xs r.accepted.1.0 k r.accepted.1.1 (flip_no tag_test g h e)))
+        (λ xs k is. ap (λ u. same_id (identity_of u) (identity_of r.accepted.1.0)) is ∙ ap (λ i. same_id i (identity_of r.accepted.1.0)) (identity_then h xs k)
+        ∙ split_keys tag_test g h
+        (λ e d. let same : xs ≡ r.accepted.1.0 = unsome (sym k ∙ ap (λ u. find same_tag u plan) (sym d) ∙ r.accepted.1.1) in
+        simp e (ap (λ u. same_id (named (identity_of u) n) (identity_of r.accepted.1.0)) same ∙ flip_no id_test (identity_of r.accepted.1.0) (named (identity_of r.accepted.1.0) n) other))
+        (λ e. simp e (differ_apart plan r.sound.identities h g xs r.accepted.1.0 k r.accepted.1.1 (flip_no tag_test g h e))))
 
     no_name : NoName (identity_of r.accepted.1.0) (done (s, Renumber g n) plan)
     no_name h t p k w =

@@ -24,12 +24,11 @@ header_variables = QUpdown ∷ MVersion ∷ QMedia ∷ NPig ∷ NTotal ∷ MDup 
 
 plains_count : (v : Var) → (vs : List Var) → (hs : Fields) → (rest : List Bool) → Matches (plains vs) hs rest → count_of v hs ≡ count_in v vs
 plains_count v [] [] rest m = refl
-plains_count v [] (f ∷ fs) rest m = absurd m
-plains_count v (w ∷ ws) [] rest m = absurd m
 plains_count v (w ∷ ws) (f ∷ fs) rest m =
     let ih = plains_count v ws fs rest m.2 in
     let s : same_var v f.0.0 ≡ same_var v w = ap (same_var v) m.0 in
     split_on (same_var v w) (λ e. let d : same_var v f.0.0 ≡ true = s ∙ e in simp (e, d) (ap suc ih)) (λ e. let d : same_var v f.0.0 ≡ false = s ∙ e in simp (e, d) ih)
+plains_count v vs fs rest m = absurd m
 
 header_count : (v : Var) → (hs : Fields) → Matches header hs [] → count_of v hs ≡ count_in v header_variables
 unfolding header

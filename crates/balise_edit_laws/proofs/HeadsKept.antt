@@ -19,13 +19,13 @@ use Rattle.balise_rules.specs.Telegram.{Telegram, header, is_balise}
 use Rattle.balise_rules.specs.Plan.{IsSoundTelegram}
 use Rattle.balise_rules.specs.Accepting.{Lawful}
 use Rattle.balise_rules.specs.Edits.{Edit, exchanged, head_after}
-use Rattle.balise_rules.specs.declared.tagged_edit.TaggedEdit.TheVariants.{SetVar, SetHead, Renumber, TurnGroup}
+use Rattle.balise_rules.specs.declared.tagged_edit.TaggedEdit.TheVariants.{SetHead, Renumber, TurnGroup}
 use Rattle.balise_rules.proofs.Tests.{split_on}
 use Rattle.balise_rules.proofs.Values.{value-each, value_found}
 use Rattle.balise_rules.proofs.Tables.{header_steady}
 use Rattle.balise_rules.proofs.Found.{field_fits}
 use Rattle.balise_edit_laws.proofs.Headers.{count_in, header_variables, header_has}
-use Rattle.balise_edit_laws.proofs.HeadChanges.{fixed_kept, country_fixed, total_fixed, IsFixed, free_other}
+use Rattle.balise_edit_laws.proofs.HeadChanges.{fixed_kept, country_fixed, total_fixed, free_other}
 use Rattle.balise_edit_laws.proofs.Steady.{Fitting, matches-each, numbered-each}
 use Rattle.balise_edit_laws.proofs.FieldsKept.{wide, narrow, fits_if}
 
@@ -80,7 +80,6 @@ head_fits (TurnGroup g0) l g t hs w key n h =
     (λ e. let d = (and_parts (is_of MDup key) (same_tag g0 g) e).0 in wide MDup key (exchanged 1 2 n) d (swapped_double n (narrow MDup key n d h)))
     (λ e. fits_if (is_of NPig key && same_tag g0 g) (width_of key.0) (value NTotal 0 hs - n) n
     (λ d. wide NPig key (value NTotal 0 hs - n) (and_parts (is_of NPig key) (same_tag g0 g) d).0 (counted_back (value NTotal 0 hs) n w)) (λ d. h))
-head_fits (SetVar g0 t0 p v k new) l g t hs w key n h = h
 head_fits e l g t hs w key n h = h
 
 -- the value of a variable that the header has, after a change
@@ -94,24 +93,9 @@ total_fits hs m u =
     let w = header_has NTotal hs m u refl in
     subst (λ n. IsTrue (fits (width_of NTotal) n)) (sym (value_found NTotal 0 w.0 hs w.1)) (field_fits header hs [] m (NTotal, 0) w.0 w.1)
 
-direction_fixed : IsFixed QUpdown
-unfolding is_free_in_header
-direction_fixed = record { not_free = refl; not_number = refl; not_place = refl; not_double = refl }
-
-medium_fixed : IsFixed QMedia
-unfolding is_free_in_header
-medium_fixed = record { not_free = refl; not_number = refl; not_place = refl; not_double = refl }
-
-not_free_number : is_free_in_header NidBg ≡ false
-unfolding is_free_in_header
-not_free_number = refl
-
-not_free_place : is_free_in_header NPig ≡ false
-unfolding is_free_in_header
-not_free_place = refl
-
 number_after : (e : Edit) → Lawful e → (i : Id) → (g : Tag) → (t : ℕ) → (hs : Fields) → head_after e g t hs (NidBg, 0) i.number ≡ (new_identity e g i).number
-number_after (SetHead g0 t0 v0 new) l i g t hs = let a = free_other v0 NidBg l.0 not_free_number in simp a
+unfolding is_free_in_header
+number_after (SetHead g0 t0 v0 new) l i g t hs = let a = free_other v0 NidBg l.0 refl in simp a
 number_after (Renumber g0 new) l i g t hs = split_on (same_tag g0 g) (λ e. simp e) (λ e. simp e)
 number_after e l i g t hs = refl
 
@@ -120,15 +104,17 @@ country_after (Renumber g0 new) i g = split_on (same_tag g0 g) (λ e. simp e) (�
 country_after e i g = refl
 
 place_after : (e : Edit) → Lawful e → (g : Tag) → (t : ℕ) → (hs : Fields) → (last n : ℕ) → value NTotal 0 hs ≡ last → head_after e g t hs (NPig, 0) n ≡ new_place e g last n
-place_after (SetHead g0 t0 v0 new) l g t hs last n q = let a = free_other v0 NPig l.0 not_free_place in simp a
+unfolding is_free_in_header
+place_after (SetHead g0 t0 v0 new) l g t hs last n q = let a = free_other v0 NPig l.0 refl in simp a
 place_after (TurnGroup g0) l g t hs last n q = ap (λ a. cond (same_tag g0 g) (a - n) n) q
 place_after e l g t hs last n q = refl
 
 pub head_kept : (e : Edit) → Lawful e → (i : Id) → (last n : ℕ) → (g : Tag) → (t : ℕ) → (hs : Fields) → HeadSound i last n hs → HeadSound (new_identity e g i) last (new_place e g last n) (each (head_after e g t hs) hs)
+unfolding is_free_in_header
 head_kept e l i last n g t hs s =
     let h = head_after e g t hs in
-    let up = fixed_kept e l QUpdown direction_fixed g t hs in
-    let medium = fixed_kept e l QMedia medium_fixed g t hs in
+    let up = fixed_kept e l QUpdown (record { not_free = refl; not_number = refl; not_place = refl; not_double = refl }) g t hs in
+    let medium = fixed_kept e l QMedia (record { not_free = refl; not_number = refl; not_place = refl; not_double = refl }) g t hs in
     record {
       header = matches-each (λ v. false) header hs [] header_steady h (λ key m k. absurd (false≢true k)) (head_fits e l g t hs (total_fits hs s.header s.numbered)) s.header;
       numbered = numbered-each h hs s.numbered;

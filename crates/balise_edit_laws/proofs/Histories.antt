@@ -16,7 +16,7 @@ use Rattle.balise_edit_laws.proofs.TakingBack.{taking_back}
 use Rattle.balise_edit_laws.proofs.SoundKept.{sound_kept}
 use Rattle.balise_edit_laws.proofs.UnusedKept.{unused_kept}
 
-still_unused : (e : Item) → (plan : Plan) → IsReady e plan → (es : List Item) → All (λ f. f.0 ≢ e.0) es → AllUnused plan es → AllUnused (done e plan) es
+pub still_unused : (e : Item) → (plan : Plan) → IsReady e plan → (es : List Item) → All (λ f. f.0 ≢ e.0) es → AllUnused plan es → AllUnused (done e plan) es
 still_unused e plan r [] n u = tt
 still_unused e plan r (f ∷ fs) n u =
     (unused_kept e plan r f.0 (All-head (λ x. x.0 ≢ e.0) f fs n) u.0, u.1, still_unused e plan r fs (All-tail (λ x. x.0 ≢ e.0) f fs n) u.2)

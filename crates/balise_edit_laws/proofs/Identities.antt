@@ -1,7 +1,7 @@
 -- No two groups of a sound plan have one identity, said of the groups that are found, and so after each change.
 -- From the search for a group, which finds none exactly where none has the identity.
 -- A new identity is one that no group has.
-use Rattle.std.proofs.Common.{◌≡◌, false, [], ◌∷◌, Option, Some, None, option_map, sym, ap, ◌∙◌}
+use Rattle.std.proofs.Common.{◌≡◌, false, [], ◌∷◌, Option, Some, None, sym, ap, ◌∙◌}
 use Rattle.balise_rules.specs.declared.tag.Tag.{Tag}
 use Rattle.balise_rules.specs.Tagged.{find, each, Distinct, put, without}
 use Rattle.balise_rules.specs.Tags.{same_tag, same_id}
@@ -10,7 +10,7 @@ use Rattle.balise_rules.specs.Accepting.{Stands, NoGroup}
 use Rattle.balise_rules.specs.Edits.{Edit}
 use Rattle.balise_rules.proofs.Tests.{split_on, split_keys, apart_from, flip_no, tag_test, id_test}
 use Rattle.balise_rules.proofs.Lists.{find-put, find-without, find-without_same, find-each}
-use Rattle.balise_rules.proofs.Cases.{unsome, found}
+use Rattle.balise_rules.proofs.Cases.{unsome, some_is}
 use Rattle.balise_rules.proofs.Each.{found_later}
 use Rattle.balise_rules.proofs.Anchors.{find-put_same}
 use Rattle.balise_edit_laws.proofs.Naming.{no_group_from, no_group_to}
@@ -37,12 +37,10 @@ apart_differ [] u a = tt
 apart_differ (y ∷ rest) u a =
     let r = tag_test.itself y.0 in
     let here : find same_tag y.0 (y ∷ rest) ≡ Some y.1 = simp r in (
-      no_group_to (identity_of y.1) rest u.1 (λ g ys h. a g y.0 ys y.1 (found_later tag_test y rest u.0 g ys h) here (other g ys h)),
+      no_group_to (identity_of y.1) rest u.1 (λ g ys h. a g y.0 ys y.1 (found_later tag_test y rest u.0 g ys h) here
+          (split_keys tag_test g y.0 (λ e q. absurd (let w : find same_tag g rest ≡ None = ap (λ c. find same_tag c rest) q ∙ u.0 in let z = sym h ∙ w in cc)) (λ e. e))),
       apart_differ rest u.1 (λ g h ys zs b c n. a g h ys zs (found_later tag_test y rest u.0 g ys b) (found_later tag_test y rest u.0 h zs c) n),
     )
-  where
-    other : (g : Tag) → (ys : Group) → find same_tag g rest ≡ Some ys → same_tag g y.0 ≡ false
-    other g ys h = split_keys tag_test g y.0 (λ e q. absurd (let w : find same_tag g rest ≡ None = ap (λ c. find same_tag c rest) q ∙ u.0 in let z = sym h ∙ w in cc)) (λ e. e)
 
 -- each group changed, its identity as an edit says
 pub apart_each : (e : Edit) → (f : Tag → Group → Group) → (plan : Plan) → AllApart plan →
@@ -57,10 +55,7 @@ apart_each e f plan a i k g h ys zs b c n =
     ∙ k g h x.0 w.0 x.1 w.1 n
   where
     was : (f : Tag → Group → Group) → (plan : Plan) → (g : Tag) → (ys : Group) → find same_tag g (each f plan) ≡ Some ys → (x : Group) × (find same_tag g plan ≡ Some x) × (ys ≡ f g x)
-    was f plan g ys h =
-        found (find same_tag g plan)
-        (λ e. absurd (let w = sym h ∙ find-each tag_test f g plan ∙ ap (option_map (f g)) e in cc))
-        (λ x e. (x, e, unsome (sym h ∙ find-each tag_test f g plan ∙ ap (option_map (f g)) e)))
+    was f plan g ys h = some_is (find same_tag g plan) (f g) ys (sym (find-each tag_test f g plan) ∙ h) (λ x e d. (x, e, d))
 
 -- one group more, of an identity that none has
 pub apart_put : (a : Option Tag) → (z : Tag × Group) → (plan : Plan) → Stands a plan → find same_tag z.0 plan ≡ None → NoGroup (identity_of z.1) plan → AllApart plan → AllApart (put same_tag a z plan)

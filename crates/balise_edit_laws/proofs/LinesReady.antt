@@ -9,7 +9,7 @@ use Rattle.balise_rules.specs.Packet.{Packet, IsSpelt}
 use Rattle.balise_rules.specs.Telegram.{Telegram, version_of}
 use Rattle.balise_rules.specs.Plan.{Plan, telegram_at}
 use Rattle.balise_rules.specs.Edits.{Edit, Item}
-use Rattle.balise_rules.specs.declared.tagged_edit.TaggedEdit.TheVariants.{InsertPacket, SetVar, SetHead, DeletePacket, MovePacket, AddGroup, DropGroup, Renumber, TurnGroup}
+use Rattle.balise_rules.specs.declared.tagged_edit.TaggedEdit.TheVariants.{InsertPacket}
 use Rattle.balise_rules.specs.Notes.{noted}
 use Rattle.balise_rules.specs.Doing.{refusal}
 use Rattle.balise_rules.specs.Accepting.{Spelt}
@@ -45,14 +45,7 @@ inserted g t a plan (Some x) h e q = subst (λ f. Spelt f plan) (unsome q) (h x 
 
 line_spelt : (l : LineEdit) → (plan : Plan) → (e : Edit) → edit_in l plan ≡ Some e → Spelt e plan
 line_spelt (InsertPacket g t a b) plan e h = inserted g t a plan (option_and_then (packet_for b) (telegram_at g t plan)) (packet_of b (telegram_at g t plan)) e h
-line_spelt (SetVar g t p v k n) plan e h = subst (λ f. Spelt f plan) (unsome h) tt
-line_spelt (SetHead g t v n) plan e h = subst (λ f. Spelt f plan) (unsome h) tt
-line_spelt (DeletePacket g t p) plan e h = subst (λ f. Spelt f plan) (unsome h) tt
-line_spelt (MovePacket g t p a) plan e h = subst (λ f. Spelt f plan) (unsome h) tt
-line_spelt (AddGroup a bs) plan e h = subst (λ f. Spelt f plan) (unsome h) tt
-line_spelt (DropGroup g) plan e h = subst (λ f. Spelt f plan) (unsome h) tt
-line_spelt (Renumber g n) plan e h = subst (λ f. Spelt f plan) (unsome h) tt
-line_spelt (TurnGroup g) plan e h = subst (λ f. Spelt f plan) (unsome h) tt
+line_spelt l plan e h = subst (λ f. Spelt f plan) (unsome h) tt
 
 noted_same : (m n : Noted) → same_noted m n ≡ true → m ≡ n
 noted_same Nothing Nothing h = refl

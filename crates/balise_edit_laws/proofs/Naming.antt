@@ -39,20 +39,16 @@ no_group_to i (y ∷ rest) u n =
     simp a (no_group_to i rest u.1 (λ g ys h. n g ys (found_later tag_test y rest u.0 g ys h)))
 
 -- an empty list of what each item gives
-nil_left : {A : Type 0} → (xs ys : List A) → xs ++ ys ≡ [] → xs ≡ []
-nil_left [] ys e = refl
-nil_left (x ∷ xs) ys e = absurd cc
-
-nil_right : {A : Type 0} → (xs ys : List A) → xs ++ ys ≡ [] → ys ≡ []
-nil_right [] ys e = e
-nil_right (x ∷ xs) ys e = absurd cc
+nil_parts : {A : Type 0} → (xs ys : List A) → xs ++ ys ≡ [] → (xs ≡ []) × (ys ≡ [])
+nil_parts [] ys e = (refl, e)
+nil_parts (x ∷ xs) ys e = absurd cc
 
 each_gives_none : {K A B : Type 0} → {same : K → K → Bool} → IsTest same → (f : K × A → List B) → (xs : List (K × A)) → flat_map f xs ≡ [] → (k : K) → (x : A) → find same k xs ≡ Some x → f (k, x) ≡ []
 each_gives_none t f [] e k x h = absurd cc
 each_gives_none {same = same} t f (y ∷ ys) e k x h =
     split_keys t k y.0
-    (λ d q. let w : Some y.1 ≡ Some x = simp d at h in ap (λ c. f (c, x)) q ∙ ap (λ a. f (y.0, a)) (sym (unsome w)) ∙ nil_left (f y) (flat_map f ys) e)
-    (λ d. let w : find same k ys ≡ Some x = simp d at h in each_gives_none t f ys (nil_right (f y) (flat_map f ys) e) k x w)
+    (λ d q. let w : Some y.1 ≡ Some x = simp d at h in ap (λ c. f (c, x)) q ∙ ap (λ a. f (y.0, a)) (sym (unsome w)) ∙ (nil_parts (f y) (flat_map f ys) e).0)
+    (λ d. let w : find same k ys ≡ Some x = simp d at h in each_gives_none t f ys (nil_parts (f y) (flat_map f ys) e).1 k x w)
 
 none_gives_any : {K A B : Type 0} → {same : K → K → Bool} → IsTest same → (f : K × A → List B) → (xs : List (K × A)) → Distinct same xs → ((k : K) → (x : A) → find same k xs ≡ Some x → f (k, x) ≡ []) → flat_map f xs ≡ []
 none_gives_any t f [] u h = refl

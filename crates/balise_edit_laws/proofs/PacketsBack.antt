@@ -1,15 +1,15 @@
 -- Taking back what put a packet in, took one out or moved one.
 -- From the laws of tagged lists taken back, at the one telegram that the edit names.
 -- Elsewhere nothing was changed.
-use Rattle.std.proofs.Common.{◌≡◌, ℕ, cond, ◌&&◌, eqb, List, Option, Some, ap, subst, ◌∙◌}
+use Rattle.std.proofs.Common.{◌≡◌, ℕ, cond, ◌&&◌, eqb, List, Option, ap, subst, ◌∙◌}
 use Rattle.balise_rules.specs.declared.tag.Tag.{Tag}
 use Rattle.balise_rules.specs.declared.tag.Tag.TheVariants.{Fresh}
-use Rattle.balise_rules.specs.Tagged.{find, behind, each, without, move, changed, Each, Put, Take}
+use Rattle.balise_rules.specs.Tagged.{find, behind, each, without, move}
 use Rattle.balise_rules.specs.Tags.{same_tag}
 use Rattle.balise_rules.specs.Forms.{Fields}
 use Rattle.balise_rules.specs.Packet.{Packet}
 use Rattle.balise_rules.specs.Telegram.{Telegram}
-use Rattle.balise_rules.specs.Plan.{Plan, telegram_at, IsSound}
+use Rattle.balise_rules.specs.Plan.{Plan, IsSound}
 use Rattle.balise_rules.specs.Notes.{noted, note_at}
 use Rattle.balise_rules.specs.Doing.{done}
 use Rattle.balise_rules.specs.Accepting.{Accepted, AcceptedAt, AcceptedIn, Unused}
@@ -28,14 +28,10 @@ pub insert_back : (s : ℕ) → (g : Tag) → (t : ℕ) → (a : Option Tag) →
 insert_back s g t a x plan sound unused =
     let i = (noted (InsertPacket g t a x) plan).own in
     telegrams-back plan sound (telegram_after (s, DeletePacket g t (Fresh s)) i) (telegram_after (s, InsertPacket g t a x) i)
-    (λ g1 t1 y q. telegram-back (s, DeletePacket g t (Fresh s)) i (s, InsertPacket g t a x) i tt g1 t1 y (two-ids y.head) (packets g1 t1 y q))
-  where
-    packets : (g1 : Tag) → (t1 : ℕ) → (y : Telegram) → telegram_at g1 t1 plan ≡ Some y →
-        changed same_tag (cond (same_tag g g1 && eqb t t1) (Take (Fresh s)) (Each (λ q z. z))) (changed same_tag (cond (same_tag g g1 && eqb t t1) (Put a (Fresh s, x)) (Each (λ q z. z))) y.packets) ≡ y.packets
-    packets g1 t1 y q =
-        split_on (same_tag g g1 && eqb t t1)
-        (λ e. simp e (without-put_same tag_test a (Fresh s, x) y.packets (unused.packets g1 t1 y q)))
-        (λ e. simp e (each-id (each (λ p z. z) y.packets) ∙ each-id y.packets))
+    (λ g1 t1 y q. telegram-back (s, DeletePacket g t (Fresh s)) i (s, InsertPacket g t a x) i tt g1 t1 y (two-ids y.head)
+    (split_on (same_tag g g1 && eqb t t1)
+    (λ e. simp e (without-put_same tag_test a (Fresh s, x) y.packets (unused.packets g1 t1 y q)))
+    (λ e. simp e (each-id (each (λ p z. z) y.packets) ∙ each-id y.packets))))
 
 -- a telegram built again of what it was
 rebuilt : (y : Telegram) → (hs : Fields) → (ps : List (Tag × Packet)) → hs ≡ y.head → ps ≡ y.packets → ◌≡◌ {A = Telegram} (record { head = hs; packets = ps; padding = y.padding }) y

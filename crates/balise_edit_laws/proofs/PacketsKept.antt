@@ -11,7 +11,7 @@ use Rattle.balise_rules.specs.Packet.{Packet, width, IsSpelt}
 use Rattle.balise_rules.specs.Telegram.{used}
 use Rattle.balise_rules.specs.Accepting.{Lawful}
 use Rattle.balise_rules.specs.Edits.{Edit, Item, packet_after, packets_change}
-use Rattle.balise_rules.specs.declared.tagged_edit.TaggedEdit.TheVariants.{SetVar, InsertPacket, DeletePacket, MovePacket}
+use Rattle.balise_rules.specs.declared.tagged_edit.TaggedEdit.TheVariants.{InsertPacket, DeletePacket, MovePacket}
 use Rattle.balise_rules.proofs.Tests.{tag_test}
 use Rattle.balise_rules.proofs.Distincts.{distinct-each, distinct-without, distinct-put, distinct-move}
 use Rattle.balise_rules.proofs.Each.{each-id}
@@ -41,23 +41,22 @@ stay : (version most : ℕ) → (ps : List (Tag × Packet)) → PacketsSound ver
 stay version most ps s = subst (PacketsSound version most) (sym (each-id ps)) s
 
 -- one of two changes
-either : (b : Bool) → (x y : Change Tag Packet) → (version most : ℕ) → (ps : List (Tag × Packet)) → (b ≡ true → PacketsSound version most (changed same_tag x ps)) → PacketsSound version most (changed same_tag y ps) → PacketsSound version most (changed same_tag (cond b x y) ps)
-either true x y version most ps h k = h refl
-either false x y version most ps h k = k
+pub either : {A : Type 0} → (P : Change Tag A → Type 0) → (b : Bool) → (x y : Change Tag A) → (b ≡ true → P x) → P y → P (cond b x y)
+either P true x y h k = h refl
+either P false x y h k = k
 
 pub packets_kept : (e : Item) → Lawful e.1 → (i : Id) → (g : Tag) → (t c version most : ℕ) → (ps : List (Tag × Packet)) → PacketsSound version most ps → Fitted e g t version most ps → PacketsSound version most (changed same_tag (packets_change e i g t c) ps)
 packets_kept (s, InsertPacket g0 t0 a x) l i g t c version most ps w n =
-    either (same_tag g0 g && eqb t0 t) (Put a (Fresh s, x)) (Each (λ q y. y)) version most ps
+    either (λ z. PacketsSound version most (changed same_tag z ps)) (same_tag g0 g && eqb t0 t) (Put a (Fresh s, x)) (Each (λ q y. y))
     (λ e. let m = n e in let r = m.2 in record {
       tags = distinct-put tag_test a (Fresh s, x) ps w.tags m.0;
       packets = all-put (IsSpelt version) same_tag a (Fresh s, x) ps m.1 w.packets;
       fits = omega (arith, used-put a (Fresh s, x) ps, r);
     }) (stay version most ps w)
 packets_kept (s, DeletePacket g0 t0 p) l i g t c version most ps w n =
-    either (same_tag g0 g && eqb t0 t) (Take p) (Each (λ q y. y)) version most ps
+    either (λ z. PacketsSound version most (changed same_tag z ps)) (same_tag g0 g && eqb t0 t) (Take p) (Each (λ q y. y))
     (λ e. let f = w.fits in record { tags = distinct-without same_tag p ps w.tags; packets = all-without (IsSpelt version) same_tag p ps w.packets; fits = omega (arith, used-without p ps, f) }) (stay version most ps w)
 packets_kept (s, MovePacket g0 t0 p a) l i g t c version most ps w n =
-    either (same_tag g0 g && eqb t0 t) (Move p a) (Each (λ q y. y)) version most ps
+    either (λ z. PacketsSound version most (changed same_tag z ps)) (same_tag g0 g && eqb t0 t) (Move p a) (Each (λ q y. y))
     (λ e. let f = w.fits in record { tags = distinct-move tag_test p a ps w.tags; packets = all-move (IsSpelt version) same_tag p a ps w.packets; fits = omega (arith, used-move p a ps, f) }) (stay version most ps w)
-packets_kept (s, SetVar g0 t0 p v k new) l i g t c version most ps w n = after_each (SetVar g0 t0 p v k new) l i g t c version most ps w
 packets_kept e l i g t c version most ps w n = after_each e.1 l i g t c version most ps w

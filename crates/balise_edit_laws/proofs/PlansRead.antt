@@ -90,11 +90,10 @@ all_read [] plan last p h = subst PlanRead (unok h) p
 all_read (bs ∷ groups) plan last p h = one_step plan last bs groups p (λ more q k. all_read groups more last q k) (pushed plan bs) refl h
 
 pub plan_read : (groups : List (List (List Bool))) → (plan : Plan) → read_plan groups ≡ Ok plan → IsSound plan × ((s : ℕ) → Unused s plan)
-plan_read groups plan h = let p = all_read groups [] plan first h in (p.sound, p.unused)
-  where
-    first : PlanRead []
-    first = record {
+plan_read groups plan h =
+    let first : PlanRead [] = record {
       sound = record { tags = tt; identities = tt; groups = All-nil (λ y. IsSoundGroup y.1) };
       places = λ m l. refl;
       unused = λ s. record { groups = refl; packets = λ g t y h. absurd cc };
-    }
+    } in
+    let p = all_read groups [] plan first h in (p.sound, p.unused)

@@ -90,8 +90,8 @@ telegram_tag i pig plan sound z h =
     let all : telegram_at a.first.0 b.first.0 plan ≡ Some b.first.1 = ap (option_and_then (find eqb b.first.0)) group ∙ at in
     subst (λ (y : FoundTelegram). telegram_at y.group y.place plan ≡ Some y.telegram) (unok b.then_is) all
 
-insert_spelt : (i : Id) → (pig at : ℕ) → (b : List Bool) → (e : Edit) → (plan : Plan) → IsSound plan → and_then (find_telegram i pig plan) (insert_at at b) ≡ Ok e → Spelt e plan
-insert_spelt i pig at b e plan sound h =
+pub command_spelt : (c : Command) → (e : Edit) → (plan : Plan) → IsSound plan → edit_of c plan ≡ Ok e → Spelt e plan
+command_spelt (AskInsert i pig at b) e plan sound h =
     let t = in_turn (find_telegram i pig plan) (insert_at at b) e h in
     let a = in_turn (ok_or (anchor_at at t.first.telegram.packets) NoSuchPacket) (λ k. and_then (packet_in (version_of t.first.telegram) b) (λ x. Ok (InsertPacket t.first.group t.first.place k x))) e t.then_is in
     let x = in_turn (packet_in (version_of t.first.telegram) b) (λ x. Ok (InsertPacket t.first.group t.first.place a.first x)) e a.then_is in
@@ -99,9 +99,6 @@ insert_spelt i pig at b e plan sound h =
     let spelt = word_spelt (version_of t.first.telegram) b x.first x.is in
     subst (λ f. Spelt f plan) (unok x.then_is)
     (λ y q. subst (λ (z : Telegram). IsSpelt (version_of z) x.first) (unsome (sym here ∙ q)) spelt)
-
-pub command_spelt : (c : Command) → (e : Edit) → (plan : Plan) → IsSound plan → edit_of c plan ≡ Ok e → Spelt e plan
-command_spelt (AskInsert i pig at b) e plan s h = insert_spelt i pig at b e plan s h
 command_spelt (AskSet i pig pkt v k n) e plan s h = let w = in_turn (find_packet i pig pkt plan) (λ p. Ok (SetVar p.group p.place p.tag v k n)) e h in subst (λ f. Spelt f plan) (unok w.then_is) tt
 command_spelt (AskSetHead i pig v n) e plan s h = let w = in_turn (find_telegram i pig plan) (λ t. Ok (SetHead t.group t.place v n)) e h in subst (λ f. Spelt f plan) (unok w.then_is) tt
 command_spelt (AskDelete i pig pkt) e plan s h = let w = in_turn (find_packet i pig pkt plan) (λ p. Ok (DeletePacket p.group p.place p.tag)) e h in subst (λ f. Spelt f plan) (unok w.then_is) tt

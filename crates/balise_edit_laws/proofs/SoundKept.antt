@@ -1,7 +1,7 @@
 -- The law that an accepted edit leaves a sound plan sound.
 -- From its groups, which are kept, their identities, which stay apart, and an added group, which is sound since it was read.
 -- What a telegram asks of what is put into it is what acceptance, spelling and a new serial give.
-use Rattle.std.proofs.Common.{◌≡◌, ◌≢◌, ℕ, Bool, false, List, length, Option, Some, sym, ap, subst, ◌∙◌}
+use Rattle.std.proofs.Common.{◌≡◌, ◌≢◌, ℕ, false, length, Some, sym, ap, subst, ◌∙◌}
 use Rattle.balise_rules.specs.declared.tag.Tag.{Tag}
 use Rattle.balise_rules.specs.declared.tag.Tag.TheVariants.{Fresh}
 use Rattle.balise_rules.specs.declared.identity.Id.{Id}
@@ -13,7 +13,7 @@ use Rattle.balise_rules.specs.Notes.{noted}
 use Rattle.balise_rules.specs.Doing.{done, renumbered}
 use Rattle.balise_rules.specs.Accepting.{Accepted, AcceptedAt, AcceptedIn, Lawful}
 use Rattle.balise_rules.specs.Edits.{Edit, Item, group_of, group_after}
-use Rattle.balise_rules.specs.declared.tagged_edit.TaggedEdit.TheVariants.{SetVar, InsertPacket, AddGroup, DropGroup, Renumber}
+use Rattle.balise_rules.specs.declared.tagged_edit.TaggedEdit.TheVariants.{InsertPacket, AddGroup, DropGroup, Renumber}
 use Rattle.balise_edit_laws.specs.TakenBack.{IsReady}
 use Rattle.balise_rules.proofs.Tests.{split_on, split_keys, flip_no, tag_test, id_test}
 use Rattle.balise_rules.proofs.Distincts.{distinct-each, distinct-without, distinct-put}
@@ -53,7 +53,6 @@ stay_apart (Renumber g0 n) plan a all g h ys zs b c d =
     let v = ap (λ x. same_id (identity_of ys) (renumbered (Some x) n)) (sym w) ∙ a.1.2 g ys b in
     simp (e, f) v)
     (λ f. simp (e, f) (all g h ys zs b c d)))
-stay_apart (SetVar g0 t0 p v k n) plan a all g h ys zs b c d = all g h ys zs b c d
 stay_apart e plan a all g h ys zs b c d = all g h ys zs b c d
 
 -- what an edit asks of what is put into telegrams
@@ -78,28 +77,19 @@ sound_parts e own plan sound accepted fits =
       groups = all-each_found tag_test IsSoundGroup (group_after e own) plan sound.tags (λ g ys q. (kept g ys q).sound);
     }
 
-sound_within : (e : Item) → (own : Id) → (plan : Plan) → IsReady e plan → IsSound (each (group_after e own) plan)
-sound_within e own plan r = sound_parts e own plan r.sound r.accepted (fitted e plan r)
-
-sound_added : (s : ℕ) → (a : Option Tag) → (bs : List (List Bool)) → (plan : Plan) → IsReady (s, AddGroup a bs) plan → IsSound (put same_tag a (Fresh s, group_of bs) plan)
-sound_added s a bs plan r =
+pub sound_kept : (e : Item) → (plan : Plan) → IsReady e plan → IsSound (done e plan)
+sound_kept (s, AddGroup a bs) plan r =
     let u = distinct-put tag_test a (Fresh s, group_of bs) plan r.sound.tags r.unused.groups in
     record {
       tags = u;
       identities = apart_differ (put same_tag a (Fresh s, group_of bs) plan) u (apart_put a (Fresh s, group_of bs) plan r.accepted.1.0 r.unused.groups r.accepted.1.1 (differ_apart plan r.sound.identities));
       groups = all-put IsSoundGroup same_tag a (Fresh s, group_of bs) plan (group_read bs (group_of bs) r.accepted.0).sound r.sound.groups;
     }
-
-sound_dropped : (g : Tag) → (plan : Plan) → IsSound plan → IsSound (without same_tag g plan)
-sound_dropped g plan s =
-    let u = distinct-without same_tag g plan s.tags in
+sound_kept (s, DropGroup g) plan r =
+    let u = distinct-without same_tag g plan r.sound.tags in
     record {
       tags = u;
-      identities = apart_differ (without same_tag g plan) u (apart_without g plan (differ_apart plan s.identities));
-      groups = all-without IsSoundGroup same_tag g plan s.groups;
+      identities = apart_differ (without same_tag g plan) u (apart_without g plan (differ_apart plan r.sound.identities));
+      groups = all-without IsSoundGroup same_tag g plan r.sound.groups;
     }
-
-pub sound_kept : (e : Item) → (plan : Plan) → IsReady e plan → IsSound (done e plan)
-sound_kept (s, AddGroup a bs) plan r = sound_added s a bs plan r
-sound_kept (s, DropGroup g) plan r = sound_dropped g plan r.sound
-sound_kept e plan r = sound_within e (noted e.1 plan).own plan r
+sound_kept e plan r = sound_parts e (noted e.1 plan).own plan r.sound r.accepted (fitted e plan r)

@@ -34,27 +34,18 @@ use Rattle.balise_edit_laws.proofs.HeadChanges.{fixed_kept, total_fixed}
 use Rattle.balise_edit_laws.proofs.Levels.{packets-back, head-back, telegram-back}
 use Rattle.balise_edit_laws.proofs.FieldChanges.{calls_turned}
 
-swap_back : (n : ℕ) → exchanged 0 1 (exchanged 0 1 n) ≡ n
-swap_back n = grind (arith, nat_tests)
-
-double_back : (n : ℕ) → exchanged 1 2 (exchanged 1 2 n) ≡ n
-double_back n = grind (arith, nat_tests)
-
 turned_field : (o q a b : Bool) → (n : ℕ) → (o ≡ true → n ≤ 1) →
     cond o (cond a (1 - cond o (cond a (1 - n) n) (cond (q && b) (exchanged 0 1 n) n)) (cond o (cond a (1 - n) n) (cond (q && b) (exchanged 0 1 n) n))) (cond (q && b) (exchanged 0 1 (cond o (cond a (1 - n) n) (cond (q && b) (exchanged 0 1 n) n))) (cond o (cond a (1 - n) n) (cond (q && b) (exchanged 0 1 n) n))) ≡ n
 turned_field true q true b n h = let k = h refl in omega (arith, k)
-turned_field true q false b n h = refl
-turned_field false true a true n h = swap_back n
-turned_field false true a false n h = refl
-turned_field false false a b n h = refl
+turned_field false true a true n h = grind (arith, nat_tests)
+turned_field o q a b n h = refl
 
 turned_head : (d p b : Bool) → (total n : ℕ) → (d ≡ true → p ≡ false) → (p ≡ true → n ≤ total) →
     cond (d && b) (exchanged 1 2 (cond (d && b) (exchanged 1 2 n) (cond (p && b) (total - n) n))) (cond (p && b) (total - cond (d && b) (exchanged 1 2 n) (cond (p && b) (total - n) n)) (cond (d && b) (exchanged 1 2 n) (cond (p && b) (total - n) n))) ≡ n
-turned_head true p true total n h k = double_back n
+turned_head true p true total n h k = grind (arith, nat_tests)
 turned_head true p false total n h k = let e = h refl in simp e
 turned_head false true true total n h k = let l = k refl in omega (arith, l)
-turned_head false true false total n h k = refl
-turned_head false false b total n h k = refl
+turned_head d p b total n h k = refl
 
 orientation_small : (v : Var) → (n : ℕ) → v ≡ QLinkorientation → IsTrue (fits (width_of v) n) → n ≤ 1
 unfolding width_of
@@ -71,7 +62,10 @@ turned_telegram s g i plan sound g1 t y q =
     (head-back (TurnGroup g) (TurnGroup g) g1 t y.head (head_distinct y w.sound)
     (λ key n h. ap (λ total. cond (is_of MDup key && same_tag g g1) (exchanged 1 2 (head_after (TurnGroup g) g1 t y.head key n)) (cond (is_of NPig key && same_tag g g1) (total - head_after (TurnGroup g) g1 t y.head key n) (head_after (TurnGroup g) g1 t y.head key n)))
     (fixed_kept (TurnGroup g) tt NTotal total_fixed g1 t y.head)
-    ∙ turned_head (is_of MDup key) (is_of NPig key) (same_tag g g1) (value NTotal 0 y.head) n (λ e. not_other MDup NPig key refl e) (λ e. small key n h e)))
+    ∙ turned_head (is_of MDup key) (is_of NPig key) (same_tag g g1) (value NTotal 0 y.head) n (λ e. not_other MDup NPig key refl e) (λ e.
+    let k = header_once NPig y.head w.sound.header w.sound.numbered refl key n h e in
+    let v = value_found NPig 0 n y.head (ap (λ u. find same_key u y.head) (sym k) ∙ h) in
+    let a = w.sound.place in let b = w.sound.total in let c = w.within in omega (arith, v, a, b, c))))
     (packets-back (TurnGroup g) i (TurnGroup g) i g1 t (country_of y) y.packets w.sound.tags
     (λ p x h. let spelt = packet_spelt y w.sound p x h in (
       fields_distinct (version_of y) x spelt,
@@ -80,13 +74,6 @@ turned_telegram s g i plan sound g1 t y q =
           ∙ turned_field (is_of QLinkorientation key) (is_of QDir key) (calls (country_of y) key.1 x.fields i) (same_tag g g1) n
           (λ e. orientation_small key.0 n (sym (var_test.one QLinkorientation key.0 e)) (field_fits (packet (version_of y)) x.fields x.rest spelt.form key n d)),
     )))
-  where
-    small : (key : Key) → (n : ℕ) → find same_key key y.head ≡ Some n → is_of NPig key ≡ true → n ≤ value NTotal 0 y.head
-    small key n h e =
-        let w = (stood g1 t plan sound y q).placed in
-        let k = header_once NPig y.head w.sound.header w.sound.numbered refl key n h e in
-        let v = value_found NPig 0 n y.head (ap (λ u. find same_key u y.head) (sym k) ∙ h) in
-        let a = w.sound.place in let b = w.sound.total in let c = w.within in omega (arith, v, a, b, c)
 
 ordered : (g g1 : Tag) → (ys : Group) → (f : ℕ → Telegram → Telegram) → in_order (TurnGroup g) g1 (each f (in_order (TurnGroup g) g1 (each f ys))) ≡ each f (each f ys)
 ordered g g1 ys f = split_on (same_tag g g1)

@@ -13,7 +13,7 @@ use Rattle.balise_rules.specs.Plan.{Plan, identity_of, telegram_at}
 use Rattle.balise_rules.specs.Names.{names_of}
 use Rattle.balise_rules.specs.Edits.{Item, group_of, telegram_after}
 use Rattle.balise_rules.specs.declared.tagged_edit.TaggedEdit.TheVariants.{InsertPacket, MovePacket, AddGroup}
-use Rattle.balise_rules.specs.Notes.{no_identity, nothing, noted}
+use Rattle.balise_rules.specs.Notes.{nothing, noted}
 use Rattle.balise_rules.specs.Doing.{done}
 use Rattle.balise_rules.specs.Accepting.{Stands, AcceptedIn, AcceptedAt, Accepted, Unused}
 use Rattle.balise_rules.specs.Paths.{Whose, Path, meet, changes, needs}
@@ -31,21 +31,7 @@ use Rattle.balise_strike_laws.proofs.Locals.{asks-at, at-asks, noted-at, telegra
 use Rattle.balise_strike_laws.proofs.Identities.{no-group-back, no-group-forward}
 use Rattle.balise_strike_laws.proofs.GroupReaders.{added_real}
 use Rattle.balise_strike_laws.proofs.PutIn.{put-put_in, MovesBehind, moves-behind}
-
--- h before e is as f after e
-pub record Behind (e f h : Item) (plan : Plan) : Type 0 where
-  pub second_first : Accepted h.1 plan
-  pub second_notes : noted h.1 plan ≡ noted f.1 (done e plan)
-  pub first_then : Accepted e.1 (done h plan)
-  pub first_notes : noted e.1 (done h plan) ≡ noted e.1 plan
-  pub same_plan : done f (done e plan) ≡ done e (done h plan)
-
--- two edits, telegram by telegram
-quad : (k1 k2 k3 k4 : Tag → ℕ → Telegram → Telegram) → (plan : Plan) → Facts plan →
-    ((g : Tag) → (t : ℕ) → (y : Telegram) → telegram_at g t plan ≡ Some y → k1 g t (k2 g t y) ≡ k3 g t (k4 g t y)) →
-    each (λ g xs. each (k1 g) xs) (each (λ g xs. each (k2 g) xs) plan) ≡ each (λ g xs. each (k3 g) xs) (each (λ g xs. each (k4 g) xs) plan)
-quad k1 k2 k3 k4 plan s h = each-each tag_test (λ g xs. each (k1 g) xs) (λ g xs. each (k2 g) xs) (λ g xs. each (k3 g) xs) (λ g xs. each (k4 g) xs) plan s.groups
-    (λ g xs q. each-each nat_test (k1 g) (k2 g) (k3 g) (k4 g) xs (s.telegrams g xs q) (λ t y d. h g t y (simp q d)))
+use Rattle.balise_strike_laws.specs.Laws.{CommutesBehind}
 
 -- a change here
 at-home : (g : Tag) → (t : ℕ) → (a : Change Tag Packet) → cond (same_tag g g && eqb t t) a keep ≡ a
@@ -60,15 +46,20 @@ asks-here : (g : Tag) → (t : ℕ) → (a : Change Tag Packet) → (c : Option 
     Stands c (changed same_tag (cond (same_tag g g && eqb t t) a keep) ps) × (used (changed same_tag (cond (same_tag g g && eqb t t) a keep) ps) + n ≤ l)
 asks-here g t a c ps n l h k = subst (λ u. Stands c (changed same_tag u ps) × (used (changed same_tag u ps) + n ≤ l)) (sym (at-home g t a)) (h, k)
 
--- changes of one telegram's packets, where they are the same there
-packets-same : (g : Tag) → (t : ℕ) → (a b c d : Change Tag Packet) → (plan : Plan) →
+-- a change of the packets of one telegram
+abbrev in_packets : Tag → ℕ → Change Tag Packet → Tag → ℕ → Telegram → Telegram
+in_packets g t a g2 t2 y = record { head = each (λ key v. v) y.head; packets = changed same_tag (cond (same_tag g g2 && eqb t t2) a keep) y.packets; padding = y.padding }
+
+abbrev in_plan : Tag → ℕ → Change Tag Packet → Plan → Plan
+in_plan g t a plan = each (λ g2 xs. each (in_packets g t a g2) xs) plan
+
+changes-same : (g : Tag) → (t : ℕ) → (a b c d : Change Tag Packet) → (plan : Plan) → Facts plan →
     ((y : Telegram) → telegram_at g t plan ≡ Some y → changed same_tag a (changed same_tag b y.packets) ≡ changed same_tag c (changed same_tag d y.packets)) →
-    (g2 : Tag) → (t2 : ℕ) → (y : Telegram) → telegram_at g2 t2 plan ≡ Some y →
-    changed same_tag (cond (same_tag g g2 && eqb t t2) a keep) (changed same_tag (cond (same_tag g g2 && eqb t t2) b keep) y.packets) ≡
-    changed same_tag (cond (same_tag g g2 && eqb t t2) c keep) (changed same_tag (cond (same_tag g g2 && eqb t t2) d keep) y.packets)
-packets-same g t a b c d plan h g2 t2 y q = split_on (same_tag g g2 && eqb t t2)
-    (λ e. simp e (h y (place_is g g2 t t2 plan e ∙ q)))
-    (λ e. simp e)
+    in_plan g t a (in_plan g t b plan) ≡ in_plan g t c (in_plan g t d plan)
+changes-same g t a b c d plan s h = each-each tag_test (λ g2 xs. each (in_packets g t a g2) xs) (λ g2 xs. each (in_packets g t b g2) xs) (λ g2 xs. each (in_packets g t c g2) xs) (λ g2 xs. each (in_packets g t d g2) xs) plan s.groups
+    (λ g2 xs q. each-each nat_test (in_packets g t a g2) (in_packets g t b g2) (in_packets g t c g2) (in_packets g t d g2) xs (s.telegrams g2 xs q)
+    (λ t2 y k. ap (λ ps. record { head = each (λ key v. v) (each (λ key v. v) y.head); packets = ps; padding = y.padding })
+    (split_on (same_tag g g2 && eqb t t2) (λ e. simp e (h y (place_is g g2 t t2 plan e ∙ simp q k))) (λ e. simp e))))
 
 -- an insertion after an inserted packet
 module _ (s0 : ℕ) (g : Tag) (t : ℕ) (a : Option Tag) (x : Packet) (s1 : ℕ) (plan : Plan) (s : Facts plan) (u0 : Unused s0 plan) (u1 : Unused s1 plan) (ae : Accepted (InsertPacket g t a x) plan) where
@@ -85,7 +76,7 @@ module _ (s0 : ℕ) (g : Tag) (t : ℕ) (a : Option Tag) (x : Packet) (s1 : ℕ)
   after-first y q = telegram-done e0 (noted e0.1 plan).own g t plan s tt ∙ ap (option_map (telegram_after e0 (noted e0.1 plan).own g t)) q
 
   pub insert-behind : (x1 : Packet) → Accepted (InsertPacket g t (Some (Fresh s0)) x1) (done e0 plan) →
-      Behind e0 (s1, InsertPacket g t (Some (Fresh s0)) x1) (s1, InsertPacket g t a x1) plan
+      CommutesBehind e0 (s1, InsertPacket g t (Some (Fresh s0)) x1) plan
   insert-behind x1 af =
       let w = asks-at (InsertPacket g t a x) tt plan ae.1 in
       let qe = after-first w.0 w.1 in
@@ -108,14 +99,12 @@ module _ (s0 : ℕ) (g : Tag) (t : ℕ) (a : Option Tag) (x : Packet) (s1 : ℕ)
         );
         first_notes = noted-at (InsertPacket g t a x) tt (done (s1, InsertPacket g t a x1) plan) (telegram_after (s1, InsertPacket g t a x1) (noted (InsertPacket g t a x1) plan).own g t w.0) qh
             ∙ ap (λ c. record nothing { names = names_of c x }) (country-kept (InsertPacket g t a x1) tt g t w.0.head) ∙ sym (noted-at (InsertPacket g t a x) tt plan w.0 w.1);
-        same_plan = quad (telegram_after (s1, InsertPacket g t (Some (Fresh s0)) x1) no_identity) (telegram_after e0 no_identity) (telegram_after e0 no_identity) (telegram_after (s1, InsertPacket g t a x1) no_identity) plan s
-            (λ g2 t2 y q. ap (λ ps. record { head = each (λ key v. v) (each (λ key v. v) y.head); packets = ps; padding = y.padding })
-            (packets-same g t (Put (Some (Fresh s0)) (Fresh s1, x1)) (Put a (Fresh s0, x)) (Put a (Fresh s0, x)) (Put a (Fresh s1, x1)) plan
-            (λ y q. put-put_in a (Fresh s0, x) (Fresh s1, x1) (anchor-other a (Fresh s0) y.packets (stands-here y q) (new-here y q)) y.packets (new-here y q)) g2 t2 y q));
+        same_plan = changes-same g t (Put (Some (Fresh s0)) (Fresh s1, x1)) (Put a (Fresh s0, x)) (Put a (Fresh s0, x)) (Put a (Fresh s1, x1)) plan s
+            (λ y q. put-put_in a (Fresh s0, x) (Fresh s1, x1) (anchor-other a (Fresh s0) y.packets (stands-here y q) (new-here y q)) y.packets (new-here y q));
       }
 
   pub move-behind : (p : Tag) → same_spot same_tag a (Some p) ≡ false → Accepted (MovePacket g t p (Some (Fresh s0))) (done e0 plan) →
-      Behind e0 (s1, MovePacket g t p (Some (Fresh s0))) (s1, MovePacket g t p a) plan
+      CommutesBehind e0 (s1, MovePacket g t p (Some (Fresh s0))) plan
   move-behind p n af =
       let w = asks-at (InsertPacket g t a x) tt plan ae.1 in
       let qe = after-first w.0 w.1 in
@@ -133,9 +122,7 @@ module _ (s0 : ℕ) (g : Tag) (t : ℕ) (a : Option Tag) (x : Packet) (s1 : ℕ)
         );
         first_notes = noted-at (InsertPacket g t a x) tt (done (s1, MovePacket g t p a) plan) (telegram_after (s1, MovePacket g t p a) (noted (MovePacket g t p a) plan).own g t w.0) qh
             ∙ ap (λ c. record nothing { names = names_of c x }) (country-kept (MovePacket g t p a) tt g t w.0.head) ∙ sym (noted-at (InsertPacket g t a x) tt plan w.0 w.1);
-        same_plan = quad (telegram_after (s1, MovePacket g t p (Some (Fresh s0))) no_identity) (telegram_after e0 no_identity) (telegram_after e0 no_identity) (telegram_after (s1, MovePacket g t p a) no_identity) plan s
-            (λ g2 t2 y q. ap (λ ps. record { head = each (λ key v. v) (each (λ key v. v) y.head); packets = ps; padding = y.padding })
-            (packets-same g t (Move p (Some (Fresh s0))) (Put a (Fresh s0, x)) (Put a (Fresh s0, x)) (Move p a) plan (λ y q. (moves-here p n af y q).same_list) g2 t2 y q));
+        same_plan = changes-same g t (Move p (Some (Fresh s0))) (Put a (Fresh s0, x)) (Put a (Fresh s0, x)) (Move p a) plan s (λ y q. (moves-here p n af y q).same_list);
       }
     where
       moves-here : (p : Tag) → same_spot same_tag a (Some p) ≡ false → Accepted (MovePacket g t p (Some (Fresh s0))) (done e0 plan) → (y : Telegram) →
@@ -152,7 +139,7 @@ pub add-behind : (s0 : ℕ) → (a : Option Tag) → (bs : List (List Bool)) →
     ((pl : Path) → In pl (changes ((s0, AddGroup a bs), noted (AddGroup a bs) plan) ++ needs ((s0, AddGroup a bs), noted (AddGroup a bs) plan)) → meet (Whose (identity_of (group_of cs)) ∷ []) pl ≡ false) →
     ((pl : Path) → In pl (changes ((s1, AddGroup a cs), noted (AddGroup a cs) plan) ++ needs ((s1, AddGroup a cs), noted (AddGroup a cs) plan)) → meet (Whose (identity_of (group_of bs)) ∷ []) pl ≡ false) →
     Accepted (AddGroup a bs) plan → Accepted (AddGroup (Some (Fresh s0)) cs) (done (s0, AddGroup a bs) plan) →
-    Behind (s0, AddGroup a bs) (s1, AddGroup (Some (Fresh s0)) cs) (s1, AddGroup a cs) plan
+    CommutesBehind (s0, AddGroup a bs) (s1, AddGroup (Some (Fresh s0)) cs) plan
 add-behind s0 a bs s1 cs plan s u0 u1 c0 c1 ae af =
     let ah : Accepted (AddGroup a cs) plan = (af.0, (ae.1.0, no-group-back plan s (s0, AddGroup a bs) ae u0 (identity_of (group_of cs)) (added_real cs af.0) c0 af.1.1)) in
     record {

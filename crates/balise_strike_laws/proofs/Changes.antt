@@ -15,19 +15,15 @@ abbrev pub ChangesApart : {A : Type 0} → Change Tag A → Change Tag A → Lis
 ChangesApart {A} (Each f) (Each g) xs = (k : Tag) → (x : A) → find same_tag k xs ≡ Some x → f k (g k x) ≡ g k (f k x)
 ChangesApart (Each f) (Put a z) xs = f z.0 z.1 ≡ z.1
 ChangesApart (Put a z) (Each f) xs = f z.0 z.1 ≡ z.1
-ChangesApart (Each f) (Take p) xs = Unit {0}
-ChangesApart (Each f) (Move p a) xs = Unit {0}
-ChangesApart (Take p) (Each f) xs = Unit {0}
-ChangesApart (Move p a) (Each f) xs = Unit {0}
 ChangesApart (Put a z) (Put b w) xs = (same_spot same_tag a b ≡ false) × (same_spot same_tag a (Some w.0) ≡ false) × (same_spot same_tag b (Some z.0) ≡ false)
 ChangesApart (Put a z) (Take q) xs = (same_tag q z.0 ≡ false) × (same_spot same_tag (Some q) a ≡ false)
 ChangesApart (Take q) (Put a z) xs = (same_tag q z.0 ≡ false) × (same_spot same_tag (Some q) a ≡ false)
-ChangesApart (Take p) (Take q) xs = Unit {0}
 ChangesApart (Put a z) (Move q c) xs = (same_tag q z.0 ≡ false) × (same_spot same_tag (Some q) a ≡ false) × (same_spot same_tag a c ≡ false) × (same_spot same_tag c (Some z.0) ≡ false)
 ChangesApart (Move q c) (Put a z) xs = (same_tag q z.0 ≡ false) × (same_spot same_tag (Some q) a ≡ false) × (same_spot same_tag a c ≡ false) × (same_spot same_tag c (Some z.0) ≡ false)
 ChangesApart (Take p) (Move q c) xs = (same_tag p q ≡ false) × (same_spot same_tag (Some p) c ≡ false)
 ChangesApart (Move q c) (Take p) xs = (same_tag p q ≡ false) × (same_spot same_tag (Some p) c ≡ false)
 ChangesApart (Move p a) (Move q c) xs = (same_tag p q ≡ false) × (same_spot same_tag a (Some q) ≡ false) × (same_spot same_tag c (Some p) ≡ false) × (same_spot same_tag a c ≡ false)
+ChangesApart x y xs = Unit {0}
 
 pub changes-commute : {A : Type 0} → (x y : Change Tag A) → (xs : List (Tag × A)) → Distinct same_tag xs → ChangesApart x y xs →
     changed same_tag x (changed same_tag y xs) ≡ changed same_tag y (changed same_tag x xs)

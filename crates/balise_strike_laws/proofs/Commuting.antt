@@ -7,7 +7,7 @@ use Rattle.balise_rules.specs.declared.tag.Tag.TheVariants.{Fresh}
 use Rattle.balise_rules.specs.Plan.{Plan}
 use Rattle.balise_rules.specs.Names.{names_in}
 use Rattle.balise_rules.specs.Edits.{Edit, Item, group_of, effect, group_after, groups_change}
-use Rattle.balise_rules.specs.declared.tagged_edit.TaggedEdit.TheVariants.{SetVar, InsertPacket, AddGroup, DropGroup, Renumber, TurnGroup}
+use Rattle.balise_rules.specs.declared.tagged_edit.TaggedEdit.TheVariants.{InsertPacket, AddGroup, DropGroup, Renumber, TurnGroup}
 use Rattle.balise_rules.specs.Notes.{Note, noted}
 use Rattle.balise_rules.specs.Doing.{done}
 use Rattle.balise_rules.specs.Accepting.{Lawful, Accepted, Unused}
@@ -18,19 +18,12 @@ use Rattle.balise_strike_laws.proofs.Levels.{inner-change, Inner}
 use Rattle.balise_strike_laws.proofs.Places.{first_of, later_of, in-ids, Reads, apart_sides}
 use Rattle.balise_strike_laws.specs.Laws.{Commutes, Commuting}
 use Rattle.balise_strike_laws.proofs.Facts.{Facts, facts}
-use Rattle.balise_strike_laws.proofs.Locals.{local-forward, local-back, real-own}
+use Rattle.balise_strike_laws.proofs.Locals.{local-forward, local-back, real-own, Forward, Back}
 use Rattle.balise_strike_laws.proofs.Rooms.{room-back, room-forward, room-sym}
 use Rattle.balise_strike_laws.proofs.Groups.{turn-forward, turn-back}
 use Rattle.balise_strike_laws.proofs.Wholes.{group-same-names}
 use Rattle.balise_strike_laws.proofs.GroupReaders.{drop-forward, drop-back, add-forward, add-back, ren-forward, ren-back, drop-leaves, add-leaves}
 use Rattle.balise_strike_laws.proofs.Results.{same-result}
-
--- an accepted edit's reading, before and after
-abbrev pub Forward : Item → Item → Plan → Type 0
-Forward e f plan = Accepted e.1 (done f plan) × (noted e.1 (done f plan) ≡ noted e.1 plan)
-
-abbrev pub Back : Item → Item → Plan → Type 0
-Back e f plan = Accepted e.1 plan × (noted e.1 plan ≡ noted e.1 (done f plan))
 
 back-any : (e f : Item) → (plan : Plan) → Facts plan → Unused f.0 plan → Accepted f.1 plan → Accepted e.1 (done f plan) → room_apart e.1 f.1 ≡ true →
     Reads (e, noted e.1 (done f plan)) (f, noted f.1 plan) → Reads (f, noted f.1 plan) (e, noted e.1 (done f plan)) → Back e f plan
@@ -38,7 +31,6 @@ back-any (s0, AddGroup c bs) f plan s un b a w r1 r2 = add-back f plan s b un s0
 back-any (serial, DropGroup g) f plan s un b a w r1 r2 = drop-back f plan s b serial g a r1
 back-any (serial, Renumber g x) f plan s un b a w r1 r2 = ren-back f plan s b un serial g x a r1 r2
 back-any (serial, TurnGroup g) f plan s un b a w r1 r2 = turn-back serial g f plan s a b.0 r1
-back-any (serial, SetVar g t p v k x) f plan s un b a w r1 r2 = local-back (serial, SetVar g t p v k x) tt f plan s a b r1 (λ y q k. tt)
 back-any (s0, InsertPacket g t c x) f plan s un b a w r1 r2 = local-back (s0, InsertPacket g t c x) tt f plan s a b r1 (λ y q k. room-back (s0, InsertPacket g t c x) tt f w plan s b.1 (noted f.1 plan).own y q k)
 back-any e f plan s un b a w r1 r2 = local-back e tt f plan s a b r1 (λ y q k. tt)
 
@@ -48,7 +40,6 @@ forward-any (s0, AddGroup c bs) f plan s un a b d w r1 r2 = add-forward f plan s
 forward-any (serial, DropGroup g) f plan s un a b d w r1 r2 = drop-forward f plan s b serial g a r1
 forward-any (serial, Renumber g x) f plan s un a b d w r1 r2 = ren-forward f plan s b un serial g x a r1 r2
 forward-any (serial, TurnGroup g) f plan s un a b d w r1 r2 = turn-forward serial g f plan s a b.0 r1
-forward-any (serial, SetVar g t p v k x) f plan s un a b d w r1 r2 = local-forward (serial, SetVar g t p v k x) tt f plan s a b r1 r2 (λ y q k. tt)
 forward-any (s0, InsertPacket g t c x) f plan s un a b d w r1 r2 = local-forward (s0, InsertPacket g t c x) tt f plan s a b r1 r2
     (λ y q k. room-forward (s0, InsertPacket g t c x) tt f w plan s a.1 b.1 (noted (InsertPacket g t c x) plan).own (noted f.1 plan).own d.1 y q k)
 forward-any e f plan s un a b d w r1 r2 = local-forward e tt f plan s a b r1 r2 (λ y q k. tt)

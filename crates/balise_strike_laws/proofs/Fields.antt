@@ -1,7 +1,7 @@
 -- Fields: two changes of the fields of one packet commute where they are apart.
 -- Proves that what an element names stays unless it is renamed, and that the new value of a field is the same in both orders.
 -- From the laws of tagged lists, and number facts over plain variables.
-use Rattle.std.proofs.Common.{◌≡◌, ℕ, ◌-◌, Bool, true, false, cond, ◌&&◌, eqb, Some, refl, sym, ap, ◌∙◌, arith}
+use Rattle.std.proofs.Common.{◌≡◌, ℕ, ◌-◌, Bool, true, false, cond, ◌&&◌, eqb, refl, sym, ap, ◌∙◌, arith}
 use Rattle.std.proofs.lemmas.Bool.{eqb-true, and_parts, both_ways}
 use Rattle.std.proofs.lemmas.Bool.Decides.{nat_tests}
 use Rattle.std.specs.Option.{option_map}
@@ -12,7 +12,7 @@ use Rattle.balise_rules.specs.declared.variable.Var.TheVariants.{NidC, NidBg, QD
 use Rattle.balise_rules.specs.Tagged.{find, each}
 use Rattle.balise_rules.specs.Tags.{same_tag, same_id, same_var, same_key, Key, is_of}
 use Rattle.balise_rules.specs.Forms.{Fields}
-use Rattle.balise_rules.specs.Names.{country_at, calls, is_it}
+use Rattle.balise_rules.specs.Names.{country_at, calls}
 use Rattle.balise_rules.specs.Edits.{Edit, exchanged, field_after}
 use Rattle.balise_rules.specs.declared.tagged_edit.TaggedEdit.TheVariants.{SetVar, Renumber, TurnGroup}
 use Rattle.balise_rules.proofs.Tests.{split_on, flip_yes, tag_test, var_test, key_test, nat_test, both_one}
@@ -21,7 +21,7 @@ use Rattle.balise_rules.proofs.Cases.{found, parts4}
 use Rattle.balise_rules.proofs.Each.{each-id}
 use Rattle.balise_rules.proofs.Keys.{not_other}
 use Rattle.balise_rules.proofs.Untouched.{KeepsFields, country_untouched}
-use Rattle.balise_strike_laws.proofs.Cases.{both_set}
+use Rattle.balise_strike_laws.proofs.Cases.{both_set, twice}
 
 -- two renumberings of one number
 pub ren-ren : (c v a0 a1 x b0 b1 y : ℕ) → (eqb a0 b0 && eqb a1 b1) ≡ false → (eqb a0 b0 && eqb x b1) ≡ false → (eqb b0 a0 && eqb y a1) ≡ false →
@@ -32,19 +32,6 @@ ren-ren c v a0 a1 x b0 b1 y n1 n2 n3 = grind (arith, nat_tests)
 pub ren-other : (c v a0 a1 x b0 b1 : ℕ) → (eqb a0 b0 && eqb a1 b1) ≡ false → (eqb a0 b0 && eqb x b1) ≡ false →
     (eqb c b0 && eqb (cond (eqb c a0 && eqb v a1) x v) b1) ≡ (eqb c b0 && eqb v b1)
 ren-other c v a0 a1 x b0 b1 n1 n2 = grind (arith, nat_tests)
-
-pub flip-flip : (a b : Bool) → (v : ℕ) → cond a (1 - cond b (1 - v) v) (cond b (1 - v) v) ≡ cond b (1 - cond a (1 - v) v) (cond a (1 - v) v)
-flip-flip true true v = refl
-flip-flip true false v = refl
-flip-flip false true v = refl
-flip-flip false false v = refl
-
-pub swap-swap : (a b : Bool) → (v : ℕ) →
-    cond a (exchanged 0 1 (cond b (exchanged 0 1 v) v)) (cond b (exchanged 0 1 v) v) ≡ cond b (exchanged 0 1 (cond a (exchanged 0 1 v) v)) (cond a (exchanged 0 1 v) v)
-swap-swap true true v = refl
-swap-swap true false v = refl
-swap-swap false true v = refl
-swap-swap false false v = refl
 
 -- an identity of a country and a number
 abbrev pub identity : ℕ → ℕ → Id
@@ -105,18 +92,14 @@ named-set g0 t0 p0 v0 k0 x s i j g t c p k fs n =
     rw (country_untouched (SetVar g0 t0 p0 v0 k0 x) s i g t c p k fs, find-each key_test (field_after (SetVar g0 t0 p0 v0 k0 x) i g t c p fs) (NidBg, k) fs)
     (found (find same_key (NidBg, k) fs) (λ e. simp e)
     (λ v e. split_on (same_tag g0 g && (eqb t0 t && (same_tag p0 p && same_key (v0, k0) (NidBg, k))))
-    (λ a. hit v e a) (λ a. simp (e, a))))
-  where
-    hit : (v : ℕ) → find same_key (NidBg, k) fs ≡ Some v → (same_tag g0 g && (eqb t0 t && (same_tag p0 p && same_key (v0, k0) (NidBg, k)))) ≡ true →
-        is_it (country_at c k fs) j (option_map (field_after (SetVar g0 t0 p0 v0 k0 x) i g t c p fs (NidBg, k)) (find same_key (NidBg, k) fs)) ≡ calls c k fs j
-    hit v e a =
-        let q = at_key g g0 t t0 p p0 (NidBg, k) v0 k0 a in
-        let d = and_parts (same_var v0 NidBg) (eqb k0 k) (parts4 (same_tag g0 g) (eqb t0 t) (same_tag p0 p) (same_key (v0, k0) (NidBg, k)) a).3 in
-        let w = n q.0 (flip_yes var_test v0 NidBg d.0) in
-        let z : k0 ≡ k = eqb-true k0 k d.1 in
-        let w0 : same_id (identity (country_at c k fs) x) j ≡ false = rw z at w.0 in
-        let w1 : calls c k fs j ≡ false = rw z at w.1 in
-        simp (e, a) (w0 ∙ sym (rw e at w1))
+    (λ a. let q = at_key g g0 t t0 p p0 (NidBg, k) v0 k0 a in
+    let d = and_parts (same_var v0 NidBg) (eqb k0 k) (parts4 (same_tag g0 g) (eqb t0 t) (same_tag p0 p) (same_key (v0, k0) (NidBg, k)) a).3 in
+    let w = n q.0 (flip_yes var_test v0 NidBg d.0) in
+    let z : k0 ≡ k = eqb-true k0 k d.1 in
+    let w0 : same_id (identity (country_at c k fs) x) j ≡ false = rw z at w.0 in
+    let w1 : calls c k fs j ≡ false = rw z at w.1 in
+    simp (e, a) (w0 ∙ sym (rw e at w1)))
+    (λ a. simp (e, a))))
 
 pub set-ren : (g0 : Tag) → (t0 : ℕ) → (p0 : Tag) → (v0 : Var) → (k0 x : ℕ) → same_var v0 NidC ≡ false → (g1 : Tag) → (y : ℕ) → (i j : Id) → (g : Tag) → (t c : ℕ) →
     (p : Tag) → (fs : Fields) →
@@ -145,8 +128,8 @@ set-turn g0 t0 p0 v0 k0 x s g1 i j g t c p fs n key v =
 pub turn-turn : (a b : Bool) → (o q m n : Bool) → (v : ℕ) →
     cond o (cond a (1 - cond o (cond b (1 - v) v) (cond (q && n) (exchanged 0 1 v) v)) (cond o (cond b (1 - v) v) (cond (q && n) (exchanged 0 1 v) v))) (cond (q && m) (exchanged 0 1 (cond o (cond b (1 - v) v) (cond (q && n) (exchanged 0 1 v) v))) (cond o (cond b (1 - v) v) (cond (q && n) (exchanged 0 1 v) v))) ≡
     cond o (cond b (1 - cond o (cond a (1 - v) v) (cond (q && m) (exchanged 0 1 v) v)) (cond o (cond a (1 - v) v) (cond (q && m) (exchanged 0 1 v) v))) (cond (q && n) (exchanged 0 1 (cond o (cond a (1 - v) v) (cond (q && m) (exchanged 0 1 v) v))) (cond o (cond a (1 - v) v) (cond (q && m) (exchanged 0 1 v) v)))
-turn-turn a b true q m n v = flip-flip a b v
-turn-turn a b false q m n v = swap-swap (q && m) (q && n) v
+turn-turn a b true q m n v = twice (λ u. 1 - u) a b v
+turn-turn a b false q m n v = twice (exchanged 0 1) (q && m) (q && n) v
 
 pub ren-turn : (g0 : Tag) → (x : ℕ) → (g1 : Tag) → (i j : Id) → (g : Tag) → (t c : ℕ) → (p : Tag) → (fs : Fields) →
     FieldApart (Renumber g0 x) i (TurnGroup g1) j g t c p fs → (key : Key) → (v : ℕ) →

@@ -28,7 +28,7 @@ use Rattle.balise_rules.specs.Plan.{read_group}
 use Rattle.balise_strike_laws.proofs.Facts.{Facts}
 use Rattle.balise_strike_laws.proofs.Writers.{flip_side}
 use Rattle.balise_strike_laws.proofs.Kept.{Unnamed}
-use Rattle.balise_strike_laws.proofs.Locals.{telegram-id, real-own}
+use Rattle.balise_strike_laws.proofs.Locals.{telegram-id, real-own, Forward, Back}
 use Rattle.balise_strike_laws.proofs.Groups.{group-forward, group-back}
 use Rattle.balise_strike_laws.proofs.Identities.{no-name-forward, no-name-back, no-group-forward, no-group-back}
 use Rattle.balise_strike_laws.proofs.Wholes.{group-same-names, group-same-after}
@@ -44,7 +44,6 @@ groups-free (serial, DropGroup g) m j c k = flip_side (Some g) c (k (At g ∷ []
 groups-free e m j c k = tt
 
 pub groups-takes : (f : Item) → (m : Note) → (j : Id) → (b : Option Tag) → Clear (f, m) (neighbour b ∷ Front ∷ []) → takes (groups_change f j) b ≡ false
-groups-takes (s, AddGroup a bs) m j b k = refl
 groups-takes (serial, DropGroup g) m j b k = front_apart (Some g) b (k (At g ∷ []) first_of)
 groups-takes e m j c k = refl
 
@@ -65,7 +64,6 @@ groups-noted : (f : Item) → (plan : Plan) → Asks f.1 plan → takes_out (gro
 groups-noted (serial, DropGroup g) plan a o =
     let n : (noted (DropGroup g) plan).before ≡ behind same_tag g plan = ap (λ u. (note_drop (behind same_tag g plan) u).before) a.1 in
     subst (λ u. In (neighbour u ∷ Front ∷ []) (changes ((serial, DropGroup g), noted (DropGroup g) plan))) n (later_of first_of)
-groups-noted (s0, AddGroup a0 bs) plan a o = absurd (false≢true o)
 groups-noted e plan a o = absurd (false≢true o)
 
 idle : (f : Item) → (j : Id) → (g : Tag) → (xs : Group) → (Inner f.1 → group_after f j g xs ≡ xs) → group_after f j g xs ≡ xs
@@ -84,7 +82,7 @@ module _ (f : Item) (plan : Plan) (s : Facts plan) (b : Accepted f.1 plan) where
   m1 = noted f.1 plan
 
   pub drop-forward : (serial : ℕ) → (g : Tag) → Accepted (DropGroup g) plan → Reads ((serial, DropGroup g), noted (DropGroup g) plan) (f, m1) →
-      Accepted (DropGroup g) (done f plan) × (noted (DropGroup g) (done f plan) ≡ noted (DropGroup g) plan)
+      Forward (serial, DropGroup g) f plan
   drop-forward serial g a r =
       let n : noted (DropGroup g) plan ≡ drop_note (behind same_tag g plan) a.1.0 = ap (note_drop (behind same_tag g plan)) a.1.1 in
       let own_is = ap (λ u. u.own) n in
@@ -97,7 +95,7 @@ module _ (f : Item) (plan : Plan) (s : Facts plan) (b : Accepted f.1 plan) where
       ((tt, (a.1.0, h)), ap (note_drop (behind same_tag g (done f plan))) h ∙ ap (λ u. drop_note u a.1.0) (noted-forward (Take g) (groups_change f m1.own) plan lv) ∙ sym n)
 
   pub drop-back : (serial : ℕ) → (g : Tag) → Accepted (DropGroup g) (done f plan) → Reads ((serial, DropGroup g), noted (DropGroup g) (done f plan)) (f, m1) →
-      Accepted (DropGroup g) plan × (noted (DropGroup g) plan ≡ noted (DropGroup g) (done f plan))
+      Back (serial, DropGroup g) f plan
   drop-back serial g a r =
       let n : noted (DropGroup g) (done f plan) ≡ drop_note (behind same_tag g (done f plan)) a.1.0 = ap (note_drop (behind same_tag g (done f plan))) a.1.1 in
       let rr = subst (λ u. Reads ((serial, DropGroup g), u) (f, m1)) n r in
@@ -113,71 +111,44 @@ module _ (f : Item) (plan : Plan) (s : Facts plan) (b : Accepted f.1 plan) where
 
   module _ (un : Unused f.0 plan) where
     pub add-forward : (s0 : ℕ) → (c : Option Tag) → (bs : List (List Bool)) → Accepted (AddGroup c bs) plan →
-        Reads ((s0, AddGroup c bs), noted (AddGroup c bs) plan) (f, m1) → Reads (f, m1) ((s0, AddGroup c bs), noted (AddGroup c bs) plan) →
-        Accepted (AddGroup c bs) (done f plan) × (noted (AddGroup c bs) (done f plan) ≡ noted (AddGroup c bs) plan)
-    add-forward s0 c bs a r1 r2 = (
-      (
-        a.0,
-        (
-          stands-kept (groups_change f m1.own) c plan (add-leaves s0 c bs (noted (AddGroup c bs) plan) f m1 r1) a.1.0,
-          no-group-forward plan s f b un (identity_of (group_of bs)) (added_real bs a.0) (λ pl h. r2 pl h (Whose (identity_of (group_of bs)) ∷ []) (later_of (later_of first_of))) a.1.1,
-        ),
-      ),
-      refl,
-    )
+        Reads ((s0, AddGroup c bs), noted (AddGroup c bs) plan) (f, m1) → Reads (f, m1) ((s0, AddGroup c bs), noted (AddGroup c bs) plan) → Forward (s0, AddGroup c bs) f plan
+    add-forward s0 c bs a r1 r2 =
+        let anchor_stands = stands-kept (groups_change f m1.own) c plan (add-leaves s0 c bs (noted (AddGroup c bs) plan) f m1 r1) a.1.0 in
+        let none = no-group-forward plan s f b un (identity_of (group_of bs)) (added_real bs a.0) (λ pl h. r2 pl h (Whose (identity_of (group_of bs)) ∷ []) (later_of (later_of first_of))) a.1.1 in
+        ((a.0, (anchor_stands, none)), refl)
 
     pub add-back : (s0 : ℕ) → (c : Option Tag) → (bs : List (List Bool)) → Accepted (AddGroup c bs) (done f plan) →
-        Reads ((s0, AddGroup c bs), noted (AddGroup c bs) plan) (f, m1) → Reads (f, m1) ((s0, AddGroup c bs), noted (AddGroup c bs) plan) →
-        Accepted (AddGroup c bs) plan × (noted (AddGroup c bs) plan ≡ noted (AddGroup c bs) (done f plan))
-    add-back s0 c bs a r1 r2 = (
-      (
-        a.0,
-        (
-          stood (groups_change f m1.own) c plan (add-leaves s0 c bs (noted (AddGroup c bs) plan) f m1 r1) a.1.0,
-          no-group-back plan s f b un (identity_of (group_of bs)) (added_real bs a.0) (λ pl h. r2 pl h (Whose (identity_of (group_of bs)) ∷ []) (later_of (later_of first_of))) a.1.1,
-        ),
-      ),
-      refl,
-    )
+        Reads ((s0, AddGroup c bs), noted (AddGroup c bs) plan) (f, m1) → Reads (f, m1) ((s0, AddGroup c bs), noted (AddGroup c bs) plan) → Back (s0, AddGroup c bs) f plan
+    add-back s0 c bs a r1 r2 =
+        let anchor_stood = stood (groups_change f m1.own) c plan (add-leaves s0 c bs (noted (AddGroup c bs) plan) f m1 r1) a.1.0 in
+        let none = no-group-back plan s f b un (identity_of (group_of bs)) (added_real bs a.0) (λ pl h. r2 pl h (Whose (identity_of (group_of bs)) ∷ []) (later_of (later_of first_of))) a.1.1 in
+        ((a.0, (anchor_stood, none)), refl)
 
     pub ren-forward : (serial : ℕ) → (g : Tag) → (x : ℕ) → Accepted (Renumber g x) plan → Reads ((serial, Renumber g x), noted (Renumber g x) plan) (f, m1) →
-        Reads (f, m1) ((serial, Renumber g x), noted (Renumber g x) plan) →
-        Accepted (Renumber g x) (done f plan) × (noted (Renumber g x) (done f plan) ≡ noted (Renumber g x) plan)
+        Reads (f, m1) ((serial, Renumber g x), noted (Renumber g x) plan) → Forward (serial, Renumber g x) f plan
     ren-forward serial g x a r1 r2 =
+        let i = identity (identity_of a.1.0).country x in
+        let real = real_number i a.0.1 in
         let n = ap note_group a.1.1 in
         let o = ap (λ u. u.own) n in
         let k = group-forward g Name f plan s b.0 (r1 (At g ∷ Name ∷ []) first_of) a.1.0 a.1.1 (subst (λ u. Clear (f, m1) (Whose u ∷ [])) o (r1 (Whose (noted (Renumber g x) plan).own ∷ []) (later_of first_of))) in
-        let cl : (pl : Path) → In pl (changes (f, m1) ++ needs (f, m1)) → meet (Whose (identity (identity_of a.1.0).country x) ∷ []) pl ≡ false =
-        λ pl h. subst (λ u. meet (Whose (identity u.country x) ∷ []) pl ≡ false) o (r2 pl h (Whose (identity (noted (Renumber g x) plan).own.country x) ∷ []) (later_of (later_of first_of))) in (
-          (
-            a.0,
-            (
-              group_after f m1.own g a.1.0,
-              k.0,
-              subst (λ u. NoGroup (identity u.country x) (done f plan)) (sym k.1) (no-group-forward plan s f b un (identity (identity_of a.1.0).country x) (real_number (identity (identity_of a.1.0).country x) a.0.1) cl a.1.2),
-              subst (λ u. NoName (identity u.country x) (done f plan)) (sym k.1) (no-name-forward plan s f b un (identity (identity_of a.1.0).country x) (real_number (identity (identity_of a.1.0).country x) a.0.1) cl a.1.3),
-            ),
-          ),
-          ap note_group k.0 ∙ ap (λ u. record nothing { old = u.number; own = u }) k.1 ∙ sym n,
-        )
+        let clear : (pl : Path) → In pl (changes (f, m1) ++ needs (f, m1)) → meet (Whose i ∷ []) pl ≡ false =
+        λ pl h. subst (λ u. meet (Whose (identity u.country x) ∷ []) pl ≡ false) o (r2 pl h (Whose (identity (noted (Renumber g x) plan).own.country x) ∷ []) (later_of (later_of first_of))) in
+        let group = subst (λ u. NoGroup (identity u.country x) (done f plan)) (sym k.1) (no-group-forward plan s f b un i real clear a.1.2) in
+        let name = subst (λ u. NoName (identity u.country x) (done f plan)) (sym k.1) (no-name-forward plan s f b un i real clear a.1.3) in
+        ((a.0, (group_after f m1.own g a.1.0, k.0, group, name)), ap note_group k.0 ∙ ap (λ u. record nothing { old = u.number; own = u }) k.1 ∙ sym n)
 
     pub ren-back : (serial : ℕ) → (g : Tag) → (x : ℕ) → Accepted (Renumber g x) (done f plan) →
         Reads ((serial, Renumber g x), noted (Renumber g x) (done f plan)) (f, m1) → Reads (f, m1) ((serial, Renumber g x), noted (Renumber g x) (done f plan)) →
-        Accepted (Renumber g x) plan × (noted (Renumber g x) plan ≡ noted (Renumber g x) (done f plan))
+        Back (serial, Renumber g x) f plan
     ren-back serial g x a r1 r2 =
+        let i = identity (identity_of a.1.0).country x in
+        let real = real_number i a.0.1 in
         let n = ap note_group a.1.1 in
         let o = ap (λ u. u.own) n in
         let k = group-back g Name f plan s b.0 (r1 (At g ∷ Name ∷ []) first_of) a.1.0 a.1.1 (subst (λ u. Clear (f, m1) (Whose u ∷ [])) o (r1 (Whose (noted (Renumber g x) (done f plan)).own ∷ []) (later_of first_of))) in
-        let cl : (pl : Path) → In pl (changes (f, m1) ++ needs (f, m1)) → meet (Whose (identity (identity_of a.1.0).country x) ∷ []) pl ≡ false =
-        λ pl h. subst (λ u. meet (Whose (identity u.country x) ∷ []) pl ≡ false) o (r2 pl h (Whose (identity (noted (Renumber g x) (done f plan)).own.country x) ∷ []) (later_of (later_of first_of))) in (
-          (
-            a.0,
-            (
-              k.0,
-              k.1,
-              subst (λ u. NoGroup (identity u.country x) plan) k.3 (no-group-back plan s f b un (identity (identity_of a.1.0).country x) (real_number (identity (identity_of a.1.0).country x) a.0.1) cl a.1.2),
-              subst (λ u. NoName (identity u.country x) plan) k.3 (no-name-back plan s f b un (identity (identity_of a.1.0).country x) (real_number (identity (identity_of a.1.0).country x) a.0.1) cl a.1.3),
-            ),
-          ),
-          ap note_group k.1 ∙ ap (λ u. record nothing { old = u.number; own = u }) (sym k.3) ∙ sym n,
-        )
+        let clear : (pl : Path) → In pl (changes (f, m1) ++ needs (f, m1)) → meet (Whose i ∷ []) pl ≡ false =
+        λ pl h. subst (λ u. meet (Whose (identity u.country x) ∷ []) pl ≡ false) o (r2 pl h (Whose (identity (noted (Renumber g x) (done f plan)).own.country x) ∷ []) (later_of (later_of first_of))) in
+        let group = subst (λ u. NoGroup (identity u.country x) plan) k.3 (no-group-back plan s f b un i real clear a.1.2) in
+        let name = subst (λ u. NoName (identity u.country x) plan) k.3 (no-name-back plan s f b un i real clear a.1.3) in
+        ((a.0, (k.0, k.1, group, name)), ap note_group k.1 ∙ ap (λ u. record nothing { old = u.number; own = u }) (sym k.3) ∙ sym n)

@@ -29,7 +29,7 @@ use Rattle.balise_strike_laws.proofs.Headers.{country-kept}
 use Rattle.balise_strike_laws.proofs.Places.{In, first_of, later_of, Clear, Reads}
 use Rattle.balise_strike_laws.proofs.Facts.{Facts}
 use Rattle.balise_strike_laws.proofs.Settings.{lawful-head}
-use Rattle.balise_strike_laws.proofs.Locals.{spared-from, find-group}
+use Rattle.balise_strike_laws.proofs.Locals.{spared-from, find-group, Forward, Back}
 
 abbrev pub renames : Edit → Tag → Bool
 renames (Renumber g1 x) g = same_tag g1 g
@@ -112,16 +112,14 @@ group-back g a f plan s l k zs h c =
 
 -- a turn, read
 pub turn-forward : (serial : ℕ) → (g : Tag) → (f : Item) → (plan : Plan) → Facts plan → Accepted (TurnGroup g) plan → Lawful f.1 →
-    Reads ((serial, TurnGroup g), noted (TurnGroup g) plan) (f, noted f.1 plan) →
-    Accepted (TurnGroup g) (done f plan) × (noted (TurnGroup g) (done f plan) ≡ noted (TurnGroup g) plan)
+    Reads ((serial, TurnGroup g), noted (TurnGroup g) plan) (f, noted f.1 plan) → Forward (serial, TurnGroup g) f plan
 turn-forward serial g f plan s a l r =
     let n = ap note_group a.1.1 in
     let k = group-forward g Turn f plan s l (r (At g ∷ Turn ∷ []) first_of) a.1.0 a.1.1 (subst (λ u. Clear (f, noted f.1 plan) (Whose u.own ∷ [])) n (r (Whose (noted (TurnGroup g) plan).own ∷ []) (later_of first_of))) in
     ((tt, (group_after f (noted f.1 plan).own g a.1.0, k.0)), ap note_group k.0 ∙ ap (λ i. record nothing { old = i.number; own = i }) k.1 ∙ sym n)
 
 pub turn-back : (serial : ℕ) → (g : Tag) → (f : Item) → (plan : Plan) → Facts plan → Accepted (TurnGroup g) (done f plan) → Lawful f.1 →
-    Reads ((serial, TurnGroup g), noted (TurnGroup g) (done f plan)) (f, noted f.1 plan) →
-    Accepted (TurnGroup g) plan × (noted (TurnGroup g) plan ≡ noted (TurnGroup g) (done f plan))
+    Reads ((serial, TurnGroup g), noted (TurnGroup g) (done f plan)) (f, noted f.1 plan) → Back (serial, TurnGroup g) f plan
 turn-back serial g f plan s a l r =
     let n = ap note_group a.1.1 in
     let k = group-back g Turn f plan s l (r (At g ∷ Turn ∷ []) first_of) a.1.0 a.1.1 (subst (λ u. Clear (f, noted f.1 plan) (Whose u.own ∷ [])) n (r (Whose (noted (TurnGroup g) (done f plan)).own ∷ []) (later_of first_of))) in

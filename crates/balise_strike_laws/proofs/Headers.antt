@@ -17,7 +17,7 @@ use Rattle.balise_rules.proofs.Cases.{parts3}
 use Rattle.balise_rules.proofs.Each.{each-id}
 use Rattle.balise_rules.proofs.Keys.{other_key, not_other}
 use Rattle.balise_rules.proofs.Untouched.{KeepsHead, value_untouched}
-use Rattle.balise_strike_laws.proofs.Cases.{both_set}
+use Rattle.balise_strike_laws.proofs.Cases.{both_set, twice}
 
 -- a field of a header that an edit may set
 abbrev pub SteadyHead : Edit → Type 0
@@ -33,29 +33,17 @@ HeadApart (Renumber g0 x) (Renumber g1 y) = same_tag g1 g0 ≡ false
 HeadApart e f = Unit {0}
 
 -- it is none of these, so they stay
-total-untouched : (e : Edit) → SteadyHead e → KeepsHead e NTotal
-total-untouched (SetHead g t v x) s = flip_no var_test NTotal v s.3
-total-untouched (Renumber g x) s = refl
-total-untouched (TurnGroup g) s = (refl, refl)
-total-untouched e s = tt
-
-country-untouched : (e : Edit) → SteadyHead e → KeepsHead e NidC
-country-untouched (SetHead g t v x) s = flip_no var_test NidC v s.0
-country-untouched (Renumber g x) s = refl
-country-untouched (TurnGroup g) s = (refl, refl)
-country-untouched e s = tt
+untouched : (e : Edit) → SteadyHead e → KeepsHead e NTotal × KeepsHead e NidC
+untouched (SetHead g t v x) s = (flip_no var_test NTotal v s.3, flip_no var_test NidC v s.0)
+untouched (Renumber g x) s = (refl, refl)
+untouched (TurnGroup g) s = ((refl, refl), (refl, refl))
+untouched e s = (tt, tt)
 
 pub total-kept : (e : Edit) → SteadyHead e → (g : Tag) → (t : ℕ) → (hs : Fields) → value NTotal 0 (each (head_after e g t hs) hs) ≡ value NTotal 0 hs
-total-kept e s g t hs = value_untouched e NTotal (total-untouched e s) g t hs
+total-kept e s g t hs = value_untouched e NTotal (untouched e s).0 g t hs
 
 pub country-kept : (e : Edit) → SteadyHead e → (g : Tag) → (t : ℕ) → (hs : Fields) → value NidC 0 (each (head_after e g t hs) hs) ≡ value NidC 0 hs
-country-kept e s g t hs = value_untouched e NidC (country-untouched e s) g t hs
-
-pub twice : (F : ℕ → ℕ) → (a b : Bool) → (v : ℕ) → cond a (F (cond b (F v) v)) (cond b (F v) v) ≡ cond b (F (cond a (F v) v)) (cond a (F v) v)
-twice F true true v = refl
-twice F true false v = refl
-twice F false true v = refl
-twice F false false v = refl
+country-kept e s g t hs = value_untouched e NidC (untouched e s).1 g t hs
 
 pub turns_head : (d n : Bool) → (a b : Bool) → (F G : ℕ → ℕ) → (v : ℕ) → (d ≡ true → n ≡ false) →
     cond (d && a) (F (cond (d && b) (F v) (cond (n && b) (G v) v))) (cond (n && a) (G (cond (d && b) (F v) (cond (n && b) (G v) v))) (cond (d && b) (F v) (cond (n && b) (G v) v))) ≡
@@ -84,12 +72,10 @@ head-commute (SetHead g0 t0 v0 x) (SetHead g1 t1 v1 y) s r g t hs n key v =
     (λ a b. let d = parts3 (same_key (v0, 0) key) (same_tag g0 g) (eqb t0 t) a in let w = parts3 (same_key (v1, 0) key) (same_tag g1 g) (eqb t1 t) b in
     let k0 = both_one tag_test g g0 g1 d.1 w.1 in let k1 = both_one nat_test t t0 t1 d.2 w.2 in let k2 = both_one key_test key (v0, 0) (v1, 0) d.0 w.0 in
     both_ways (same_tag g1 g0 && (eqb t1 t0 && same_key (v1, 0) (v0, 0))) n (simp (k0, k1, k2)))
-head-commute (SetHead g0 t0 v0 x) (Renumber g1 y) s r g t hs n key v = set-ren-head
-  where
-    set-ren-head : head_after (SetHead g0 t0 v0 x) g t (each (head_after (Renumber g1 y) g t hs) hs) key (head_after (Renumber g1 y) g t hs key v) ≡ head_after (Renumber g1 y) g t (each (head_after (SetHead g0 t0 v0 x) g t hs) hs) key (head_after (SetHead g0 t0 v0 x) g t hs key v)
-    set-ren-head = both_set (same_key (v0, 0) key && (same_tag g0 g && eqb t0 t)) (is_of NidBg key && same_tag g1 g) x y v
-        (λ a b. let d = parts3 (same_key (v0, 0) key) (same_tag g0 g) (eqb t0 t) a in let w = and_parts (is_of NidBg key) (same_tag g1 g) b in
-        both_ways (same_key (v0, 0) key) (other_key NidBg v0 0 key s.1 w.0) d.0)
+head-commute (SetHead g0 t0 v0 x) (Renumber g1 y) s r g t hs n key v =
+    both_set (same_key (v0, 0) key && (same_tag g0 g && eqb t0 t)) (is_of NidBg key && same_tag g1 g) x y v
+    (λ a b. let d = parts3 (same_key (v0, 0) key) (same_tag g0 g) (eqb t0 t) a in let w = and_parts (is_of NidBg key) (same_tag g1 g) b in
+    both_ways (same_key (v0, 0) key) (other_key NidBg v0 0 key s.1 w.0) d.0)
 head-commute (Renumber g1 y) (SetHead g0 t0 v0 x) r s g t hs n key v =
     both_set (is_of NidBg key && same_tag g1 g) (same_key (v0, 0) key && (same_tag g0 g && eqb t0 t)) y x v
     (λ b a. let d = parts3 (same_key (v0, 0) key) (same_tag g0 g) (eqb t0 t) a in let w = and_parts (is_of NidBg key) (same_tag g1 g) b in

@@ -4,20 +4,19 @@
 use Rattle.std.proofs.Common.{◌≡◌, ◌<◌, ◌+◌, ℕ, zero, suc, true, false, cond, ◌&&◌, eqb, ltb, nat_lt, nat_le, List, [], ◌∷◌, ◌++◌, length, map, take, drop, reverse, Option, Some, None, Result, Ok, refl, sym, ap, subst, ◌∙◌, arith, length-append, append_assoc}
 use Rattle.std.specs.Prelude.{is_none, option_and_then}
 use Rattle.std.proofs.lemmas.Bool.{le-ltb, lt-ltb, le-leb, and_from, eq-eqb}
-use Rattle.std.proofs.lemmas.List.{take_at, drop_at, length-replicate, reverse-append}
-use Rattle.balise_rules.specs.declared.tag.Tag.{Tag}
+use Rattle.std.proofs.lemmas.List.{take_at, drop_at, length-replicate, reverse-append, append-nil}
 use Rattle.balise_rules.specs.Bits.{num, zeros}
 use Rattle.balise_rules.specs.Digits.{fill, all_zero}
 use Rattle.balise_rules.specs.Forms.{read_form}
 use Rattle.balise_rules.specs.Packets.{packet}
 use Rattle.balise_rules.specs.Packet.{Packet, bits_of, width, IsSpelt, length_said}
-use Rattle.balise_rules.specs.Telegram.{Telegram, version_of}
+use Rattle.balise_rules.specs.Telegram.{version_of}
 use Rattle.balise_rules.specs.Plan.{Plan, IsSound, telegram_at}
 use Rattle.balise_rules.specs.Edits.{Edit, Item}
-use Rattle.balise_rules.specs.declared.tagged_edit.TaggedEdit.TheVariants.{SetVar, SetHead, InsertPacket, DeletePacket, MovePacket, AddGroup, DropGroup, Renumber, TurnGroup}
+use Rattle.balise_rules.specs.declared.tagged_edit.TaggedEdit.TheVariants.{InsertPacket}
 use Rattle.balise_rules.specs.Notes.{noted}
 use Rattle.balise_rules.specs.Doing.{refusal, done}
-use Rattle.balise_rules.specs.Accepting.{Accepted, AcceptedAt, Spelt}
+use Rattle.balise_rules.specs.Accepting.{Accepted, Spelt}
 use Rattle.balise_rules.specs.Addresses.{packet_in}
 use Rattle.balise_rules.specs.Session.{State, Removed, made, entries, put_back}
 use Rattle.balise_rules.specs.Journal.{Noted, Nothing, Value, Number, BeforePacket, BeforeGroup, noted_of, same_noted, whole_bytes, line_edit, line_of, all_back, lines, undone}
@@ -32,8 +31,9 @@ use Rattle.balise_strike_laws.specs.Redoing.{WasStruck, Redoable}
 use Rattle.balise_strike_laws.specs.InSession.{Between}
 use Rattle.balise_strike_laws.specs.Journals.{JournalKept}
 use Rattle.balise_strike_laws.proofs.Strikes.{standing-after, made-append}
-use Rattle.balise_strike_laws.proofs.SessionStrikes.{no-more}
 use Rattle.balise_strike_laws.proofs.TakenOut.{strike_after}
+use Rattle.balise_rules.proofs.Cases.{unok}
+use Rattle.balise_rules.proofs.Accepted.{accepted_here}
 
 -- ---- the lines
 
@@ -72,28 +72,12 @@ same_itself (Number n) = nat_test.itself n
 same_itself (BeforePacket b) = spot_itself tag_test b
 same_itself (BeforeGroup b) = spot_itself tag_test b
 
--- a telegram that is asked something stands
-asked_stands : {A : Type 0} → (e : Edit) → (o : Option Telegram) → AcceptedAt e o → ((y : Telegram) → o ≡ Some y → A) → A
-asked_stands e None a k = absurd a
-asked_stands e (Some y) a k = k y refl
-
-inserted : (g : Tag) → (t : ℕ) → (a : Option Tag) → (x : Packet) → (plan : Plan) → Accepted (InsertPacket g t a x) plan → Spelt (InsertPacket g t a x) plan →
-    edit_in (InsertPacket g t a (whole_bytes x)) plan ≡ Some (InsertPacket g t a x)
-inserted g t a x plan acc sp = asked_stands (InsertPacket g t a x) (telegram_at g t plan) acc.1
-    (λ y h. ap (λ o. inserting g t a (option_and_then (packet_for (whole_bytes x)) o)) h
-    ∙ ap (λ r. inserting g t a (or_nothing r)) (packet-again (version_of y) x (sp y h)))
-
 -- the line of an edit that stands is of the edit
 line-edit : (e : Edit) → (plan : Plan) → Accepted e plan → Spelt e plan → edit_in (line_edit e) plan ≡ Some e
-line-edit (InsertPacket g t a x) plan acc sp = inserted g t a x plan acc sp
-line-edit (SetVar g t p v k n) plan acc sp = refl
-line-edit (SetHead g t v n) plan acc sp = refl
-line-edit (DeletePacket g t p) plan acc sp = refl
-line-edit (MovePacket g t p a) plan acc sp = refl
-line-edit (AddGroup a bs) plan acc sp = refl
-line-edit (DropGroup g) plan acc sp = refl
-line-edit (Renumber g n) plan acc sp = refl
-line-edit (TurnGroup g) plan acc sp = refl
+line-edit (InsertPacket g t a x) plan acc sp =
+    let y = accepted_here (InsertPacket g t a x) (telegram_at g t plan) acc.1 in
+    ap (λ o. inserting g t a (option_and_then (packet_for (whole_bytes x)) o)) y.1 ∙ ap (λ r. inserting g t a (or_nothing r)) (packet-again (version_of y.0) x (sp y.0 y.1))
+line-edit e plan acc sp = refl
 
 item-again : (last next : ℕ) → (e : Item) → (plan : Plan) → IsSound plan → Accepted e.1 plan → Spelt e.1 plan → last < e.0 → e.0 < next →
     item_of last next (line_of (e, noted e.1 plan)) plan ≡ Some e
@@ -117,7 +101,7 @@ last-next (f ∷ g ∷ gs) e = last-next (g ∷ gs) e
 
 entries-again : (n : ℕ) → (s : State) → (before es : List Item) → (plan : Plan) → made s.base before ≡ plan → Standing plan es → Between (last_serial before) s.serial es →
     with_entries n (map line_of (entries plan es)) (with s before []) ≡ Ok (with s (before ++ es) [])
-entries-again n s before [] plan q st b = ap (λ x. Ok (with s x [])) (sym (no-more before))
+entries-again n s before [] plan q st b = ap (λ x. Ok (with s x [])) (sym (append-nil before))
 entries-again n s before (e ∷ es) plan q st b =
     let l = line_of (e, noted e.1 plan) in
     let more = with_entries (suc n) (map line_of (entries (done e plan) es)) in
@@ -132,11 +116,8 @@ entries-again n s before (e ∷ es) plan q st b =
 struck-again : (s : State) → (all left : List Item) → (r : Removed) → (rs : List Removed) → WasStruck s.base all r left → with_undone (with s all rs) r.item.0 ≡ Some (with s left (r ∷ rs))
 struck-again s all left r rs w = ap (uncounted 0) (strike_after (with s all rs) r left w)
 
-ok_one : (x y : State) → ◌≡◌ {A = Result State (Option ℕ)} (Ok x) (Ok y) → x ≡ y
-ok_one x y e = cc
-
 one-more : (n : ℕ) → (us : List ℕ) → (u : ℕ) → (s t v : State) → with_all_undone n us s ≡ Ok t → with_undone t u ≡ Some v → with_all_undone n (us ++ u ∷ []) s ≡ Ok v
-one-more n [] u s t v h k = ap (λ x. or_place (Some n) (with_undone x u) (with_all_undone (suc n) [])) (ok_one s t h) ∙ ap (λ o. or_place (Some n) o (with_all_undone (suc n) [])) k
+one-more n [] u s t v h k = ap (λ x. or_place (Some n) (with_undone x u) (with_all_undone (suc n) [])) (unok h) ∙ ap (λ o. or_place (Some n) o (with_all_undone (suc n) [])) k
 one-more n (w ∷ us) u s t v h k = at (λ x. one-more (suc n) us u x t v) (with_undone s w) h
   where
     at : ((x : State) → with_all_undone (suc n) us x ≡ Ok t → with_undone t u ≡ Some v → with_all_undone (suc n) (us ++ u ∷ []) x ≡ Ok v) →

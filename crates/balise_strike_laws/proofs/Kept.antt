@@ -2,6 +2,7 @@
 -- Proves that a field, a packet or a header's field whose place is clear stays as it is; forward by the names before the edit, back by those after it.
 -- From the places that each kind changes; only a renumbering gives an element another name.
 use Rattle.std.proofs.Common.{◌≡◌, ℕ, Bool, true, false, ◌&&◌, eqb, [], ◌∷◌, Some, refl, ap, subst, ◌∙◌}
+use Rattle.std.proofs.Math.Bool.{and-true}
 use Rattle.std.proofs.lemmas.Bool.{both_ways, and_parts, and_from, eq-eqb}
 use Rattle.balise_rules.specs.declared.tag.Tag.{Tag}
 use Rattle.balise_rules.specs.declared.identity.Id.{Id}
@@ -154,12 +155,8 @@ packet-same (serial, TurnGroup g1) m g t c p z h d n =
 packet-same e m g t c p z h d n = packet-id z
 
 head_false : (a b c : Bool) → (a && (b && (c && true))) ≡ false → ((c && true) && (a && b)) ≡ false
-head_false true true true h = h
-head_false true true false h = refl
-head_false true false true h = refl
-head_false true false false h = refl
-head_false false b true h = refl
-head_false false b false h = refl
+head_false a b true h = simp and-true at h
+head_false a b false h = refl
 
 pub head-same : (f : Item) → (m : Note) → (g : Tag) → (t : ℕ) → (hs : Fields) → (v : Var) → (x u : ℕ) → SteadyHead (SetHead g t v x) →
     Clear (f, m) (At g ∷ Nth t ∷ Head ∷ Of v ∷ []) → (same_var MDup v ≡ true → Clear (f, m) (At g ∷ Turn ∷ [])) →

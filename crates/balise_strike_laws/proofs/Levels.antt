@@ -1,10 +1,10 @@
 -- From packets to telegrams, groups and the plan: two edits within the groups make the same in both orders.
 -- Proves it level by level, from what has to be apart at each.
 -- From the fields of packets and headers, and the changes of a list of packets.
-use Rattle.std.proofs.Common.{◌≡◌, ℕ, Bool, true, false, cond, eqb, List, Some, refl, sym, ap, ◌∙◌}
+use Rattle.std.proofs.Common.{◌≡◌, ℕ, Bool, true, false, cond, eqb, List, Some, refl, sym, ap, ◌∙◌, ◌&&◌}
 use Rattle.balise_rules.specs.declared.tag.Tag.{Tag}
 use Rattle.balise_rules.specs.declared.identity.Id.{Id}
-use Rattle.balise_rules.specs.Tagged.{find, each, Distinct, Change, Each, Put, Take, Move, changed}
+use Rattle.balise_rules.specs.Tagged.{find, each, Distinct, Change, Each, Put, changed}
 use Rattle.balise_rules.specs.Tags.{same_tag, same_key}
 use Rattle.balise_rules.specs.Forms.{Fields}
 use Rattle.balise_rules.specs.Packet.{Packet}
@@ -57,7 +57,6 @@ each-order h e g xs = refl
 
 pub order-order : (e f : Edit) → (g : Tag) → (xs : Group) → in_order e g (in_order f g xs) ≡ in_order f g (in_order e g xs)
 order-order (TurnGroup g0) (TurnGroup g1) g xs = split_on (same_tag g0 g) (λ e. split_on (same_tag g1 g) (λ d. simp (e, d)) (λ d. simp (e, d))) (λ e. simp e)
-order-order (TurnGroup g0) f g xs = refl
 order-order e f g xs = refl
 
 pub group-commute : (e : Item) → (i : Id) → (f : Item) → (j : Id) → SteadyHead e.1 → SteadyHead f.1 → (g : Tag) → (xs : Group) → Distinct eqb xs →
@@ -97,17 +96,20 @@ inner-commute e i f j he hf s r plan u n =
 abbrev pub keep : {A : Type 0} → Change Tag A
 keep = Each (λ t x. x)
 
+-- what holds of keep, and of x where it is made, holds of it there
+pub here : {A : Type 0} → (P : Change Tag A → Type 0) → (b d : Bool) → (x : Change Tag A) → P keep → (b ≡ true → d ≡ true → P x) → P (cond (b && d) x keep)
+here P true true x k h = h refl refl
+here P b d x k h = k
+
 pub keep-left : {A : Type 0} → (y : Change Tag A) → (xs : List (Tag × A)) → ChangesApart keep y xs
 keep-left (Each f) xs = λ t x h. refl
 keep-left (Put a z) xs = refl
-keep-left (Take p) xs = tt
-keep-left (Move p a) xs = tt
+keep-left y xs = tt
 
 pub keep-right : {A : Type 0} → (y : Change Tag A) → (xs : List (Tag × A)) → ChangesApart y keep xs
 keep-right (Each f) xs = λ t x h. refl
 keep-right (Put a z) xs = refl
-keep-right (Take p) xs = tt
-keep-right (Move p a) xs = tt
+keep-right y xs = tt
 
 pub apart-here : {A : Type 0} → (b c : Bool) → (x y : Change Tag A) → (xs : List (Tag × A)) → (b ≡ true → c ≡ true → ChangesApart x y xs) →
     ChangesApart (cond b x keep) (cond c y keep) xs

@@ -30,7 +30,6 @@ pub mod Strikes
 pub mod Rising
 pub mod SessionStrikes
 pub mod TakenOut
-pub mod Standing
 pub mod Replies
 pub mod SessionsKept
 pub mod Journals

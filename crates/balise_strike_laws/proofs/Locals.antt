@@ -1,13 +1,13 @@
 -- An edit of one telegram on the plan, before and after any edit.
 -- Proves that a group that an edit spares is found again, changed as it says; and that an edit of one telegram is accepted and notes the same, forward and back.
 -- From its reading in the telegram.
-use Rattle.std.proofs.Common.{◌≡◌, ℕ, true, false, ◌&&◌, eqb, [], ◌∷◌, Option, Some, refl, sym, ap, subst, ◌∙◌, ◌↔◌}
+use Rattle.std.proofs.Common.{◌≡◌, ℕ, true, false, ◌&&◌, eqb, [], ◌∷◌, Option, Some, refl, sym, ap, subst, ◌∙◌, ◌↔◌, List}
 use Rattle.std.proofs.lemmas.Bool.{and_parts, false≢true}
 use Rattle.std.specs.Option.{option_map, option_and_then}
 use Rattle.balise_rules.specs.declared.tag.Tag.{Tag}
 use Rattle.balise_rules.specs.declared.tag.Tag.TheVariants.{Fresh}
 use Rattle.balise_rules.specs.declared.identity.Id.{Id}
-use Rattle.balise_rules.specs.Tagged.{find, behind, each, Distinct}
+use Rattle.balise_rules.specs.Tagged.{find, each, Distinct}
 use Rattle.balise_rules.specs.Tags.{same_tag}
 use Rattle.balise_rules.specs.Telegram.{Telegram}
 use Rattle.balise_rules.specs.Plan.{Group, Plan, country_of, telegram_at}
@@ -68,26 +68,23 @@ pub telegram-done : (f : Item) → (j : Id) → (g : Tag) → (t : ℕ) → (pla
 telegram-done f j g t plan s n = ap (λ o. option_and_then (find eqb t) o) (find-group f j g plan n)
     ∙ found (find same_tag g plan) (λ e. simp e) (λ xs e. simp e (find-telegram f j g t xs (s.telegrams g xs e)))
 
--- an edit of one telegram asks what it asks of its telegram
-asks_its : (e : Edit) → Local e → (plan : Plan) → Asks e plan ↔ AcceptedAt e (telegram_at (home e).0 (home e).1 plan)
-asks_its (AddGroup b bs) h plan = absurd h
-asks_its (DropGroup g) h plan = absurd h
-asks_its (Renumber g x) h plan = absurd h
-asks_its (TurnGroup g) h plan = absurd h
-asks_its e h plan = (λ a. a, λ a. a)
+-- an edit of one telegram asks what it asks of its telegram, and notes what it notes there
+local-reads : (e : Edit) → Local e → (plan : Plan) →
+    (Asks e plan ↔ AcceptedAt e (telegram_at (home e).0 (home e).1 plan)) × ((y : Telegram) → telegram_at (home e).0 (home e).1 plan ≡ Some y → noted e plan ≡ note_in e y)
+local-reads (AddGroup b bs) h plan = absurd h
+local-reads (DropGroup g) h plan = absurd h
+local-reads (Renumber g x) h plan = absurd h
+local-reads (TurnGroup g) h plan = absurd h
+local-reads e h plan = ((λ a. a, λ a. a), λ y q. ap (note_at e) q)
 
 pub asks-at : (e : Edit) → Local e → (plan : Plan) → Asks e plan → (y : Telegram) × (telegram_at (home e).0 (home e).1 plan ≡ Some y) × AcceptedIn e y
-asks-at e h plan a = accepted_here e (telegram_at (home e).0 (home e).1 plan) ((asks_its e h plan).0 a)
+asks-at e h plan a = accepted_here e (telegram_at (home e).0 (home e).1 plan) ((local-reads e h plan).0.0 a)
 
 pub at-asks : (e : Edit) → Local e → (plan : Plan) → (y : Telegram) → telegram_at (home e).0 (home e).1 plan ≡ Some y → AcceptedIn e y → Asks e plan
-at-asks e h plan y q a = (asks_its e h plan).1 (accepted_at e (telegram_at (home e).0 (home e).1 plan) y q a)
+at-asks e h plan y q a = (local-reads e h plan).0.1 (accepted_at e (telegram_at (home e).0 (home e).1 plan) y q a)
 
 pub noted-at : (e : Edit) → Local e → (plan : Plan) → (y : Telegram) → telegram_at (home e).0 (home e).1 plan ≡ Some y → noted e plan ≡ note_in e y
-noted-at (AddGroup b bs) h plan y q = absurd h
-noted-at (DropGroup g) h plan y q = absurd h
-noted-at (Renumber g x) h plan y q = absurd h
-noted-at (TurnGroup g) h plan y q = absurd h
-noted-at e h plan y q = ap (note_at e) q
+noted-at e h plan = (local-reads e h plan).1
 
 -- an accepted edit's change of a telegram's packets is accepted there
 pub accepts-there : (f : Item) → (j : Id) → (g : Tag) → (t : ℕ) → (c : ℕ) → (plan : Plan) → Asks f.1 plan → (y : Telegram) → telegram_at g t plan ≡ Some y →
@@ -100,6 +97,14 @@ accepts-there (serial1, MovePacket g1 t1 p b) j g t c plan a y q =
     split_on (same_tag g1 g && eqb t1 t) (λ e. simp e (subst (AcceptedAt (MovePacket g1 t1 p b)) (place_is g1 g t1 t plan e ∙ q) a)) (λ e. simp e tt)
 accepts-there f j g t c plan a y q = tt
 
+-- a place noted in the edit's own telegram is one of this telegram, where they are one
+noted-here : (g1 g : Tag) → (t1 t : ℕ) → (a b : Option Tag) → (ps : List Path) → (same_tag g1 g && eqb t1 t) ≡ true → a ≡ b → In (At g1 ∷ Nth t1 ∷ neighbour a ∷ Front ∷ []) ps →
+    In (At g ∷ Nth t ∷ neighbour b ∷ Front ∷ []) ps
+noted-here g1 g t1 t a b ps e n i =
+    let d = and_parts (same_tag g1 g) (eqb t1 t) e in
+    subst (λ u. In (At g ∷ Nth t ∷ neighbour u ∷ Front ∷ []) ps) n (subst (λ u. In (At g ∷ Nth u ∷ neighbour a ∷ Front ∷ []) ps) (nat_test.one t1 t d.1)
+    (subst (λ u. In (At u ∷ Nth t1 ∷ neighbour a ∷ Front ∷ []) ps) (tag_test.one g1 g d.0) i))
+
 -- what an edit takes out here stood before what it noted
 pub noted-there : (f : Item) → (j : Id) → (g : Tag) → (t : ℕ) → (c : ℕ) → (plan : Plan) → (y : Telegram) → telegram_at g t plan ≡ Some y →
     takes_out (packets_change f j g t c) ≡ true →
@@ -108,21 +113,11 @@ noted-there (s0, InsertPacket g1 t1 b x) j g t c plan y q o =
     split_on (same_tag g1 g && eqb t1 t) (λ e. let k = simp e at o in absurd (false≢true k)) (λ e. let k = simp e at o in absurd (false≢true k))
 noted-there (serial1, DeletePacket g1 t1 p) j g t c plan y q o =
     split_on (same_tag g1 g && eqb t1 t)
-    (λ e. let d = and_parts (same_tag g1 g) (eqb t1 t) e in
-    let n : (noted (DeletePacket g1 t1 p) plan).before ≡ behind same_tag p y.packets = ap (λ u. (note_at (DeletePacket g1 t1 p) u).before) (place_is g1 g t1 t plan e ∙ q) in
-    let eg = (sym (tag_test.one g1 g d.0)) in let et = (sym (nat_test.one t1 t d.1)) in
-    simp e (subst (λ u. In (At u ∷ Nth t ∷ neighbour (behind same_tag p y.packets) ∷ Front ∷ []) (changes ((serial1, DeletePacket g1 t1 p), noted (DeletePacket g1 t1 p) plan))) (sym eg)
-    (subst (λ u. In (At g1 ∷ Nth u ∷ neighbour (behind same_tag p y.packets) ∷ Front ∷ []) (changes ((serial1, DeletePacket g1 t1 p), noted (DeletePacket g1 t1 p) plan))) (sym et)
-    (subst (λ u. In (At g1 ∷ Nth t1 ∷ neighbour u ∷ Front ∷ []) (changes ((serial1, DeletePacket g1 t1 p), noted (DeletePacket g1 t1 p) plan))) n (later_of first_of)))))
+    (λ e. let n = ap (λ u. (note_at (DeletePacket g1 t1 p) u).before) (place_is g1 g t1 t plan e ∙ q) in simp e (noted-here g1 g t1 t _ _ _ e n (later_of first_of)))
     (λ e. let k = simp e at o in absurd (false≢true k))
 noted-there (serial1, MovePacket g1 t1 p b) j g t c plan y q o =
     split_on (same_tag g1 g && eqb t1 t)
-    (λ e. let d = and_parts (same_tag g1 g) (eqb t1 t) e in
-    let n : (noted (MovePacket g1 t1 p b) plan).before ≡ behind same_tag p y.packets = ap (λ u. (note_at (MovePacket g1 t1 p b) u).before) (place_is g1 g t1 t plan e ∙ q) in
-    let eg = (sym (tag_test.one g1 g d.0)) in let et = (sym (nat_test.one t1 t d.1)) in
-    simp e (subst (λ u. In (At u ∷ Nth t ∷ neighbour (behind same_tag p y.packets) ∷ Front ∷ []) (changes ((serial1, MovePacket g1 t1 p b), noted (MovePacket g1 t1 p b) plan))) (sym eg)
-    (subst (λ u. In (At g1 ∷ Nth u ∷ neighbour (behind same_tag p y.packets) ∷ Front ∷ []) (changes ((serial1, MovePacket g1 t1 p b), noted (MovePacket g1 t1 p b) plan))) (sym et)
-    (subst (λ u. In (At g1 ∷ Nth t1 ∷ neighbour u ∷ Front ∷ []) (changes ((serial1, MovePacket g1 t1 p b), noted (MovePacket g1 t1 p b) plan))) n (later_of (later_of first_of))))))
+    (λ e. let n = ap (λ u. (note_at (MovePacket g1 t1 p b) u).before) (place_is g1 g t1 t plan e ∙ q) in simp e (noted-here g1 g t1 t _ _ _ e n (later_of (later_of first_of))))
     (λ e. let k = simp e at o in absurd (false≢true k))
 noted-there f j g t c plan y q o = absurd (false≢true o)
 
@@ -130,20 +125,14 @@ pub own-takes : (e : Item) → Local e.1 → (n : Note) → (b : Option Tag) →
     takes (own_change e) b ≡ false
 own-takes (serial, DeletePacket g t p) h n b k = let gs = tag_test.itself g in let ts = nat_test.itself t in front_apart (Some p) b (simp (gs, ts) at (k (At g ∷ Nth t ∷ At p ∷ []) first_of))
 own-takes (serial, MovePacket g t p a) h n b k = let gs = tag_test.itself g in let ts = nat_test.itself t in front_apart (Some p) b (simp (gs, ts) at (k (At g ∷ Nth t ∷ At p ∷ Front ∷ []) first_of))
-own-takes (serial, SetVar g t p v i x) h n b k = refl
-own-takes (serial, SetHead g t v x) h n b k = refl
-own-takes (s0, InsertPacket g t a x) h n b k = refl
-own-takes e h n b k = absurd h
+own-takes e h n b k = refl
 
 -- what a reader noted
 pub own-noted : (e : Item) → Local e.1 → (y : Telegram) → takes_out (own_change e) ≡ true →
     In (At (home e.1).0 ∷ Nth (home e.1).1 ∷ neighbour (noted_before e y) ∷ Front ∷ []) (changes (e, note_in e.1 y))
 own-noted (serial, DeletePacket g t p) h y o = later_of first_of
 own-noted (serial, MovePacket g t p a) h y o = later_of (later_of first_of)
-own-noted (serial, SetVar g t p v i x) h y o = absurd (false≢true o)
-own-noted (serial, SetHead g t v x) h y o = absurd (false≢true o)
-own-noted (s0, InsertPacket g t a x) h y o = absurd (false≢true o)
-own-noted e h y o = absurd h
+own-noted e h y o = absurd (false≢true o)
 
 pub home-spared : (e : Item) → Local e.1 → (n : Note) → (f : Item) → (m : Note) → Reads (e, n) (f, m) → GroupSpared f (home e.1).0
 home-spared (serial, SetVar g t p v k x) h n f m r = spared-from f m g (Nth t) (At p ∷ Of v ∷ Nth k ∷ []) (r (At g ∷ Nth t ∷ At p ∷ Of v ∷ Nth k ∷ []) first_of)
@@ -158,11 +147,18 @@ real-own (serial, Renumber g x) plan s = found (find same_tag g plan) (λ e. sim
 real-own (serial, TurnGroup g) plan s = found (find same_tag g plan) (λ e. simp e) (λ xs e. simp e (s.numbers g xs e))
 real-own f plan s = tt
 
+-- an accepted edit's reading, after another edit and before it
+abbrev pub Forward : Item → Item → Plan → Type 0
+Forward e f plan = Accepted e.1 (done f plan) × (noted e.1 (done f plan) ≡ noted e.1 plan)
+
+abbrev pub Back : Item → Item → Plan → Type 0
+Back e f plan = Accepted e.1 plan × (noted e.1 plan ≡ noted e.1 (done f plan))
+
 -- what a local edit reads, kept forward
 pub local-forward : (e : Item) → Local e.1 → (f : Item) → (plan : Plan) → Facts plan → Accepted e.1 plan → Accepted f.1 plan →
     Reads (e, noted e.1 plan) (f, noted f.1 plan) → Reads (f, noted f.1 plan) (e, noted e.1 plan) →
     ((y : Telegram) → telegram_at (home e.1).0 (home e.1).1 plan ≡ Some y → AcceptedIn e.1 y → Room e (telegram_after f (noted f.1 plan).own (home e.1).0 (home e.1).1 y)) →
-    Accepted e.1 (done f plan) × (noted e.1 (done f plan) ≡ noted e.1 plan)
+    Forward e f plan
 local-forward e h f plan s a b r1 r2 room =
     let w = asks-at e.1 h plan a.1 in
     let n = noted-at e.1 h plan w.0 w.1 in
@@ -182,7 +178,7 @@ local-forward e h f plan s a b r1 r2 room =
 pub local-back : (e : Item) → Local e.1 → (f : Item) → (plan : Plan) → Facts plan → Accepted e.1 (done f plan) → Accepted f.1 plan →
     Reads (e, noted e.1 (done f plan)) (f, noted f.1 plan) →
     ((y : Telegram) → telegram_at (home e.1).0 (home e.1).1 plan ≡ Some y → AcceptedIn e.1 (telegram_after f (noted f.1 plan).own (home e.1).0 (home e.1).1 y) → Room e y) →
-    Accepted e.1 plan × (noted e.1 plan ≡ noted e.1 (done f plan))
+    Back e f plan
 local-back e h f plan s a b r1 room =
     let w = asks-at e.1 h (done f plan) a.1 in
     let m = noted f.1 plan in

@@ -1,7 +1,7 @@
 -- Names: an element that is found is among the names of its packet, and identities are apart as their places are.
 -- Proves that a renumbering leaves fields that don't name the identity.
 -- From the definition of the names of a packet.
-use Rattle.std.proofs.Common.{◌≡◌, ℕ, true, false, ◌&&◌, List, [], ◌∷◌, filter, Some, refl, sym, ap}
+use Rattle.std.proofs.Common.{◌≡◌, ℕ, true, false, ◌&&◌, List, [], ◌∷◌, filter, Some, refl, sym, ap, Bool}
 use Rattle.balise_rules.specs.declared.tag.Tag.{Tag}
 use Rattle.balise_rules.specs.declared.identity.Id.{Id}
 use Rattle.balise_rules.specs.declared.variable.Var.TheVariants.{NidBg}
@@ -26,11 +26,14 @@ named-among c k v fs (y ∷ ys) h =
     let f : Some y.1 ≡ Some v = simp e at h in let w : y.1 ≡ v = unsome f in simp (b, o, w) first_of)
     (λ e. let g : find same_key (NidBg, k) ys ≡ Some v = simp e at h in split_on (is_of NidBg y.0) (λ d. simp d (later_of (named-among c k v fs ys g))) (λ d. simp d (named-among c k v fs ys g)))
 
+pub in-filter : {A : Type 0} → (test : A → Bool) → (x : A) → (xs : List A) → test x ≡ true → In x xs → In x (filter test xs)
+in-filter test x [] n h = elim h [ ]
+in-filter test x (y ∷ ys) n (first_of) = simp n first_of
+in-filter test x (y ∷ ys) n (later_of h) = split_on (test y) (λ e. simp e (later_of (in-filter test x ys n h))) (λ e. simp e (in-filter test x ys n h))
+
 -- an identity that is noted
 pub in-real : (i : Id) → (is : List Id) → is_real i ≡ true → In i is → In i (filter is_real is)
-in-real i [] n h = elim h [ ]
-in-real i (j ∷ is) n (first_of) = simp n first_of
-in-real i (j ∷ is) n (later_of h) = split_on (is_real j) (λ e. simp e (later_of (in-real i is n h))) (λ e. simp e (in-real i is n h))
+in-real i is = in-filter is_real i is
 
 -- identities are apart as their places are
 pub whose_apart : (i j : Id) → (same_id i j && true) ≡ false → same_id j i ≡ false

@@ -1,8 +1,8 @@
 -- Names in a telegram, before and after any edit.
 -- Proves that an element that names an identity names it on the other side too, or the edit changes or needs that identity.
 -- From the kinds: a setting and a renumbering give another name, an insertion and a deletion put names in and take them out, and each notes them.
-use Rattle.std.proofs.Common.{◌≡◌, ℕ, ◌⊎◌, inl, inr, ⊎_elim, true, false, ◌&&◌, eqb, List, [], ◌∷◌, ◌++◌, filter, Some, None, refl, sym, ap, subst, ◌∙◌}
-use Rattle.std.proofs.lemmas.Bool.{both_ways, and_parts, and_from, eqb-true}
+use Rattle.std.proofs.Common.{◌≡◌, ℕ, ◌⊎◌, inl, inr, ⊎_elim, true, false, ◌&&◌, eqb, List, [], ◌∷◌, ◌++◌, filter, Some, None, refl, sym, ap, subst, ◌∙◌, Bool}
+use Rattle.std.proofs.lemmas.Bool.{both_ways}
 use Rattle.std.specs.Option.{option_map, unwrap_or}
 use Rattle.balise_rules.specs.declared.tag.Tag.{Tag}
 use Rattle.balise_rules.specs.declared.tag.Tag.TheVariants.{Fresh}
@@ -10,25 +10,25 @@ use Rattle.balise_rules.specs.declared.identity.Id.{Id}
 use Rattle.balise_rules.specs.declared.variable.Var.{Var}
 use Rattle.balise_rules.specs.declared.variable.Var.TheVariants.{NidBg}
 use Rattle.balise_rules.specs.Tagged.{find, put, without}
-use Rattle.balise_rules.specs.Tags.{same_tag, same_id, same_var, same_key}
+use Rattle.balise_rules.specs.Tags.{same_tag, same_id, same_var, same_key, Key}
 use Rattle.balise_rules.specs.Forms.{Fields}
 use Rattle.balise_rules.specs.Packet.{Packet, value}
 use Rattle.balise_rules.specs.Telegram.{Telegram}
 use Rattle.balise_rules.specs.Plan.{Group, Plan, country_of, telegram_at}
 use Rattle.balise_rules.specs.Names.{country_at, is_real, links_among, names_of, names_in_packets, names_in}
 use Rattle.balise_rules.specs.Edits.{Item, telegram_after, packet_after, field_after, packets_change}
-use Rattle.balise_rules.specs.declared.tagged_edit.TaggedEdit.TheVariants.{SetVar, InsertPacket, DeletePacket, MovePacket, Renumber, TurnGroup}
-use Rattle.balise_rules.specs.Notes.{Note, set_note, names_taken, note_at, noted}
+use Rattle.balise_rules.specs.declared.tagged_edit.TaggedEdit.TheVariants.{SetVar, InsertPacket, DeletePacket, MovePacket, Renumber}
+use Rattle.balise_rules.specs.Notes.{Note, names_taken, note_at, noted}
 use Rattle.balise_rules.specs.Accepting.{NoName, AcceptedIn, AcceptedAt, Accepted, Unused}
 use Rattle.balise_rules.specs.Paths.{Whose, Entry, changes, needs}
-use Rattle.balise_rules.proofs.Tests.{split_on, split_keys, flip_yes, tag_test, var_test, id_test}
+use Rattle.balise_rules.proofs.Tests.{split_on, split_keys, tag_test, var_test, id_test, IsTest, nat_test}
 use Rattle.balise_rules.proofs.Lists.{find-without_same}
-use Rattle.balise_rules.proofs.Cases.{unsome, some_is, parts4}
+use Rattle.balise_rules.proofs.Cases.{unsome, some_is}
 use Rattle.balise_rules.proofs.Anchors.{find-put_same}
 use Rattle.balise_rules.proofs.Names.{unnamed}
 use Rattle.balise_rules.proofs.Found.{place_is}
 use Rattle.balise_edit_laws.proofs.FieldChanges.{country_stays}
-use Rattle.balise_strike_laws.proofs.Fields.{identity, find-fields}
+use Rattle.balise_strike_laws.proofs.Fields.{identity, find-fields, at_key}
 use Rattle.balise_strike_laws.proofs.Headers.{country-kept}
 use Rattle.balise_strike_laws.proofs.Places.{In, first_of, later_of, in-left, in-right, in-ids}
 use Rattle.balise_strike_laws.proofs.Facts.{Facts}
@@ -36,6 +36,7 @@ use Rattle.balise_strike_laws.proofs.Named.{in-real, named-among}
 use Rattle.balise_strike_laws.proofs.Writers.{Spares, find-change, by-packets}
 use Rattle.balise_strike_laws.proofs.Settings.{lawful-head}
 use Rattle.balise_strike_laws.proofs.Locals.{accepts-there}
+use Rattle.balise_strike_laws.proofs.Results.{set-noted}
 
 abbrev pub InPacket : ℕ → Fields → Id → Type 0
 InPacket c fs q = (k : ℕ) × (v : ℕ) × (find same_key (NidBg, k) fs ≡ Some v) × (◌≡◌ {A = Id} (identity (country_at c k fs) v) q)
@@ -63,20 +64,25 @@ touched-names f m is e k q i n = in-right (Whose q ∷ []) (changes (f, m)) (nee
 in-names : (c : ℕ) → (fs : Fields) → (q : Id) → InPacket c fs q → In q (links_among c fs fs)
 in-names c fs q (k, v, d, e) = subst (λ u. In u (links_among c fs fs)) e (named-among c k v fs fs d)
 
-in-packets : (c : ℕ) → (ps : List (Tag × Packet)) → (p : Tag) → (z : Packet) → find same_tag p ps ≡ Some z → (q : Id) → In q (names_of c z) → In q (names_in_packets c ps)
-in-packets c [] p z h q i = absurd (cc)
-in-packets c (w ∷ ps) p z h q i = split_on (same_tag p w.0)
-    (λ e. let k : Some w.1 ≡ Some z = simp e at h in in-left q (names_of c w.1) (names_in_packets c ps) (subst (λ u. In q (names_of c u)) (sym (unsome k)) i))
-    (λ e. let k : find same_tag p ps ≡ Some z = simp e at h in in-right q (names_of c w.1) (names_in_packets c ps) (in-packets c ps p z k q i))
+-- what is found under a key stands in the list with it
+found-in : {K A : Type 0} {same : K → K → Bool} → IsTest same → (k : K) → (x : A) → (xs : List (K × A)) → find same k xs ≡ Some x → In (k, x) xs
+found-in t k x [] h = absurd (cc)
+found-in {same = same} t k x (y ∷ ys) h = split_keys t k y.0
+    (λ e q. let w : Some y.1 ≡ Some x = simp e at h in subst (λ v. In (k, v) (y ∷ ys)) (unsome w) (subst (λ u. In (u, y.1) (y ∷ ys)) (sym q) first_of))
+    (λ e. let w : find same k ys ≡ Some x = simp e at h in later_of (found-in t k x ys w))
 
-in-group : (xs : Group) → (t : ℕ) → (y : Telegram) → find eqb t xs ≡ Some y → (q : Id) → In q (names_in_packets (country_of y) y.packets) → In q (names_in xs)
-in-group [] t y h q i = absurd (cc)
-in-group (w ∷ xs) t y h q i = split_on (eqb t w.0)
-    (λ e. let k : Some w.1 ≡ Some y = simp e at h in in-left q (names_in_packets (country_of w.1) w.1.packets) (names_in xs) (subst (λ u. In q (names_in_packets (country_of u) u.packets)) (sym (unsome k)) i))
-    (λ e. let k : find eqb t xs ≡ Some y = simp e at h in in-right q (names_in_packets (country_of w.1) w.1.packets) (names_in xs) (in-group xs t y k q i))
+pub in-packets-at : (c : ℕ) → (ps : List (Tag × Packet)) → (p : Tag) → (z : Packet) → In (p, z) ps → (q : Id) → In q (names_of c z) → In q (names_in_packets c ps)
+in-packets-at c [] p z i q j = elim i [ ]
+in-packets-at c ((p1, z1) ∷ ps) p z (first_of) q j = in-left q (names_of c z1) (names_in_packets c ps) j
+in-packets-at c (w ∷ ps) p z (later_of i) q j = in-right q (names_of c w.1) (names_in_packets c ps) (in-packets-at c ps p z i q j)
+
+pub in-group-at : (xs : Group) → (t : ℕ) → (y : Telegram) → In (t, y) xs → (q : Id) → In q (names_in_packets (country_of y) y.packets) → In q (names_in xs)
+in-group-at [] t y i q j = elim i [ ]
+in-group-at ((t1, y1) ∷ xs) t y (first_of) q j = in-left q (names_in_packets (country_of y1) y1.packets) (names_in xs) j
+in-group-at (w ∷ xs) t y (later_of i) q j = in-right q (names_in_packets (country_of w.1) w.1.packets) (names_in xs) (in-group-at xs t y i q j)
 
 pub group-names : (xs : Group) → (t : ℕ) → (y : Telegram) → find eqb t xs ≡ Some y → (q : Id) → InTelegram y q → is_real q ≡ true → In q (names_in xs)
-group-names xs t y h q (p, z, b, w) n = in-group xs t y h q (in-packets (country_of y) y.packets p z b q (in-real q (links_among (country_of y) z.fields z.fields) n (in-names (country_of y) z.fields q w)))
+group-names xs t y h q (p, z, b, w) n = in-group-at xs t y (found-in nat_test t y xs h) q (in-packets-at (country_of y) y.packets p z (found-in tag_test p z y.packets b) q (in-real q (links_among (country_of y) z.fields z.fields) n (in-names (country_of y) z.fields q w)))
 
 needs-name : (serial : ℕ) → (g : Tag) → (t : ℕ) → (p : Tag) → (v : Var) → (k x : ℕ) → (n : Note) → NidBg ≡ v → (q : Id) → In q n.names →
     In (Whose q ∷ []) (needs ((serial, SetVar g t p v k x), n))
@@ -103,37 +109,26 @@ module _ (plan : Plan) (s : Facts plan) (f : Item) (a : Accepted f.1 plan) (un :
           (field_after f.1 (noted f.1 plan).own g t c0 p z.fields (NidBg, k) v ≡ v) ⊎ (Touched (f, noted f.1 plan) (identity (country_at c0 k z.fields) v) × Touched (f, noted f.1 plan) (identity (country_at c0 k z.fields) (field_after f.1 (noted f.1 plan).own g t c0 p z.fields (NidBg, k) v)))
       cases (serial0, SetVar g0 t0 p0 v0 k0 x) a =
           split_on (same_tag g0 g && (eqb t0 t && (same_tag p0 p && same_key (v0, k0) (NidBg, k))))
-          (λ e. let w = parts4 (same_tag g0 g) (eqb t0 t) (same_tag p0 p) (same_key (v0, k0) (NidBg, k)) e in
-          let b = and_parts (same_var v0 NidBg) (eqb k0 k) w.3 in
-          let qk : k ≡ k0 = sym (eqb-true k0 k b.1) in
-          let qv : NidBg ≡ v0 = sym (var_test.one v0 NidBg b.0) in
-          let n : noted (SetVar g0 t0 p0 v0 k0 x) plan ≡ set_note v0 k0 x c0 (Some z) =
-          ap (note_at (SetVar g0 t0 p0 v0 k0 x)) (place_is g0 g t0 t plan (and_from (same_tag g0 g) (eqb t0 t) w.0 w.1) ∙ at)
-          ∙ ap (set_note v0 k0 x c0) (ap (λ u. find same_tag u y.packets) (tag_test.one p0 p w.2) ∙ h) in
-          let bg = flip_yes var_test v0 NidBg b.0 in
-          let ns : (noted (SetVar g0 t0 p0 v0 k0 x) plan).names ≡ filter is_real ((identity (country_at c0 k0 z.fields) (value v0 k0 z.fields)) ∷ (identity (country_at c0 k0 z.fields) x) ∷ []) = ap (λ o. o.names) n ∙ simp bg in
-          let rd : (q : Id) → In q (noted (SetVar g0 t0 p0 v0 k0 x) plan).names → In (Whose q ∷ []) (needs ((serial0, SetVar g0 t0 p0 v0 k0 x), noted (SetVar g0 t0 p0 v0 k0 x) plan)) =
-          λ q i. needs-name serial0 g0 t0 p0 v0 k0 x (noted (SetVar g0 t0 p0 v0 k0 x) plan) qv q i in
-          let tt1 = touched-names (serial0, SetVar g0 t0 p0 v0 k0 x) (noted (SetVar g0 t0 p0 v0 k0 x) plan) ((identity (country_at c0 k0 z.fields) (value v0 k0 z.fields)) ∷ (identity (country_at c0 k0 z.fields) x) ∷ []) ns rd in
-          let old : value v0 k0 z.fields ≡ v = ap (λ u. value u k0 z.fields) (sym qv) ∙ ap (λ u. value NidBg u z.fields) (sym qk) ∙ ap (λ o. unwrap_or o 0) d in
-          let ta = tt1 (identity (country_at c0 k0 z.fields) (value v0 k0 z.fields)) first_of in
-          let tb = tt1 (identity (country_at c0 k0 z.fields) x) (later_of first_of) in
-          let ta1 = subst (λ u. Touched ((serial0, SetVar g0 t0 p0 v0 k0 x), noted (SetVar g0 t0 p0 v0 k0 x) plan) (identity (country_at c0 k0 z.fields) u)) old ta in
-          let ta2 = subst (λ u. Touched ((serial0, SetVar g0 t0 p0 v0 k0 x), noted (SetVar g0 t0 p0 v0 k0 x) plan) (identity (country_at c0 u z.fields) v)) (sym qk) ta1 in
-          let tb2 = subst (λ u. Touched ((serial0, SetVar g0 t0 p0 v0 k0 x), noted (SetVar g0 t0 p0 v0 k0 x) plan) (identity (country_at c0 u z.fields) x)) (sym qk) tb in
-          inr (ta2, simp e tb2))
+          (λ e. let f0 : Item = (serial0, SetVar g0 t0 p0 v0 k0 x) in
+          let q = at_key g g0 t t0 p p0 (NidBg, k) v0 k0 e in
+          let bg : same_var NidBg v0 ≡ true = ap (λ (u : Key). same_var NidBg u.0) q.1 in
+          let n = set-noted g0 t0 p0 v0 k0 x plan g t p y z at h q.0 in
+          let both = touched-names f0 (noted f0.1 plan) (identity (country_at c0 k0 z.fields) (value v0 k0 z.fields) ∷ identity (country_at c0 k0 z.fields) x ∷ []) (ap (λ o. o.names) n ∙ simp bg)
+          (λ i l. needs-name serial0 g0 t0 p0 v0 k0 x (noted f0.1 plan) (var_test.one NidBg v0 bg) i l) in
+          inr (
+            subst (λ u. Touched (f0, noted f0.1 plan) (identity (country_at c0 k z.fields) u)) (ap (λ o. unwrap_or o 0) d)
+                (subst (λ (u : Key). Touched (f0, noted f0.1 plan) (identity (country_at c0 u.1 z.fields) (value u.0 u.1 z.fields))) q.1 (both _ first_of)),
+            simp e (subst (λ (u : Key). Touched (f0, noted f0.1 plan) (identity (country_at c0 u.1 z.fields) x)) q.1 (both _ (later_of first_of))),
+          ))
           (λ e. inl (simp e))
       cases (serial1, Renumber g1 x) a =
           split_on (same_id (identity (country_at c0 k z.fields) v) (noted (Renumber g1 x) plan).own)
-          (λ e. let b = and_parts (eqb (country_at c0 k z.fields) (noted (Renumber g1 x) plan).own.country) (eqb v (noted (Renumber g1 x) plan).own.number) e in
-          let qc = eqb-true (country_at c0 k z.fields) (noted (Renumber g1 x) plan).own.country b.0 in
-          let qv = eqb-true v (noted (Renumber g1 x) plan).own.number b.1 in
+          (λ e. let q = id_test.one (identity (country_at c0 k z.fields) v) (noted (Renumber g1 x) plan).own e in
           inr (
-            subst (λ u. Touched ((serial1, Renumber g1 x), noted (Renumber g1 x) plan) (identity u v)) (sym qc) (subst (λ u. Touched ((serial1, Renumber g1 x), noted (Renumber g1 x) plan) (identity (noted (Renumber g1 x) plan).own.country u)) (sym qv) (λ n. later_of first_of)),
-            simp e (subst (λ u. Touched ((serial1, Renumber g1 x), noted (Renumber g1 x) plan) (identity u x)) (sym qc) (λ n. later_of (later_of first_of))),
+            subst (Touched ((serial1, Renumber g1 x), noted (Renumber g1 x) plan)) (sym q) (λ n. later_of first_of),
+            simp e (subst (λ u. Touched ((serial1, Renumber g1 x), noted (Renumber g1 x) plan) (identity u.country x)) (sym q) (λ n. later_of (later_of first_of))),
           ))
           (λ e. inl (simp e))
-      cases (serial1, TurnGroup g1) a = inl refl
       cases f a = inl refl
 
     country-in : (p : Tag) → (z : Packet) → (k : ℕ) → country_at (country_of y1) k (packet_after f.1 m0.own g t c0 p z).fields ≡ country_at c0 k z.fields

@@ -23,10 +23,9 @@ Accepts (Move q a) xs = Stands (Some q) xs × Stands a xs × (same_spot same_tag
 
 -- what a change notes: the old next neighbour of what it takes from its place
 abbrev pub noted_change : {A : Type 0} → Change Tag A → List (Tag × A) → Option Tag
-noted_change (Each f) xs = None
-noted_change (Put a z) xs = None
 noted_change (Take q) xs = behind same_tag q xs
 noted_change (Move q a) xs = behind same_tag q xs
+noted_change x xs = None
 
 -- a change leaves alone what comes after c
 abbrev pub Free : {A : Type 0} → Change Tag A → Option Tag → Type 0
@@ -37,10 +36,9 @@ Free (Move q a) c = (same_spot same_tag c (Some q) ≡ false) × (same_spot same
 
 -- a change takes this item from its place
 abbrev pub takes : {A : Type 0} → Change Tag A → Option Tag → Bool
-takes (Each f) b = false
-takes (Put a z) b = false
 takes (Take q) b = same_spot same_tag (Some q) b
 takes (Move q a) b = same_spot same_tag (Some q) b
+takes x b = false
 
 -- y leaves alone what x reads, when x noted n
 abbrev pub Leaves : {A : Type 0} → Change Tag A → Change Tag A → Option Tag → Type 0
@@ -50,10 +48,9 @@ Leaves y (Take p) n = Free y (Some p) × (takes y n ≡ false)
 Leaves y (Move p a) n = Free y (Some p) × (takes y n ≡ false) × Free y a
 
 abbrev pub takes_out : {A : Type 0} → Change Tag A → Bool
-takes_out (Each f) = false
-takes_out (Put a z) = false
 takes_out (Take p) = true
 takes_out (Move p a) = true
+takes_out x = false
 
 pub without-move : {A : Type 0} → (c : Option Tag) → (q : Tag) → (a : Option Tag) → (xs : List (Tag × A)) → same_spot same_tag c a ≡ false →
     same_spot same_tag c (Some q) ≡ false → next same_tag c (move same_tag q a xs) ≡ next same_tag c (without same_tag q xs)
@@ -68,10 +65,9 @@ next-kept (Move q a) c xs h t = without-move c q a xs h.1 h.0 ∙ next-without t
 
 pub next-moved : {A : Type 0} → (y : Change Tag A) → (c : Option Tag) → (xs : List (Tag × A)) → Distinct same_tag xs → Free y c → takes y (next same_tag c xs) ≡ true →
     next same_tag c (changed same_tag y xs) ≡ noted_change y xs
-next-moved (Each f) c xs u h t = absurd (false≢true t)
-next-moved (Put a z) c xs u h t = absurd (false≢true t)
 next-moved (Take q) c xs u h t = next-gone tag_test c q h xs u (sym (spot_one tag_test (Some q) (next same_tag c xs) t))
 next-moved (Move q a) c xs u h t = without-move c q a xs h.1 h.0 ∙ next-gone tag_test c q h.0 xs u (sym (spot_one tag_test (Some q) (next same_tag c xs) t))
+next-moved y c xs u h t = absurd (false≢true t)
 
 -- an anchor that a change leaves alone stands before it as after it
 pub stands-kept : {A : Type 0} → (y : Change Tag A) → (c : Option Tag) → (xs : List (Tag × A)) → Free y c → Stands c xs → Stands c (changed same_tag y xs)
@@ -89,26 +85,23 @@ stood (Take q) (Some t) xs h s = (s.0, sym (find-without tag_test t q h xs) ∙ 
 stood (Move q a) (Some t) xs h s = (s.0, sym (find-move tag_test t q a h.0 xs) ∙ s.1)
 
 pub free-takes : {A : Type 0} → (x : Change Tag A) → (c : Option Tag) → Free x c → takes x c ≡ false
-free-takes (Each f) c h = refl
-free-takes (Put a z) c h = refl
 free-takes (Take q) c h = flip_spot tag_test c (Some q) h
 free-takes (Move q a) c h = flip_spot tag_test c (Some q) h.0
+free-takes x c h = refl
 
 pub takes-out : {A : Type 0} → (x : Change Tag A) → (b : Option Tag) → takes x b ≡ true → takes_out x ≡ true
-takes-out (Each f) b h = h
-takes-out (Put a z) b h = h
 takes-out (Take q) b h = refl
 takes-out (Move q a) b h = refl
+takes-out x b h = h
 
 abbrev pub Differ : {A : Type 0} → Change Tag A → Change Tag A → Option Tag → Option Tag → Type 0
 Differ x y n m = takes_out x ≡ true → takes_out y ≡ true → same_spot same_tag n m ≡ false
 
 pub noted-forward : {A : Type 0} → (x y : Change Tag A) → (xs : List (Tag × A)) → Leaves y x (noted_change x xs) →
     noted_change x (changed same_tag y xs) ≡ noted_change x xs
-noted-forward (Each f) y xs l = refl
-noted-forward (Put a z) y xs l = refl
 noted-forward (Take p) y xs l = next-kept y (Some p) xs l.0 l.1
 noted-forward (Move p a) y xs l = next-kept y (Some p) xs l.0 l.1
+noted-forward x y xs l = refl
 
 pub behind-back : {A : Type 0} → (x : Change Tag A) → (q : Tag) → (xs : List (Tag × A)) → Distinct same_tag xs → Free x (Some q) →
     (takes_out x ≡ true → same_spot same_tag (noted_change x xs) (behind same_tag q (changed same_tag x xs)) ≡ false) →
@@ -121,35 +114,40 @@ behind-back x q xs u h d =
 
 pub noted-back : {A : Type 0} → (x y : Change Tag A) → (xs : List (Tag × A)) → Distinct same_tag xs → Leaves x y (noted_change y (changed same_tag x xs)) →
     Differ x y (noted_change x xs) (noted_change y (changed same_tag x xs)) → noted_change y xs ≡ noted_change y (changed same_tag x xs)
-noted-back x (Each f) xs u l d = refl
-noted-back x (Put a z) xs u l d = refl
 noted-back x (Take q) xs u l d = behind-back x q xs u l.0 (λ t. d t refl)
 noted-back x (Move q a) xs u l d = behind-back x q xs u l.0 (λ t. d t refl)
+noted-back x y xs u l d = refl
 
 pub accepts-back : {A : Type 0} → (x y : Change Tag A) → (xs : List (Tag × A)) → Leaves x y (noted_change y (changed same_tag x xs)) → Accepts y (changed same_tag x xs) →
     Accepts y xs
 accepts-back x (Each f) xs l s = tt
 accepts-back x (Put a z) xs l s = stood x a xs l s
 accepts-back x (Take q) xs l s = stood x (Some q) xs l.0 s
-accepts-back x (Move q c) xs l s = (stood x (Some q) xs l.0 s.0, stood x c xs l.2 s.1, s.2, not_there) where
-  not_there : same_spot same_tag (next same_tag c xs) (Some q) ≡ false
-  not_there = split_on (same_spot same_tag (next same_tag c xs) (Some q))
+accepts-back x (Move q c) xs l s = (
+  stood x (Some q) xs l.0 s.0,
+  stood x c xs l.2 s.1,
+  s.2,
+  split_on (same_spot same_tag (next same_tag c xs) (Some q))
       (λ e. let w = spot_one tag_test (next same_tag c xs) (Some q) e in
       let k : takes x (next same_tag c xs) ≡ false = ap (takes x) w ∙ free-takes x (Some q) l.0 in
       let g = next-kept x c xs l.2 k in
       absurd (both_ways (same_spot same_tag (next same_tag c (changed same_tag x xs)) (Some q)) s.3 (ap (λ b. same_spot same_tag b (Some q)) g ∙ e)))
-      (λ e. e)
+      (λ e. e),
+)
 
 pub accepts-forward : {A : Type 0} → (x y : Change Tag A) → (xs : List (Tag × A)) → Distinct same_tag xs → Leaves y x (noted_change x xs) →
     (takes_out y ≡ true → takes x (noted_change y xs) ≡ false) → Accepts x xs → Accepts x (changed same_tag y xs)
 accepts-forward (Each f) y xs u l k s = tt
 accepts-forward (Put a z) y xs u l k s = stands-kept y a xs l s
 accepts-forward (Take p) y xs u l k s = stands-kept y (Some p) xs l.0 s
-accepts-forward (Move p a) y xs u l k s = (stands-kept y (Some p) xs l.0 s.0, stands-kept y a xs l.2 s.1, s.2, not_there) where
-  not_there : same_spot same_tag (next same_tag a (changed same_tag y xs)) (Some p) ≡ false
-  not_there = split_on (takes y (next same_tag a xs))
+accepts-forward (Move p a) y xs u l k s = (
+  stands-kept y (Some p) xs l.0 s.0,
+  stands-kept y a xs l.2 s.1,
+  s.2,
+  split_on (takes y (next same_tag a xs))
       (λ e. ap (λ b. same_spot same_tag b (Some p)) (next-moved y a xs u l.2 e) ∙ flip_spot tag_test (Some p) (noted_change y xs) (k (takes-out y (next same_tag a xs) e)))
-      (λ e. ap (λ b. same_spot same_tag b (Some p)) (next-kept y a xs l.2 e) ∙ s.3)
+      (λ e. ap (λ b. same_spot same_tag b (Some p)) (next-kept y a xs l.2 e) ∙ s.3),
+)
 
 -- a list change, not one of contents
 abbrev pub OfList : {A : Type 0} → Change Tag A → Type 0

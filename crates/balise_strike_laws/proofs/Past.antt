@@ -15,15 +15,11 @@ use Rattle.balise_edit_laws.proofs.UnusedKept.{unused_kept}
 use Rattle.balise_strike_laws.specs.Laws.{InTurn}
 use Rattle.balise_strike_laws.specs.Striking.{AllBecome, notes_of}
 use Rattle.balise_strike_laws.proofs.Exchanging.{exchange}
+use Rattle.balise_edit_laws.proofs.Histories.{still_unused}
 
 -- another edit's serial
 abbrev pub Other : ℕ → Item → Type 0
 Other s f = f.0 ≢ s
-
--- the serials of later edits still tag nothing
-pub unused-after : (e : Item) → (plan : Plan) → IsReady e plan → (es : List Item) → All (Other e.0) es → AllUnused plan es → AllUnused (done e plan) es
-unused-after e plan r [] n u = tt
-unused-after e plan r (f ∷ fs) n u = (unused_kept e plan r f.0 (All-head (Other e.0) f fs n) u.0, u.1, unused-after e plan r fs (All-tail (Other e.0) f fs n) u.2)
 
 -- the same serials, one for one
 abbrev pub SameSerials : List Item → List Item → Type 0
@@ -45,14 +41,12 @@ pub past : (e : Item) → (plan : Plan) → (es others : List Item) → IsReady 
     AllAccepted (done e plan) es →
     AllBecome (e, noted e.1 plan) (entries (done e plan) es) others → Past e plan es others
 past e plan [] [] r o u h a d = record { serials = tt; accepted = tt; spelt = tt; notes = refl; ready = r; same_note = refl; same = refl }
-past e plan [] (g ∷ gs) r o u h a d = absurd d
-past e plan (f ∷ fs) [] r o u h a d = absurd d
 past e plan (f ∷ fs) (g ∷ gs) r o u h a d =
     let turn : InTurn e f plan = record { sound = r.sound; first_unused = r.unused; second_unused = u.0; first_accepted = r.accepted; second_accepted = a.0 } in
     let c = exchange e f plan turn r.spelt h.0 g d.0 in
     let n : e.0 ≢ g.0 = λ q. All-head (Other e.0) f fs o (sym (q ∙ c.serial)) in
     let r1 : IsReady e (done g plan) = record { sound = sound_kept g plan c.first; unused = unused_kept g plan c.first e.0 n r.unused; spelt = c.second_spelt; accepted = c.second } in
-    let u1 = unused-after g plan c.first fs (subst (λ s. All (Other s) fs) (sym c.serial) u.1) u.2 in
+    let u1 = still_unused g plan c.first fs (subst (λ s. All (Other s) fs) (sym c.serial) u.1) u.2 in
     let h1 : AllSpelt (done e (done g plan)) fs = subst (λ p. AllSpelt p fs) c.same_plan h.1 in
     let a1 : AllAccepted (done e (done g plan)) fs = subst (λ p. AllAccepted p fs) c.same_plan a.1 in
     let d1 : AllBecome (e, noted e.1 (done g plan)) (entries (done e (done g plan)) fs) gs =
@@ -67,3 +61,4 @@ past e plan (f ∷ fs) (g ∷ gs) r o u h a d =
       same_note = q.same_note ∙ c.second_notes;
       same = q.same ∙ ap (λ p. made p fs) (sym c.same_plan);
     }
+past e plan es others r o u h a d = absurd d

@@ -1,9 +1,9 @@
 -- What a session promises.
 -- Proves that undo, strike and redo are taken back by one another, and that a strike is refused exactly where a later entry isn't independent.
 -- From what every state of a session keeps.
-use Rattle.std.proofs.Common.{◌≡◌, ◌↔◌, ◌≤◌, ◌<◌, ℕ, suc, All, Bool, true, false, cond, eqb, nat_le, List, [], ◌∷◌, ◌++◌, Option, Some, None, refl, sym, ap, subst, ◌∙◌}
+use Rattle.std.proofs.Common.{◌≡◌, ◌↔◌, ◌≤◌, ◌<◌, ℕ, suc, All, true, false, cond, eqb, List, [], ◌∷◌, ◌++◌, Option, Some, None, refl, sym, ap, subst, ◌∙◌}
 use Rattle.std.specs.Prelude.{find}
-use Rattle.std.proofs.lemmas.Bool.{le-leb, lt-leb, eqb-true}
+use Rattle.std.proofs.lemmas.Bool.{le-leb, lt-leb}
 use Rattle.std.proofs.lemmas.List.Elements.{All-nil, All-cons, All-head, All-tail}
 use Rattle.balise_rules.specs.declared.refusal.Refusal.TheVariants.{NothingToUndo, NothingToRedo, NoSuchEdit, DependsOn, Worn}
 use Rattle.balise_rules.specs.Edits.{Item}
@@ -11,15 +11,15 @@ use Rattle.balise_rules.specs.Paths.{Entry}
 use Rattle.balise_rules.specs.Behind.{independent, serials_behind}
 use Rattle.balise_rules.specs.Session.{State, Removed, lone, Call, Undo, Redo, Strike, Reply, Undone, Redone, Struck, Refused, opened, most_commands, entries, last, later, others, first_dependent, put_back, taken_out, struck_out, answer, answer_in_time, answer_undo, answer_redo, answer_strike, answer_dependent, answer_among}
 use Rattle.balise_rules.proofs.Tests.{split_on}
-use Rattle.balise_rules.proofs.Cases.{unsome}
 use Rattle.balise_strike_laws.specs.InSession.{left_of}
 use Rattle.balise_strike_laws.specs.Redoing.{Redoable, Answer, counted}
 use Rattle.balise_strike_laws.specs.Sessions.{IsSession, Leads}
 use Rattle.balise_strike_laws.specs.Headline.{TakesBack, UndosRedone, StrikesRedone, RedosStruck, FirstDependent, AllExactly, ReadBack, Promised, SessionsPromised, Headline}
 use Rattle.balise_strike_laws.proofs.Journals.{journal_kept}
-use Rattle.balise_strike_laws.proofs.Replies.{refused_leaves}
+use Rattle.balise_strike_laws.proofs.Replies.{refused_leaves, if_in_time}
 use Rattle.balise_strike_laws.proofs.SessionsKept.{rises, plans_made, sessions_begin, sessions_kept, all_standing}
 use Rattle.balise_strike_laws.proofs.TakenOut.{IsOut, removed, out_struck, out_undone, redo_after, strike_after}
+use Rattle.balise_strike_laws.proofs.SessionStrikes.{serial_is}
 
 -- ---- what is answered in time
 
@@ -29,16 +29,9 @@ in_time c t h = ap (λ b. cond b (Refused Worn, t) (answer_in_time c t)) (lt-leb
 worn : (c : Call) → (t : State) → most_commands ≤ t.count → ◌≡◌ {A = Answer} (answer c t) (Refused Worn, t)
 worn c t h = ap (λ b. cond b (Refused Worn, t) (answer_in_time c t)) (le-leb most_commands t.count h)
 
-reply_of : (a b : Answer) → a ≡ b → a.0 ≡ b.0
-reply_of a b e = ap (λ (x : Answer). x.0) e
-
 -- a reply that isn't that the session is worn is given in time
 given : (c : Call) → (s t : State) → (r : Reply) → ((Refused Worn ≡ r) → ⊥) → ◌≡◌ {A = Answer} (answer c s) (r, t) → ◌≡◌ {A = Answer} (answer_in_time c s) (r, t)
-given c s t r other h = by (nat_le most_commands s.count) h
-  where
-    by : (b : Bool) → ◌≡◌ {A = Answer} (cond b (Refused Worn, s) (answer_in_time c s)) (r, t) → ◌≡◌ {A = Answer} (answer_in_time c s) (r, t)
-    by true k = absurd (other (ap (λ (x : Answer). x.0) k))
-    by false k = k
+given c s t r other h = if_in_time (λ (a : Answer). ◌≡◌ {A = Answer} a (r, t) → ◌≡◌ {A = Answer} (answer_in_time c s) (r, t)) c s (λ k. absurd (other (ap (λ (x : Answer). x.0) k))) (λ k. k) h
 
 -- ---- undo, strike and redo
 
@@ -120,13 +113,6 @@ none_back : (e : Entry) → (fs : List Entry) → All (λ f. independent e f ≡
 none_back e [] a = refl
 none_back e (f ∷ fs) a = let i = All-head (λ g. independent e g ≡ true) f fs a in simp i (none_back e fs (All-tail (λ g. independent e g ≡ true) f fs a))
 
--- what is found under a serial has it
-serial_is : (m : ℕ) → (es : List Entry) → (e : Entry) → find (λ (f : Entry). eqb m f.0.0) es ≡ Some e → m ≡ e.0.0
-serial_is m [] e h = absurd cc
-serial_is m (f ∷ fs) e h = split_on (eqb m f.0.0)
-    (λ d. let k : Some f ≡ Some e = simp d at h in eqb-true m f.0.0 d ∙ ap (λ (x : Entry). x.0.0) (unsome k))
-    (λ d. let k : find (λ (x : Entry). eqb m x.0.0) fs ≡ Some e = simp d at h in serial_is m fs e k)
-
 exactly : (s : State) → (m : ℕ) → (e : Entry) → (fs : List Entry) → (a : Answer) → a ≡ answer_among s e fs → m ≡ e.0.0 →
     ((n : ℕ) → (a ≡ (Refused (DependsOn n), s)) ↔ FirstDependent e fs n) × (((t : State) × (a ≡ (Struck m, t))) ↔ All (λ f. independent e f ≡ true) fs)
 exactly s m e fs a q k = (
@@ -169,12 +155,11 @@ sessions_promised s i = record {
 
 leads_kept : (cs : List Call) → (s : State) → (rs : List Reply) → (t : State) → IsSession s → Leads cs s rs t → IsSession t × (t.base ≡ s.base)
 leads_kept [] s [] t i l = subst (λ (x : State). IsSession x × (x.base ≡ s.base)) (sym l) (i, refl)
-leads_kept [] s (r ∷ rs) t i l = absurd l
-leads_kept (c ∷ cs) s [] t i l = absurd l
 leads_kept (c ∷ cs) s (r ∷ rs) t i l =
     let k = sessions_kept c r s l.0 i l.1 in
     let w = leads_kept cs l.0 rs t k.0 l.2 in
     (w.0, w.1 ∙ k.1)
+leads_kept cs s rs t i l = absurd l
 
 pub headline : Headline
 headline plan sound untagged cs rs s l =

@@ -50,8 +50,6 @@ home (TurnGroup g) = (g, 0)
 -- what e reads of the packets is left alone
 pub leaves : (e : Item) → Local e.1 → (n : Note) → (f : Item) → (m : Note) → (c : ℕ) → Reads (e, n) (f, m) →
     Leaves (packets_change f m.own (home e.1).0 (home e.1).1 c) (own_change e) n.before
-leaves (serial, SetVar g t p v k x) h n f m c r = tt
-leaves (serial, SetHead g t v x) h n f m c r = tt
 leaves (s, InsertPacket g t a x) h n f m c r = clear-free f m m.own g t c a (r (At g ∷ Nth t ∷ anchor a ∷ After ∷ []) (later_of first_of))
 leaves (serial, DeletePacket g t p) h n f m c r = (
   clear-free f m m.own g t c (Some p) (clear-longer (f, m) (At g ∷ Nth t ∷ At p ∷ []) (After ∷ []) (r (At g ∷ Nth t ∷ At p ∷ []) first_of)),
@@ -62,8 +60,7 @@ leaves (serial, MovePacket g t p a) h n f m c r = (
   clear-takes f m m.own g t c n.before (r (At g ∷ Nth t ∷ neighbour n.before ∷ Front ∷ []) (later_of (later_of first_of))),
   clear-free f m m.own g t c a (r (At g ∷ Nth t ∷ anchor a ∷ After ∷ []) (later_of (later_of (later_of first_of)))),
 )
-leaves (s, AddGroup a bs) h n f m c r = absurd h
-leaves e h n f m c r = absurd h
+leaves e h n f m c r = tt
 
 -- names that a deletion or an insertion reads
 pub read-names-delete : (serial : ℕ) → (g : Tag) → (t : ℕ) → (p : Tag) → (n : Note) → (f : Item) → (m : Note) → Reads ((serial, DeletePacket g t p), n) (f, m) →
@@ -97,15 +94,9 @@ module _ (f : Item) (m : Note) (l : Lawful f.1) (own : RealOwn (f, m)) where
       (takes_out (packets_change f m.own (home e.1).0 (home e.1).1 (country_of y)) ≡ true → takes (own_change e) (noted_change (packets_change f m.own (home e.1).0 (home e.1).1 (country_of y)) y.packets) ≡ false) →
       Room e (now (home e.1).0 (home e.1).1 y) → Kept e y (now (home e.1).0 (home e.1).1 y)
   forward-in (serial, SetVar g t p v k x) h le y a r s u w room =
-      let q = packet-found f m m.own g t p (Of v ∷ Nth k ∷ []) y s (r (At g ∷ Nth t ∷ At p ∷ Of v ∷ Nth k ∷ []) first_of) ∙ ap (option_map (packet_after f.1 m.own g t (country_of y) p)) a.1 in (
-        (
-          packet_after f.1 m.own g t (country_of y) p a.0,
-          q,
-          (
-            field_after f.1 m.own g t (country_of y) p a.0.fields (v, k) a.2.0,
-            find-fields (field_after f.1 m.own g t (country_of y) p a.0.fields) v k a.0.fields ∙ ap (option_map (field_after f.1 m.own g t (country_of y) p a.0.fields (v, k))) a.2.1,
-          ),
-        ),
+      let q = packet-found f m m.own g t p (Of v ∷ Nth k ∷ []) y s (r (At g ∷ Nth t ∷ At p ∷ Of v ∷ Nth k ∷ []) first_of) ∙ ap (option_map (packet_after f.1 m.own g t (country_of y) p)) a.1 in
+      let field = find-fields (field_after f.1 m.own g t (country_of y) p a.0.fields) v k a.0.fields ∙ ap (option_map (field_after f.1 m.own g t (country_of y) p a.0.fields (v, k))) a.2.1 in (
+        (packet_after f.1 m.own g t (country_of y) p a.0, q, (field_after f.1 m.own g t (country_of y) p a.0.fields (v, k) a.2.0, field)),
         (ap (λ c. set_note v k x c (find same_tag p (now g t y).packets)) (country-stays g t y) ∙ ap (set_note v k x (country_of y)) q
             ∙ set-forward serial g t p v k x (note_in (SetVar g t p v k x) y) f m r l own (country_of y) a.0 a.2.0 a.2.1 (ap (λ o. (set_note v k x (country_of y) o).names) a.1)
             ∙ ap (set_note v k x (country_of y)) (sym a.1)),
@@ -137,7 +128,6 @@ module _ (f : Item) (m : Note) (l : Lawful f.1) (own : RealOwn (f, m)) where
         accepts-forward (Move p b) (packets_change f m.own g t (country_of y)) y.packets u lv w a,
         ap (λ b. record nothing { before = b }) (noted-forward (Move p b) (packets_change f m.own g t (country_of y)) y.packets lv),
       )
-  forward-in (s0, AddGroup b bs) h le y a r s u w room = absurd h
   forward-in e h le y a r s u w room = absurd h
 
   -- back: from after f to before it
@@ -190,5 +180,4 @@ module _ (f : Item) (m : Note) (l : Lawful f.1) (own : RealOwn (f, m)) where
         accepts-back (packets_change f m.own g t (country_of y)) (Move p b) y.packets lv a,
         ap (λ b. record nothing { before = b }) (sym (noted-back (packets_change f m.own g t (country_of y)) (Move p b) y.packets u lv w)),
       )
-  back-in (s0, AddGroup b bs) h le y a r s u w room = absurd h
   back-in e h le y a r s u w room = absurd h

@@ -44,12 +44,16 @@ in_time_leaves Undo s = undo_leaves s (last s.standing)
 in_time_leaves Redo s = redo_leaves s s.stack
 in_time_leaves (Strike serial) s = strike_leaves s (find (λ e. eqb serial e.0.0) (entries s.base s.standing))
 
-answer_leaves : (c : Call) → (s : State) → Leaves s (answer c s)
-answer_leaves c s = by (nat_le most_commands s.count)
+-- what holds of an answer in time, and of the reply that the session is worn, holds of each answer
+pub if_in_time : (P : Answer → Type 0) → (c : Call) → (s : State) → P (Refused Worn, s) → P (answer_in_time c s) → P (answer c s)
+if_in_time P c s w k = by (nat_le most_commands s.count)
   where
-    by : (b : Bool) → Leaves s (cond b (Refused Worn, s) (answer_in_time c s))
-    by true = (λ _ _. refl, refl)
-    by false = in_time_leaves c s
+    by : (b : Bool) → P (cond b (Refused Worn, s) (answer_in_time c s))
+    by true = w
+    by false = k
+
+answer_leaves : (c : Call) → (s : State) → Leaves s (answer c s)
+answer_leaves c s = if_in_time (Leaves s) c s (λ _ _. refl, refl) (in_time_leaves c s)
 
 pub base_in_time : (c : Call) → (s : State) → (answer_in_time c s).1.base ≡ s.base
 base_in_time c s = (in_time_leaves c s).1

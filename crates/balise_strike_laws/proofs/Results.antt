@@ -20,7 +20,7 @@ use Rattle.balise_rules.specs.declared.tagged_edit.TaggedEdit.TheVariants.{SetVa
 use Rattle.balise_rules.specs.Notes.{Note, set_note, note_at, noted}
 use Rattle.balise_rules.specs.Doing.{done}
 use Rattle.balise_rules.specs.Accepting.{Lawful}
-use Rattle.balise_rules.specs.Paths.{At, Nth, Of, Turn, Name, Head, Whose}
+use Rattle.balise_rules.specs.Paths.{At, Nth, Of, Turn, Name, Head, Whose, changes}
 use Rattle.balise_rules.proofs.Tests.{tag_test, nat_test, var_test, both_one}
 use Rattle.balise_rules.proofs.Cases.{parts3}
 use Rattle.balise_rules.proofs.Found.{place_is}
@@ -31,7 +31,7 @@ use Rattle.balise_strike_laws.proofs.Headers.{HeadApart}
 use Rattle.balise_strike_laws.proofs.Changes.{ChangesApart}
 use Rattle.balise_strike_laws.proofs.Neighbours.{Leaves, lists-apart, OfList}
 use Rattle.balise_strike_laws.proofs.Levels.{packet-commute, inner-commute, Inner, keep, apart-here, apart-each-here, apart-here-each}
-use Rattle.balise_strike_laws.proofs.Places.{first_of, later_of, Reads}
+use Rattle.balise_strike_laws.proofs.Places.{first_of, later_of, Reads, In}
 use Rattle.balise_strike_laws.proofs.Facts.{Facts}
 use Rattle.balise_strike_laws.proofs.Named.{whose_apart}
 use Rattle.balise_strike_laws.proofs.Kept.{Unnamed, own-apart, turn-apart, ren-apart, turned-other, names-apart, packet-same}
@@ -127,6 +127,14 @@ turn-read serial serial1 g0 t0 p0 v k x n g1 m r own c z g eg ns = (
   (λ e. ap (λ u. same_tag g1 u) (sym (tag_test.one g0 g eg)) ∙ turned-other serial1 g0 g1 m (read-dir serial g0 t0 p0 v k x n (serial1, TurnGroup g1) m r e)),
 )
 
+-- neither the old identity of a renumbering nor the new one is one that f changes
+renumbered-apart : (serial : ℕ) → (g : Tag) → (x : ℕ) → (n : Note) → (f : Item) → (m : Note) → Reads ((serial, Renumber g x), n) (f, m) → In (Whose m.own ∷ []) (changes (f, m)) →
+    (same_id n.own m.own ≡ false) × (same_id (identity n.own.country x) m.own ≡ false)
+renumbered-apart serial g x n f m r i = (
+  whose_apart m.own n.own (r (Whose n.own ∷ []) (later_of first_of) (Whose m.own ∷ []) i),
+  whose_apart m.own (identity n.own.country x) (r (Whose (identity n.own.country x) ∷ []) (later_of (later_of first_of)) (Whose m.own ∷ []) i),
+)
+
 module _ (plan : Plan) (s : Facts plan) (g : Tag) (t : ℕ) (y : Telegram) (q : telegram_at g t plan ≡ Some y) where
   abbrev c1 : ℕ
   c1 = country_of y
@@ -146,21 +154,10 @@ module _ (plan : Plan) (s : Facts plan) (g : Tag) (t : ℕ) (y : Telegram) (q : 
   fields-apart (serial1, TurnGroup g1) (serial0, SetVar g0 t0 p0 v0 k0 x0) r1 r2 p z h =
       λ a. turn-read serial0 serial1 g0 t0 p0 v0 k0 x0 (noted (SetVar g0 t0 p0 v0 k0 x0) plan) g1 (noted (TurnGroup g1) plan) r2 (real-own (serial1, TurnGroup g1) plan s) c1 z g (parts3 (same_tag g0 g) (eqb t0 t) (same_tag p0 p) a).0 (set-noted g0 t0 p0 v0 k0 x0 plan g t p y z q h a)
   fields-apart (serial0, Renumber g0 x0) (serial1, Renumber g1 x1) r1 r2 p z h =
-      let i = (noted (Renumber g0 x0) plan).own in let j = (noted (Renumber g1 x1) plan).own in (
-        whose_apart j i (r1 (Whose i ∷ []) (later_of first_of) (Whose j ∷ []) (later_of first_of)),
-        whose_apart j (identity i.country x0) (r1 (Whose (identity i.country x0) ∷ []) (later_of (later_of first_of)) (Whose j ∷ []) (later_of first_of)),
-        whose_apart i (identity j.country x1) (r2 (Whose (identity j.country x1) ∷ []) (later_of (later_of first_of)) (Whose i ∷ []) (later_of first_of)),
-      )
-  fields-apart (serial0, Renumber g0 x0) (serial1, TurnGroup g1) r1 r2 p z h =
-      let i = (noted (Renumber g0 x0) plan).own in let j = (noted (TurnGroup g1) plan).own in (
-        whose_apart j i (r1 (Whose i ∷ []) (later_of first_of) (Whose j ∷ []) (later_of first_of)),
-        whose_apart j (identity i.country x0) (r1 (Whose (identity i.country x0) ∷ []) (later_of (later_of first_of)) (Whose j ∷ []) (later_of first_of)),
-      )
-  fields-apart (serial1, TurnGroup g1) (serial0, Renumber g0 x0) r1 r2 p z h =
-      let i = (noted (Renumber g0 x0) plan).own in let j = (noted (TurnGroup g1) plan).own in (
-        whose_apart j i (r2 (Whose i ∷ []) (later_of first_of) (Whose j ∷ []) (later_of first_of)),
-        whose_apart j (identity i.country x0) (r2 (Whose (identity i.country x0) ∷ []) (later_of (later_of first_of)) (Whose j ∷ []) (later_of first_of)),
-      )
+      let a = renumbered-apart serial0 g0 x0 (noted (Renumber g0 x0) plan) (serial1, Renumber g1 x1) (noted (Renumber g1 x1) plan) r1 (later_of first_of) in
+      (a.0, a.1, (renumbered-apart serial1 g1 x1 (noted (Renumber g1 x1) plan) (serial0, Renumber g0 x0) (noted (Renumber g0 x0) plan) r2 (later_of first_of)).1)
+  fields-apart (serial0, Renumber g0 x0) (serial1, TurnGroup g1) r1 r2 p z h = renumbered-apart serial0 g0 x0 (noted (Renumber g0 x0) plan) (serial1, TurnGroup g1) (noted (TurnGroup g1) plan) r1 (later_of first_of)
+  fields-apart (serial1, TurnGroup g1) (serial0, Renumber g0 x0) r1 r2 p z h = renumbered-apart serial0 g0 x0 (noted (Renumber g0 x0) plan) (serial1, TurnGroup g1) (noted (TurnGroup g1) plan) r2 (later_of first_of)
   fields-apart e f r1 r2 p z h = tt
 
   -- what is put in is left as it is

@@ -1,8 +1,8 @@
 -- Serials that rise.
 -- Proves that they rise among fewer edits and with other anchors, that they rise where they lie between two numbers, and what one more after them keeps.
-use Rattle.std.proofs.Common.{◌≡◌, ◌≢◌, ◌<◌, ◌≤◌, ℕ, suc, All, Bool, true, false, not, cond, eqb, nat_lt, List, [], ◌∷◌, ◌++◌, Option, arith}
+use Rattle.std.proofs.Common.{◌≡◌, ◌≢◌, ◌<◌, ◌≤◌, ℕ, suc, All, not, eqb, nat_lt, List, [], ◌∷◌, ◌++◌, Option, arith, Bool, true, false, cond}
 use Rattle.std.specs.Prelude.{find, is_some}
-use Rattle.std.proofs.lemmas.List.Elements.{All-nil, All-cons, All-head, All-tail}
+use Rattle.std.proofs.lemmas.List.Elements.{All-nil, All-cons, All-head, All-tail, All-filter}
 use Rattle.balise_rules.specs.declared.tag.Tag.{Tag}
 use Rattle.balise_rules.specs.Edits.{Item}
 use Rattle.balise_rules.specs.Behind.{anchored, hung}
@@ -10,26 +10,16 @@ use Rattle.balise_rules.specs.Journal.{all_back}
 use Rattle.balise_rules.specs.Opening.{last_serial}
 use Rattle.balise_rules.specs.Session.{Removed, others, put_by_serial}
 use Rattle.balise_strike_laws.specs.InSession.{Rising, Between}
+use Rattle.balise_rules.proofs.Tests.{split_on}
 
 -- a serial that others are above
 abbrev Below : ℕ → Item → Type 0
 Below n f = n < f.0
 
-all-others : (P : Item → Type 0) → (s : ℕ) → (es : List Item) → All P es → All P (others s es)
-all-others P s [] a = All-nil P
-all-others P s (f ∷ fs) a = by (eqb f.0 s) (all-others P s fs (All-tail P f fs a))
-  where
-    by : (b : Bool) → All P (others s fs) → All P (cond (not b) (f ∷ others s fs) (others s fs))
-    by true more = more
-    by false more = All-cons P f (others s fs) (All-head P f fs a) more
-
 pub rising-others : (s : ℕ) → (es : List Item) → Rising es → Rising (others s es)
 rising-others s [] r = tt
-rising-others s (f ∷ fs) r = by (eqb f.0 s) (rising-others s fs r.1)
-  where
-    by : (b : Bool) → Rising (others s fs) → Rising (cond (not b) (f ∷ others s fs) (others s fs))
-    by true more = more
-    by false more = (all-others (Below f.0) s fs r.0, more)
+rising-others s (f ∷ fs) r = split_on (eqb f.0 s) (λ e. simp e (rising-others s fs r.1))
+    (λ e. simp e (All-filter (λ (x : Item). not (eqb x.0 s)) (Below f.0) fs r.0, rising-others s fs r.1))
 
 all-hung : (n : ℕ) → (a : Option Tag) → (B : List ℕ) → (es : List Item) → All (Below n) es → All (Below n) (hung a B es)
 all-hung n a B [] w = All-nil (Below n)
@@ -41,11 +31,9 @@ all-hung n a B (f ∷ fs) w = by (is_some (find (λ m. eqb m f.0) B)) (all-hung 
 
 pub rising-hung : (a : Option Tag) → (B : List ℕ) → (es : List Item) → Rising es → Rising (hung a B es)
 rising-hung a B [] r = tt
-rising-hung a B (f ∷ fs) r = by (is_some (find (λ m. eqb m f.0) B)) (all-hung f.0 a B fs r.0) (rising-hung a B fs r.1)
-  where
-    by : (b : Bool) → All (Below f.0) (hung a B fs) → Rising (hung a B fs) → Rising (cond b (f.0, anchored a f.1) f ∷ hung a B fs)
-    by true w more = (w, more)
-    by false w more = (w, more)
+rising-hung a B (f ∷ fs) r =
+    let own = all-hung f.0 a B fs r.0 in let rest = rising-hung a B fs r.1 in
+    split_on (is_some (find (λ m. eqb m f.0) B)) (λ e. simp e (own, rest)) (λ e. simp e (own, rest))
 
 -- ---- serials between two numbers
 
@@ -59,11 +47,8 @@ rising-between l n (e ∷ es) b = (above e.0 e.0 n (omega arith) es b.2, rising-
 
 between-hung : (l n : ℕ) → (a : Option Tag) → (B : List ℕ) → (es : List Item) → Between l n (hung a B es) → Between l n es
 between-hung l n a B [] b = tt
-between-hung l n a B (f ∷ fs) b = by (is_some (find (λ m. eqb m f.0) B)) (λ k. between-hung f.0 n a B fs k) b
-  where
-    by : (c : Bool) → (Between f.0 n (hung a B fs) → Between f.0 n fs) → Between l n (cond c (f.0, anchored a f.1) f ∷ hung a B fs) → Between l n (f ∷ fs)
-    by true more w = (w.0, w.1, more w.2)
-    by false more w = (w.0, w.1, more w.2)
+between-hung l n a B (f ∷ fs) b =
+    split_on (is_some (find (λ m. eqb m f.0) B)) (λ e. let w = simp e at b in (w.0, w.1, between-hung f.0 n a B fs w.2)) (λ e. let w = simp e at b in (w.0, w.1, between-hung f.0 n a B fs w.2))
 
 -- from a lower number on
 lower : (l m n : ℕ) → l ≤ m → (es : List Item) → Between m n es → Between l n es
@@ -72,11 +57,9 @@ lower l m n h (e ∷ es) b = (let k = b.0 in omega arith, b.1, b.2)
 
 between-put : (l n : ℕ) → (e : Item) → (es : List Item) → Between l n (put_by_serial e es) → Between l n es
 between-put l n e [] b = tt
-between-put l n e (f ∷ fs) b = by (nat_lt e.0 f.0) (λ k. between-put f.0 n e fs k) b
-  where
-    by : (c : Bool) → (Between f.0 n (put_by_serial e fs) → Between f.0 n fs) → Between l n (cond c (e ∷ f ∷ fs) (f ∷ put_by_serial e fs)) → Between l n (f ∷ fs)
-    by true more w = lower l e.0 n (let k = w.0 in omega arith) (f ∷ fs) w.2
-    by false more w = (w.0, w.1, more w.2)
+between-put l n e (f ∷ fs) b = split_on (nat_lt e.0 f.0)
+    (λ d. let w = simp d at b in lower l e.0 n (let k = w.0 in omega arith) (f ∷ fs) w.2)
+    (λ d. let w = simp d at b in (w.0, w.1, between-put f.0 n e fs w.2))
 
 -- the standing edits lie where all lie that would stand again
 pub between-back : (l n : ℕ) → (rs : List Removed) → (es : List Item) → Between l n (all_back rs es) → Between l n es

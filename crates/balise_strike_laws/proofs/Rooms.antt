@@ -1,7 +1,7 @@
 -- Room: how many bits the packets of a telegram take after each change, and when an insertion has room in the other order.
 -- Proves that no change but a deletion makes room, and that an insertion whose bits fit after another edit fits before it, and the other way round.
 -- From the clause of independence that keeps insertions apart from deletions, and the widths of fields.
-use Rattle.std.proofs.Common.{◌≡◌, ℕ, ◌+◌, ◌≤◌, Bool, true, false, cond, ◌&&◌, eqb, List, length, Option, Some, refl, ap, subst, ◌∙◌, arith}
+use Rattle.std.proofs.Common.{◌≡◌, ℕ, ◌+◌, ◌≤◌, Bool, true, false, ◌&&◌, eqb, List, length, Option, Some, refl, ap, subst, ◌∙◌, arith}
 use Rattle.std.proofs.lemmas.Bool.{and_left, and_right, true≢false, not-true}
 use Rattle.std.specs.Option.{option_map}
 use Rattle.balise_rules.specs.declared.tag.Tag.{Tag}
@@ -13,12 +13,12 @@ use Rattle.balise_rules.specs.Packet.{Packet, width}
 use Rattle.balise_rules.specs.Telegram.{Telegram, used}
 use Rattle.balise_rules.specs.Plan.{Plan, country_of, telegram_at}
 use Rattle.balise_rules.specs.Edits.{Edit, Item, effect, telegram_after, packet_after, packets_change}
-use Rattle.balise_rules.specs.declared.tagged_edit.TaggedEdit.TheVariants.{InsertPacket, DeletePacket, MovePacket, AddGroup, DropGroup, Renumber, TurnGroup}
+use Rattle.balise_rules.specs.declared.tagged_edit.TaggedEdit.TheVariants.{InsertPacket, DeletePacket, MovePacket}
 use Rattle.balise_rules.specs.Accepting.{AcceptedIn, AcceptedAt, Asks}
 use Rattle.balise_rules.specs.Paths.{room_apart}
 use Rattle.balise_rules.proofs.Tests.{split_on, flip_no, tag_test, nat_test}
 use Rattle.balise_strike_laws.proofs.Neighbours.{Accepts}
-use Rattle.balise_strike_laws.proofs.Levels.{keep}
+use Rattle.balise_strike_laws.proofs.Levels.{here}
 use Rattle.balise_rules.proofs.Moved.{move_is}
 use Rattle.balise_rules.proofs.Anchors.{stands-without}
 use Rattle.balise_rules.proofs.Used.{used-each, width_kept, used-put_there, used-without_there}
@@ -35,16 +35,12 @@ used-move p a xs u s =
 
 -- a change that takes nothing out of the telegram does not make room
 abbrev pub is_take : {A : Type 0} → Change Tag A → Bool
-is_take (Each f) = false
-is_take (Put a z) = false
 is_take (Take q) = true
-is_take (Move q a) = false
+is_take x = false
 
 abbrev pub more : Change Tag Packet → ℕ
-more (Each f) = 0
 more (Put a z) = width z.1
-more (Take q) = 0
-more (Move q a) = 0
+more x = 0
 
 abbrev pub WidthKept : Change Tag Packet → Type 0
 WidthKept (Each f) = (p : Tag) → (z : Packet) → width (f p z) ≡ width z
@@ -57,14 +53,10 @@ used-change (Put a z) xs w u s n = used-put_there a z xs s
 used-change (Take q) xs w u s n = absurd (true≢false n)
 used-change (Move q a) xs w u s n = let b = used-move q a xs u s in omega arith
 
-here-width : (b : Bool) → (x : Change Tag Packet) → WidthKept x → WidthKept (cond b x keep)
-here-width true x h = h
-here-width false x h = λ p z. refl
-
 pub width-kept : (f : Item) → (j : Id) → (g : Tag) → (t : ℕ) → (c : ℕ) → WidthKept (packets_change f j g t c)
-width-kept (s0, InsertPacket g1 t1 b x) j g t c = here-width (same_tag g1 g && eqb t1 t) (Put b (Fresh s0, x)) tt
-width-kept (serial1, DeletePacket g1 t1 p) j g t c = here-width (same_tag g1 g && eqb t1 t) (Take p) tt
-width-kept (serial1, MovePacket g1 t1 p a) j g t c = here-width (same_tag g1 g && eqb t1 t) (Move p a) tt
+width-kept (s0, InsertPacket g1 t1 b x) j g t c = here WidthKept (same_tag g1 g) (eqb t1 t) (Put b (Fresh s0, x)) (λ p z. refl) (λ e d. tt)
+width-kept (serial1, DeletePacket g1 t1 p) j g t c = here WidthKept (same_tag g1 g) (eqb t1 t) (Take p) (λ p z. refl) (λ e d. tt)
+width-kept (serial1, MovePacket g1 t1 p a) j g t c = here WidthKept (same_tag g1 g) (eqb t1 t) (Move p a) (λ p z. refl) (λ e d. tt)
 width-kept e j g t c = width_kept e.1 j g t c
 
 other_place : (g g1 : Tag) → (t t1 : ℕ) → (same_tag g g1 && eqb t t1) ≡ false → (same_tag g1 g && eqb t1 t) ≡ false
@@ -99,15 +91,7 @@ pub room-back : (e : Item) → Local e.1 → (f : Item) → room_apart e.1 f.1 �
 room-back (s0, InsertPacket g t b x) h f n plan s a j y q k =
     let r = used-there f j g t plan s a y q (no-take s0 g t b x f n j (country_of y)) in
     let l = k.1 in omega arith
-room-back (s0, AddGroup b bs) h f n plan s a j y q k = absurd h
-room-back (serial, DropGroup g) h f n plan s a j y q k = absurd h
-room-back (serial, Renumber g x) h f n plan s a j y q k = absurd h
-room-back (serial, TurnGroup g) h f n plan s a j y q k = absurd h
 room-back e h f n plan s a j y q k = tt
-
-no_more : (b : Bool) → (x : Change Tag Packet) → more x ≡ 0 → more (cond b x keep) ≡ 0
-no_more true x h = h
-no_more false x h = refl
 
 -- and after f: f fitted after e
 pub room-forward : (e : Item) → Local e.1 → (f : Item) → room_apart e.1 f.1 ≡ true → (plan : Plan) → Facts plan → Asks e.1 plan → Asks f.1 plan → (i j : Id) →
@@ -128,14 +112,10 @@ room-forward (s0, InsertPacket g t b x) h (s1, InsertPacket g1 t1 b1 x1) n plan 
     r0 = used-there (s1, InsertPacket g1 t1 b1 x1) j g t plan s a y q (no-take s0 g t b x (s1, InsertPacket g1 t1 b1 x1) n j (country_of y))
 room-forward (s0, InsertPacket g t b x) h (serial1, DeletePacket g1 t1 p1) n plan s ae a i j fits y q k =
     let r = used-there (serial1, DeletePacket g1 t1 p1) j g t plan s a y q (no-take s0 g t b x (serial1, DeletePacket g1 t1 p1) n j (country_of y)) in
-    let m = no_more (same_tag g1 g && eqb t1 t) (Take p1) refl in let l = k.1 in omega arith
+    let m = here (λ y. more y ≡ 0) (same_tag g1 g) (eqb t1 t) (Take p1) refl (λ d e. refl) in let l = k.1 in omega arith
 room-forward (s0, InsertPacket g t b x) h (serial1, MovePacket g1 t1 p1 a1) n plan s ae a i j fits y q k =
     let r = used-there (serial1, MovePacket g1 t1 p1 a1) j g t plan s a y q (no-take s0 g t b x (serial1, MovePacket g1 t1 p1 a1) n j (country_of y)) in
-    let m = no_more (same_tag g1 g && eqb t1 t) (Move p1 a1) refl in let l = k.1 in omega arith
+    let m = here (λ y. more y ≡ 0) (same_tag g1 g) (eqb t1 t) (Move p1 a1) refl (λ d e. refl) in let l = k.1 in omega arith
 room-forward (s0, InsertPacket g t b x) h f n plan s ae a i j fits y q k =
     let r = used-each (packet_after f.1 j g t (country_of y)) (width_kept f.1 j g t (country_of y)) y.packets in let l = k.1 in omega arith
-room-forward (s0, AddGroup b bs) h f n plan s ae a i j fits y q k = absurd h
-room-forward (serial, DropGroup g) h f n plan s ae a i j fits y q k = absurd h
-room-forward (serial, Renumber g x) h f n plan s ae a i j fits y q k = absurd h
-room-forward (serial, TurnGroup g) h f n plan s ae a i j fits y q k = absurd h
 room-forward e h f n plan s ae a i j fits y q k = tt

@@ -15,7 +15,7 @@ use Rattle.balise_rules.specs.Notes.{noted}
 use Rattle.balise_rules.specs.Doing.{done}
 use Rattle.balise_rules.specs.Tags.{same_tag}
 use Rattle.balise_rules.specs.Paths.{Entry, apart}
-use Rattle.balise_rules.specs.Behind.{stands_behind, anchor_of, anchored, serials_behind, hung}
+use Rattle.balise_rules.specs.Behind.{stands_behind, anchor_of, anchored, serials_behind, hung, one_path, put_in, anchored_on}
 use Rattle.balise_rules.specs.Session.{made, entries, last, others, later, first_dependent, put_by_serial}
 use Rattle.balise_rules.proofs.Tests.{split_on, flip_no, nat_test, tag_test}
 use Rattle.balise_rules.proofs.Cases.{unsome, parts4}
@@ -27,6 +27,7 @@ use Rattle.balise_strike_laws.proofs.Past.{Other}
 use Rattle.balise_strike_laws.proofs.StandsBehind.{stands_behind-parts, no_end}
 use Rattle.balise_strike_laws.proofs.Strikes.{striking_under}
 use Rattle.balise_strike_laws.proofs.Rising.{rising-hung, rising-others}
+use Rattle.std.proofs.lemmas.List.{append-nil, map-append}
 
 -- what stands in the middle
 all-middle : (P : Item → Type 0) → (before : List Item) → (e : Item) → (after : List Item) → All P (before ++ e ∷ after) → P e
@@ -159,10 +160,6 @@ hung-none : (a : Option Tag) → (B : List ℕ) → (es : List Item) → All (λ
 hung-none a B [] n = refl
 hung-none a B (f ∷ fs) n = let m = All-head (λ g. among g.0 B ≡ false) f fs n in simp m (ap (λ l. f ∷ l) (hung-none a B fs (All-tail (λ g. among g.0 B ≡ false) f fs n)))
 
-hung-append : (a : Option Tag) → (B : List ℕ) → (es fs : List Item) → hung a B (es ++ fs) ≡ hung a B es ++ hung a B fs
-hung-append a B [] fs = refl
-hung-append a B (e ∷ es) fs = ap (λ l. cond (among e.0 B) (e.0, anchored a e.1) e ∷ l) (hung-append a B es fs)
-
 all-after : (P : Item → Type 0) → (before : List Item) → (e : Item) → (after : List Item) → All P (before ++ e ∷ after) → All P after
 all-after P [] e after a = All-tail P e after a
 all-after P (b ∷ bs) e after a = all-after P bs e after (All-tail P b (bs ++ e ∷ after) a)
@@ -177,20 +174,14 @@ before-none e base (b ∷ bs) after plan u =
 packet_back : (g : Tag) → (t : ℕ) → (g1 : Tag) → (t1 : ℕ) → (z b : Tag) → (same_tag g g1 && (eqb t t1 && (same_tag z b && true))) ≡ true → b ≡ z
 packet_back g t g1 t1 z b h = sym (tag_test.one z b (parts4 (same_tag g g1) (eqb t t1) (same_tag z b) true h).2)
 
-anchor-back : (e f : Entry) → stands_behind e f ≡ true → (a : Option Tag) → anchored (Some (Fresh e.0.0)) (anchored a f.0.1) ≡ f.0.1
-anchor-back ((s0, InsertPacket g t a x), m) ((s1, InsertPacket g1 t1 (Some b) x1), n) h c =
-    ap (λ z. InsertPacket g1 t1 (Some z) x1) (sym (packet_back g t g1 t1 (Fresh s0) b (stands_behind-parts ((s0, InsertPacket g t a x), m) ((s1, InsertPacket g1 t1 (Some b) x1), n) h).0))
-anchor-back ((s0, InsertPacket g t a x), m) ((s1, MovePacket g1 t1 p (Some b)), n) h c =
-    ap (λ z. MovePacket g1 t1 p (Some z)) (sym (packet_back g t g1 t1 (Fresh s0) b (stands_behind-parts ((s0, InsertPacket g t a x), m) ((s1, MovePacket g1 t1 p (Some b)), n) h).0))
-anchor-back ((s0, AddGroup a bs), m) ((s1, AddGroup (Some b) cs), n) h c =
-    ap (λ z. AddGroup (Some z) cs) (tag_test.one (Fresh s0) b (and_parts (same_tag (Fresh s0) b) true (stands_behind-parts ((s0, AddGroup a bs), m) ((s1, AddGroup (Some b) cs), n) h).0).0)
-anchor-back ((s0, InsertPacket g t a x), m) ((s1, AddGroup (Some b) cs), n) h c =
-    absurd (no_end (same_tag g b) (stands_behind-parts ((s0, InsertPacket g t a x), m) ((s1, AddGroup (Some b) cs), n) h).0)
-anchor-back ((s0, AddGroup a bs), m) ((s1, InsertPacket g t (Some b) x), n) h c =
-    absurd (no_end (same_tag (Fresh s0) g) (stands_behind-parts ((s0, AddGroup a bs), m) ((s1, InsertPacket g t (Some b) x), n) h).0)
-anchor-back ((s0, AddGroup a bs), m) ((s1, MovePacket g t p (Some b)), n) h c =
-    absurd (no_end (same_tag (Fresh s0) g) (stands_behind-parts ((s0, AddGroup a bs), m) ((s1, MovePacket g t p (Some b)), n) h).0)
-anchor-back ((s0, e), m) ((s1, f), n) h c = absurd (false≢true h)
+anchor-back : (e f : Item) → one_path (put_in e) (anchored_on f) ≡ true → (a : Option Tag) → anchored (Some (Fresh e.0)) (anchored a f.1) ≡ f.1
+anchor-back (s0, InsertPacket g t a x) (s1, InsertPacket g1 t1 (Some b) x1) h c = ap (λ z. InsertPacket g1 t1 (Some z) x1) (sym (packet_back g t g1 t1 (Fresh s0) b h))
+anchor-back (s0, InsertPacket g t a x) (s1, MovePacket g1 t1 p (Some b)) h c = ap (λ z. MovePacket g1 t1 p (Some z)) (sym (packet_back g t g1 t1 (Fresh s0) b h))
+anchor-back (s0, AddGroup a bs) (s1, AddGroup (Some b) cs) h c = ap (λ z. AddGroup (Some z) cs) (tag_test.one (Fresh s0) b (and_parts (same_tag (Fresh s0) b) true h).0)
+anchor-back (s0, InsertPacket g t a x) (s1, AddGroup (Some b) cs) h c = absurd (no_end (same_tag g b) h)
+anchor-back (s0, AddGroup a bs) (s1, InsertPacket g t (Some b) x) h c = absurd (no_end (same_tag (Fresh s0) g) h)
+anchor-back (s0, AddGroup a bs) (s1, MovePacket g t p (Some b)) h c = absurd (no_end (same_tag (Fresh s0) g) h)
+anchor-back (s0, e) (s1, f) h c = absurd (false≢true h)
 
 -- the old anchors come back
 hung-back : (e : Entry) → (a : Option Tag) → (B : List ℕ) → (plan : Plan) → (es : List Item) → Tells e B plan es → first_dependent e (entries plan es) ≡ None →
@@ -201,7 +192,7 @@ hung-back e a B plan (f ∷ fs) t d = split_on (apart e (f, noted f.1 plan))
     simp m (ap (λ l. f ∷ l) (hung-back e a B (done f plan) fs t.1 r)))
     (λ i. split_on (stands_behind e (f, noted f.1 plan))
     (λ j. let m : among f.0 B ≡ true = simp i at t.0 in let r : first_dependent e (entries (done f plan) fs) ≡ None = simp (i, j) at d in
-    let k : anchored (Some (Fresh e.0.0)) (anchored a f.1) ≡ f.1 = anchor-back e (f, noted f.1 plan) j a in
+    let k : anchored (Some (Fresh e.0.0)) (anchored a f.1) ≡ f.1 = anchor-back e.0 f (stands_behind-parts e (f, noted f.1 plan) j).0 a in
     simp m (ap (λ x. (f.0, x) ∷ hung (Some (Fresh e.0.0)) B (hung a B fs)) k ∙ ap (λ l. f ∷ l) (hung-back e a B (done f plan) fs t.1 r)))
     (λ j. absurd (let r = simp (i, j) at d in cc)))
 
@@ -213,16 +204,17 @@ found-at base (b ∷ bs) e after u plan =
     let n : eqb e.0 b.0 ≡ false = flip_no nat_test b.0 e.0 (other-no b.0 e (all-middle (Other b.0) bs e after u.1)) in
     simp n (found-at base bs e after u.2 (done b plan))
 
+-- what is found under a serial has it
+pub serial_is : (m : ℕ) → (es : List Entry) → (e : Entry) → find (λ (f : Entry). eqb m f.0.0) es ≡ Some e → m ≡ e.0.0
+serial_is m [] e h = absurd cc
+serial_is m (f ∷ fs) e h = split_on (eqb m f.0.0)
+    (λ d. let k : Some f ≡ Some e = simp d at h in eqb-true m f.0.0 d ∙ ap (λ (x : Entry). x.0.0) (unsome k))
+    (λ d. let k : find (λ (x : Entry). eqb m x.0.0) fs ≡ Some e = simp d at h in serial_is m fs e k)
+
 -- what is found under a serial is found under its own
 pub found-there : (plan : Plan) → (items : List Item) → (serial : ℕ) → (e : Entry) → find (λ (f : Entry). eqb serial f.0.0) (entries plan items) ≡ Some e →
     find (λ (f : Entry). eqb e.0.0 f.0.0) (entries plan items) ≡ Some e
-found-there plan items serial e h = subst (λ n. find (λ (f : Entry). eqb n f.0.0) (entries plan items) ≡ Some e) (serial-of plan items serial e h) h
-  where
-    serial-of : (plan : Plan) → (items : List Item) → (serial : ℕ) → (e : Entry) → find (λ (f : Entry). eqb serial f.0.0) (entries plan items) ≡ Some e → serial ≡ e.0.0
-    serial-of plan [] serial e h = absurd (cc)
-    serial-of plan (f ∷ fs) serial e h = split_on (eqb serial f.0)
-        (λ d. let k : Some (f, noted f.1 plan) ≡ Some e = simp d at h in eqb-true serial f.0 d ∙ ap (λ (x : Entry). x.0.0) (unsome k))
-        (λ d. let k : find (λ (x : Entry). eqb serial x.0.0) (entries (done f plan) fs) ≡ Some e = simp d at h in serial-of (done f plan) fs serial e k)
+found-there plan items serial e h = subst (λ n. find (λ (f : Entry). eqb n f.0.0) (entries plan items) ≡ Some e) (serial_is serial (entries plan items) e h) h
 
 -- the strike of e among others, given its later entries
 struck-among : (base : Plan) → (before : List Item) → (e : Item) → (after : List Item) → (fs : List Entry) → Standing base (before ++ e ∷ after) →
@@ -236,12 +228,13 @@ struck-among base before e after fs s q d =
     let u : AllUnused base after = unused-behind base before e after s.unused in
     let t : Tells p B plan after = subst (λ l. Tells p (serials_behind p l) plan after) (sym q) (tells p base plan after u) in
     let d1 : first_dependent p (entries plan after) ≡ None = ap (first_dependent p) (sym q) ∙ d in
-    let none : hung a B before ≡ before = hung-none a B before (subst (λ l. All (λ f. among f.0 (serials_behind p l) ≡ false) before) (sym q) (before-none p base before after plan s.unused)) in
-    let again-none : hung (Some (Fresh e.0)) B before ≡ before = hung-none (Some (Fresh e.0)) B before (subst (λ l. All (λ f. among f.0 (serials_behind p l) ≡ false) before) (sym q) (before-none p base before after plan s.unused)) in
+    let other = subst (λ l. All (λ f. among f.0 (serials_behind p l) ≡ false) before) (sym q) (before-none p base before after plan s.unused) in
+    let none : hung a B before ≡ before = hung-none a B before other in
+    let again-none : hung (Some (Fresh e.0)) B before ≡ before = hung-none (Some (Fresh e.0)) B before other in
     let rest : left_of p B (before ++ e ∷ after) ≡ before ++ hung a B after =
-    ap (hung a B) (others-there base before e after s.unused) ∙ hung-append a B before after ∙ ap (λ l. l ++ hung a B after) none in
+    ap (hung a B) (others-there base before e after s.unused) ∙ map-append (λ (f : Item). cond (among f.0 B) (f.0, anchored a f.1) f) before after ∙ ap (λ l. l ++ hung a B after) none in
     let back_again : hung (Some (Fresh e.0)) B (before ++ hung a B after) ≡ before ++ after =
-    hung-append (Some (Fresh e.0)) B before (hung a B after) ∙ ap (λ l. l ++ hung (Some (Fresh e.0)) B (hung a B after)) again-none ∙ ap (λ l. before ++ l) (hung-back p a B plan after t d1) in
+    map-append (λ (f : Item). cond (among f.0 B) (f.0, anchored (Some (Fresh e.0)) f.1) f) before (hung a B after) ∙ ap (λ l. l ++ hung (Some (Fresh e.0)) B (hung a B after)) again-none ∙ ap (λ l. before ++ l) (hung-back p a B plan after t d1) in
     let r = striking_under base before e after (hung a B after) s (hung-become p B plan after t d1) in
     record {
       standing = subst (Standing base) (sym rest) r.standing;
@@ -258,10 +251,6 @@ struck-among base before e after fs s q d =
 abbrev Here : Plan → List Item → Entry → Type 0
 Here base items p = StruckHere base items p (serials_behind p (later p.0.0 (entries base items))) (left_of p (serials_behind p (later p.0.0 (entries base items))) items)
 
-struck-here : (base : Plan) → (before : List Item) → (e : Item) → (after : List Item) → Standing base (before ++ e ∷ after) →
-    first_dependent (e, noted e.1 (made base before)) (later e.0 (entries base (before ++ e ∷ after))) ≡ None → Here base (before ++ e ∷ after) (e, noted e.1 (made base before))
-struck-here base before e after s d = struck-among base before e after (later e.0 (entries base (before ++ e ∷ after))) s (later-there base before e after s.unused base) d
-
 -- with the note that it has, and the list that it stands in
 pub striking_here : StrikingHere
 striking_here base items serial (e, m) s h d =
@@ -269,7 +258,8 @@ striking_here base items serial (e, m) s h d =
     let s1 = subst (Standing base) c.whole s in
     let d1 : first_dependent (e, noted e.1 (made base c.before)) (later e.0 (entries base (c.before ++ e ∷ c.after))) ≡ None =
     ap (λ n. first_dependent (e, n) (later e.0 (entries base (c.before ++ e ∷ c.after)))) c.note ∙ ap (λ l. first_dependent (e, m) (later e.0 (entries base l))) (sym c.whole) ∙ d in
-    subst (λ l. Here base l (e, m)) (sym c.whole) (subst (λ n. Here base (c.before ++ e ∷ c.after) (e, n)) c.note (struck-here base c.before e c.after s1 d1))
+    let r = struck-among base c.before e c.after (later e.0 (entries base (c.before ++ e ∷ c.after))) s1 (later-there base c.before e c.after s1.unused base) d1 in
+    subst (λ l. Here base l (e, m)) (sym c.whole) (subst (λ n. Here base (c.before ++ e ∷ c.after) (e, n)) c.note r)
 
 -- the last edit, and those before it
 pub record Ends (items : List Item) (e : Item) : Type 0 where
@@ -281,16 +271,12 @@ ends [] e h = absurd (cc)
 ends (f ∷ []) e h = record { before = []; whole = ap (λ x. x ∷ []) (unsome h) }
 ends (f ∷ g ∷ gs) e h = let w = ends (g ∷ gs) e h in record { before = f ∷ w.before; whole = ap (λ l. f ∷ l) w.whole }
 
-pub no-more : (l : List Item) → l ++ [] ≡ l
-no-more [] = refl
-no-more (f ∷ fs) = ap (λ l. f ∷ l) (no-more fs)
-
 -- nothing stands after the last edit
 undone-here : (base : Plan) → (before : List Item) → (e : Item) → Standing base (before ++ e ∷ []) →
     StruckHere base (before ++ e ∷ []) (e, noted e.1 (made base (others e.0 (before ++ e ∷ [])))) [] (others e.0 (before ++ e ∷ []))
 undone-here base before e s =
     let p : Entry = (e, noted e.1 (made base before)) in
-    let rest : others e.0 (before ++ e ∷ []) ≡ before = others-there base before e [] s.unused ∙ no-more before in
+    let rest : others e.0 (before ++ e ∷ []) ≡ before = others-there base before e [] s.unused ∙ append-nil before in
     let r = struck-among base before e [] [] s refl refl in
     let same : left_of p [] (before ++ e ∷ []) ≡ others e.0 (before ++ e ∷ []) = hung-empty (anchor_of e.1) (others e.0 (before ++ e ∷ [])) in
     subst (λ l. StruckHere base (before ++ e ∷ []) (e, noted e.1 (made base l)) [] (others e.0 (before ++ e ∷ []))) (sym rest)

@@ -1,18 +1,17 @@
 -- Every command, and every line of a journal, leaves a state of a session.
 -- From the laws of strikes in a session, from what accepted edits keep, and from serials that rise.
-use Rattle.std.proofs.Common.{◌≡◌, ◌≢◌, ◌≤◌, inl, inr, ℕ, All, Bool, true, false, cond, ◌&&◌, eqb, nat_le, List, [], ◌∷◌, ◌++◌, Option, Some, None, Result, Ok, Err, refl, sym, ap, subst, arith}
+use Rattle.std.proofs.Common.{◌≡◌, ◌≢◌, ◌≤◌, inl, inr, ℕ, All, true, ◌&&◌, eqb, nat_le, List, [], ◌∷◌, ◌++◌, Option, Some, None, Result, Ok, Err, refl, sym, ap, subst, arith}
 use Rattle.std.specs.Prelude.{find, is_none}
 use Rattle.std.proofs.lemmas.Bool.{and_parts, leb-true}
 use Rattle.balise_rules.specs.declared.refusal.Refusal.{Refusal}
-use Rattle.balise_rules.specs.declared.refusal.Refusal.TheVariants.{Worn}
-use Rattle.balise_rules.specs.Plan.{Plan}
+use Rattle.balise_rules.specs.Plan.{Plan, IsSound}
 use Rattle.balise_rules.specs.Edits.{Edit, Item}
 use Rattle.balise_rules.specs.Doing.{refusal}
 use Rattle.balise_rules.specs.Accepting.{Unused}
 use Rattle.balise_rules.specs.Paths.{Entry}
 use Rattle.balise_rules.specs.Behind.{serials_behind}
 use Rattle.balise_rules.specs.Addresses.{Command, edit_of}
-use Rattle.balise_rules.specs.Session.{State, Removed, lone, Call, Ask, Undo, Redo, Strike, Done, Undone, Redone, Struck, Refused, held, most_commands, entries, last, later, others, first_dependent, put_back, taken_out, answer, answer_in_time, answer_accepted, answer_edit, answer_undo, answer_redo, answer_strike, answer_dependent, top}
+use Rattle.balise_rules.specs.Session.{State, Removed, lone, Call, Ask, Undo, Redo, Strike, Struck, held, entries, last, later, others, first_dependent, put_back, taken_out, answer, answer_in_time, answer_accepted, answer_edit, answer_undo, answer_redo, answer_strike, answer_dependent, top}
 use Rattle.balise_rules.specs.Journal.{Line, all_back}
 use Rattle.balise_rules.specs.Opening.{item_of, most_serial, last_serial, with_item, with_entry, uncounted}
 use Rattle.balise_rules.proofs.Cases.{unsome}
@@ -25,9 +24,9 @@ use Rattle.balise_strike_laws.specs.Striking.{Standing}
 use Rattle.balise_strike_laws.specs.InSession.{Rising, Between, left_of}
 use Rattle.balise_strike_laws.specs.Redoing.{WasStruck, Redoable, Answer}
 use Rattle.balise_strike_laws.specs.Sessions.{IsSession, SessionsBegin, SessionsKept, OpeningsBegin, OpeningsKept, PlansMade}
-use Rattle.balise_strike_laws.proofs.Replies.{base_kept, base_in_time}
+use Rattle.balise_strike_laws.proofs.Replies.{base_kept, base_in_time, if_in_time}
 use Rattle.balise_strike_laws.proofs.Rising.{rising-between, between-back, between-next, others-above, between-more, between-before}
-use Rattle.balise_strike_laws.proofs.Standing.{standing-next}
+use Rattle.balise_strike_laws.proofs.Strikes.{standing-next}
 use Rattle.balise_strike_laws.proofs.TakenOut.{IsOut, removed, out_struck, out_undone}
 
 -- ---- what a state of a session gives
@@ -125,24 +124,24 @@ in_time Redo s i = redone s i s.stack refl
 in_time (Strike m) s i = struck s m i (find (λ f. eqb m f.0.0) (entries s.base s.standing)) refl
 
 answered : (c : Call) → (s : State) → IsSession s → IsSession (answer c s).1
-answered c s i = by (nat_le most_commands s.count)
-  where
-    by : (b : Bool) → IsSession (cond b (Refused Worn, s) (answer_in_time c s)).1
-    by true = i
-    by false = in_time c s i
+answered c s i = if_in_time (λ (a : Answer). IsSession a.1) c s i (in_time c s i)
 
 pub sessions_kept : SessionsKept
 sessions_kept c r s t i (inl q) = subst (λ (a : Answer). IsSession a.1 × (a.1.base ≡ s.base)) (sym q) (answered c s i, base_kept c s)
 sessions_kept c r s t i (inr w) = (subst IsSession (sym w.2) i, ap (λ (u : State). u.base) w.2)
 
-pub sessions_begin : SessionsBegin
-sessions_begin plan sound untagged = record {
+-- a session in which no edit was made
+begun : (plan : Plan) → (next : ℕ) → IsSound plan → ((n : ℕ) → Unused n plan) → 1 ≤ next → IsSession (record { base = plan; standing = []; stack = []; serial = next; count = 0 })
+begun plan next sound untagged one = record {
   untagged = untagged;
-  first = omega arith;
+  first = one;
   standing = record { sound = sound; unused = tt; spelt = tt; accepted = tt };
   redoable = tt;
   within = tt;
 }
+
+pub sessions_begin : SessionsBegin
+sessions_begin plan sound untagged = begun plan 1 sound untagged (omega arith)
 
 -- ---- journals
 
@@ -150,13 +149,7 @@ pub openings_begin : OpeningsBegin
 openings_begin plan next s sound untagged h =
     let w = when_some (nat_le 1 next && nat_le next most_serial) _ s h in
     let o = and_parts (nat_le 1 next) (nat_le next most_serial) w.0 in
-    subst IsSession (unsome w.1) (record {
-      untagged = untagged;
-      first = leb-true 1 next o.0;
-      standing = record { sound = sound; unused = tt; spelt = tt; accepted = tt };
-      redoable = tt;
-      within = tt;
-    })
+    subst IsSession (unsome w.1) (begun plan next sound untagged (leb-true 1 next o.0))
 
 no_top : (rs : List Removed) → is_none (top rs) ≡ true → rs ≡ []
 no_top [] h = refl
@@ -185,10 +178,7 @@ recounted s n i = record { untagged = i.untagged; first = i.first; standing = i.
 
 uncounted_kept : (s t : State) → (n : ℕ) → (a : Answer) → IsSession a.1 → a.1.base ≡ s.base → uncounted n a ≡ Some t → IsSession t × (t.base ≡ s.base)
 uncounted_kept s t n (Struck m, u) i b h = subst (λ (x : State). IsSession x × (x.base ≡ s.base)) (unsome h) (recounted u n i, b)
-uncounted_kept s t n (Done m, u) i b h = absurd cc
-uncounted_kept s t n (Undone m, u) i b h = absurd cc
-uncounted_kept s t n (Redone m, u) i b h = absurd cc
-uncounted_kept s t n (Refused r, u) i b h = absurd cc
+uncounted_kept s t n (r, u) i b h = absurd cc
 
 pub openings_kept : OpeningsKept
 openings_kept = (entries_kept, λ n s t i h. uncounted_kept s t s.count (answer_in_time (Strike n) s) (in_time (Strike n) s i) (base_in_time (Strike n) s) h)

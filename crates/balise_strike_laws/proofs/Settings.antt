@@ -48,100 +48,96 @@ own_change (serial, DeletePacket g t p) = Take p
 own_change (serial, MovePacket g t p a) = Move p a
 own_change (s, e) = keep
 
--- the names that a setting reads
-pub read-name : (serial : ℕ) → (g : Tag) → (t : ℕ) → (p : Tag) → (v : Var) → (k x : ℕ) → (n : Note) → (f : Item) → (m : Note) →
-    Reads ((serial, SetVar g t p v k x), n) (f, m) → same_var NidBg v ≡ true → (i : Id) → (is : List Id) → n.names ≡ filter is_real is → In i is → Unnamed (f, m) i
-read-name serial g t p v k x n f m r e i is q h w =
-    let z : NidBg ≡ v = var_test.one NidBg v e in
-    r (Whose i ∷ []) (later_of (rw (← z) (in-ids i n.names (rw q (in-real i is w h)))))
+module _ (serial : ℕ) (g : Tag) (t : ℕ) (p : Tag) (v : Var) (k x : ℕ) (n : Note) (f : Item) (m : Note) (r : Reads ((serial, SetVar g t p v k x), n) (f, m)) where
+  -- the names that a setting reads
+  pub read-name : same_var NidBg v ≡ true → (i : Id) → (is : List Id) → n.names ≡ filter is_real is → In i is → Unnamed (f, m) i
+  read-name e i is q h w =
+      let z : NidBg ≡ v = var_test.one NidBg v e in
+      r (Whose i ∷ []) (later_of (rw (← z) (in-ids i n.names (rw q (in-real i is w h)))))
 
-pub read-link : (serial : ℕ) → (g : Tag) → (t : ℕ) → (p : Tag) → (v : Var) → (k x : ℕ) → (n : Note) → (f : Item) → (m : Note) →
-    Reads ((serial, SetVar g t p v k x), n) (f, m) → same_var QLinkorientation v ≡ true → (i : Id) → (is : List Id) → n.names ≡ filter is_real is → In i is →
-    Unnamed (f, m) i
-read-link serial g t p v k x n f m r e i is q h w =
-    let z : QLinkorientation ≡ v = var_test.one QLinkorientation v e in
-    r (Whose i ∷ []) (later_of (rw (← z) (later_of (in-ids i n.names (rw q (in-real i is w h))))))
+  pub read-link : same_var QLinkorientation v ≡ true → (i : Id) → (is : List Id) → n.names ≡ filter is_real is → In i is → Unnamed (f, m) i
+  read-link e i is q h w =
+      let z : QLinkorientation ≡ v = var_test.one QLinkorientation v e in
+      r (Whose i ∷ []) (later_of (rw (← z) (later_of (in-ids i n.names (rw q (in-real i is w h))))))
 
-pub read-link-field : (serial : ℕ) → (g : Tag) → (t : ℕ) → (p : Tag) → (v : Var) → (k x : ℕ) → (n : Note) → (f : Item) → (m : Note) →
-    Reads ((serial, SetVar g t p v k x), n) (f, m) → same_var QLinkorientation v ≡ true → Clear (f, m) (At g ∷ Nth t ∷ At p ∷ Of NidBg ∷ Nth k ∷ [])
-read-link-field serial g t p v k x n f m r e =
-    let z : QLinkorientation ≡ v = var_test.one QLinkorientation v e in
-    r (At g ∷ Nth t ∷ At p ∷ Of NidBg ∷ Nth k ∷ []) (later_of (rw (← z) first_of))
+  pub read-link-field : same_var QLinkorientation v ≡ true → Clear (f, m) (At g ∷ Nth t ∷ At p ∷ Of NidBg ∷ Nth k ∷ [])
+  read-link-field e =
+      let z : QLinkorientation ≡ v = var_test.one QLinkorientation v e in
+      r (At g ∷ Nth t ∷ At p ∷ Of NidBg ∷ Nth k ∷ []) (later_of (rw (← z) first_of))
 
-pub read-dir : (serial : ℕ) → (g : Tag) → (t : ℕ) → (p : Tag) → (v : Var) → (k x : ℕ) → (n : Note) → (f : Item) → (m : Note) →
-    Reads ((serial, SetVar g t p v k x), n) (f, m) → same_var QDir v ≡ true → Clear (f, m) (At g ∷ Turn ∷ [])
-read-dir serial g t p v k x n f m r e =
-    let z : QDir ≡ v = var_test.one QDir v e in
-    r (At g ∷ Turn ∷ []) (later_of (rw (← z) first_of))
+  pub read-dir : same_var QDir v ≡ true → Clear (f, m) (At g ∷ Turn ∷ [])
+  read-dir e =
+      let z : QDir ≡ v = var_test.one QDir v e in
+      r (At g ∷ Turn ∷ []) (later_of (rw (← z) first_of))
 
-module _ (serial : ℕ) (g : Tag) (t : ℕ) (p : Tag) (v : Var) (k x : ℕ) (n : Note) (f : Item) (m : Note) (r : Reads ((serial, SetVar g t p v k x), n) (f, m)) (l : Lawful f.1) (own : RealOwn (f, m)) (c : ℕ) (z : Packet) (u : ℕ) (fu : find same_key (v, k) z.fields ≡ Some u) where
-  -- the element's identity, with this number
-  abbrev called : ℕ → Id
-  called u1 = identity (country_at c k z.fields) u1
+  module _ (l : Lawful f.1) (own : RealOwn (f, m)) (c : ℕ) (z : Packet) (u : ℕ) (fu : find same_key (v, k) z.fields ≡ Some u) where
+    -- the element's identity, with this number
+    abbrev called : ℕ → Id
+    called u1 = identity (country_at c k z.fields) u1
 
-  abbrev pub fs1 : Fields
-  fs1 = each (field_after f.1 m.own g t c p z.fields) z.fields
+    abbrev pub fs1 : Fields
+    fs1 = each (field_after f.1 m.own g t c p z.fields) z.fields
 
-  country-same : country_at c k fs1 ≡ country_at c k z.fields
-  country-same = country_stays f.1 l m.own g t c p k z.fields
+    country-same : country_at c k fs1 ≡ country_at c k z.fields
+    country-same = country_stays f.1 l m.own g t c p k z.fields
 
-  value-is : (w : Var) → value w k fs1 ≡ unwrap_or (option_map (field_after f.1 m.own g t c p z.fields (w, k)) (find same_key (w, k) z.fields)) 0
-  value-is w = value-each (field_after f.1 m.own g t c p z.fields) w k z.fields
+    value-is : (w : Var) → value w k fs1 ≡ unwrap_or (option_map (field_after f.1 m.own g t c p z.fields (w, k)) (find same_key (w, k) z.fields)) 0
+    value-is w = value-each (field_after f.1 m.own g t c p z.fields) w k z.fields
 
-  -- the link's identity, where the orientation is set
-  link-from : (same_var QLinkorientation v ≡ true → RenApart f m (called (value NidBg k z.fields))) → same_var QLinkorientation v ≡ true →
-      value NidBg k fs1 ≡ value NidBg k z.fields
-  link-from a e = value-is NidBg ∙ found (find same_key (NidBg, k) z.fields) (λ o. simp o)
-      (λ w o. let b : RenApart f m (called w) = subst (λ i. RenApart f m (called (unwrap_or i 0))) o (a e) in
-      simp o (field-kept f m g t c p z.fields NidBg k w (read-link-field serial g t p v k x n f m r e) (λ d. b) (λ d. absurd (false≢true d)) (λ d. absurd (false≢true d))))
+    -- the link's identity, where the orientation is set
+    link-from : (same_var QLinkorientation v ≡ true → RenApart f m (called (value NidBg k z.fields))) → same_var QLinkorientation v ≡ true →
+        value NidBg k fs1 ≡ value NidBg k z.fields
+    link-from a e = value-is NidBg ∙ found (find same_key (NidBg, k) z.fields) (λ o. simp o)
+        (λ w o. let b : RenApart f m (called w) = subst (λ i. RenApart f m (called (unwrap_or i 0))) o (a e) in
+        simp o (field-kept f m g t c p z.fields NidBg k w (read-link-field e) (λ d. b) (λ d. absurd (false≢true d)) (λ d. absurd (false≢true d))))
 
-  value-from : (same_var NidBg v ≡ true → RenApart f m (called u)) →
-      (same_var QLinkorientation v ≡ true → (w : ℕ) → find same_key (NidBg, k) z.fields ≡ Some w → Unnamed (f, m) (called w)) →
-      field_after f.1 m.own g t c p z.fields (v, k) u ≡ u
-  value-from a b = field-kept f m g t c p z.fields v k u (r (At g ∷ Nth t ∷ At p ∷ Of v ∷ Nth k ∷ []) first_of) a
-      (λ e. turn-apart f m c k z.fields own (b e)) (read-dir serial g t p v k x n f m r)
+    value-from : (same_var NidBg v ≡ true → RenApart f m (called u)) →
+        (same_var QLinkorientation v ≡ true → (w : ℕ) → find same_key (NidBg, k) z.fields ≡ Some w → Unnamed (f, m) (called w)) →
+        field_after f.1 m.own g t c p z.fields (v, k) u ≡ u
+    value-from a b = field-kept f m g t c p z.fields v k u (r (At g ∷ Nth t ∷ At p ∷ Of v ∷ Nth k ∷ []) first_of) a
+        (λ e. turn-apart f m c k z.fields own (b e)) (read-dir)
 
-  note-from : field_after f.1 m.own g t c p z.fields (v, k) u ≡ u → (same_var QLinkorientation v ≡ true → value NidBg k fs1 ≡ value NidBg k z.fields) →
-      set_note v k x c (Some (packet_after f.1 m.own g t c p z)) ≡ set_note v k x c (Some z)
-  note-from a b = ap (λ o. record nothing { old = o; names = names_set v k x c fs1 }) values ∙ ap (λ ns. record nothing { old = value v k z.fields; names = ns }) lists where
-    values : value v k fs1 ≡ value v k z.fields
-    values = value-is v ∙ simp fu a
+    note-from : field_after f.1 m.own g t c p z.fields (v, k) u ≡ u → (same_var QLinkorientation v ≡ true → value NidBg k fs1 ≡ value NidBg k z.fields) →
+        set_note v k x c (Some (packet_after f.1 m.own g t c p z)) ≡ set_note v k x c (Some z)
+    note-from a b = ap (λ o. record nothing { old = o; names = names_set v k x c fs1 }) values ∙ ap (λ ns. record nothing { old = value v k z.fields; names = ns }) lists where
+      values : value v k fs1 ≡ value v k z.fields
+      values = value-is v ∙ simp fu a
 
-    lists : names_set v k x c fs1 ≡ names_set v k x c z.fields
-    lists = split_on (same_var NidBg v) (λ e. simp (e, country-same, values)) (λ e. split_on (same_var QLinkorientation v) (λ d. let q = b d in simp (e, d, country-same, q)) (λ d. simp (e, d)))
+      lists : names_set v k x c fs1 ≡ names_set v k x c z.fields
+      lists = split_on (same_var NidBg v) (λ e. simp (e, country-same, values)) (λ e. split_on (same_var QLinkorientation v) (λ d. let q = b d in simp (e, d, country-same, q)) (λ d. simp (e, d)))
 
-  bg-not : same_var QLinkorientation v ≡ true → same_var NidBg v ≡ false
-  bg-not e = let q : QLinkorientation ≡ v = var_test.one QLinkorientation v e in rw (← q) refl
+    bg-not : same_var QLinkorientation v ≡ true → same_var NidBg v ≡ false
+    bg-not e = let q : QLinkorientation ≡ v = var_test.one QLinkorientation v e in rw (← q) refl
 
-  pub set-forward : n.names ≡ names_set v k x c z.fields → set_note v k x c (Some (packet_after f.1 m.own g t c p z)) ≡ set_note v k x c (Some z)
-  set-forward ns = note-from (value-from (λ e. ren-apart f m (called u) own (bg e)) (λ e w o. subst (λ i. Unnamed (f, m) (called (unwrap_or i 0))) o (link e)))
-      (link-from (λ e. ren-apart f m (called (value NidBg k z.fields)) own (link e)))
-    where
-      bg : same_var NidBg v ≡ true → Unnamed (f, m) (called u)
-      bg e = subst (λ i. Unnamed (f, m) (called (unwrap_or i 0))) fu (read-name serial g t p v k x n f m r e (called (value v k z.fields)) (called (value v k z.fields) ∷ (called x) ∷ []) (ns ∙ simp e) first_of)
+    pub set-forward : n.names ≡ names_set v k x c z.fields → set_note v k x c (Some (packet_after f.1 m.own g t c p z)) ≡ set_note v k x c (Some z)
+    set-forward ns = note-from (value-from (λ e. ren-apart f m (called u) own (bg e)) (λ e w o. subst (λ i. Unnamed (f, m) (called (unwrap_or i 0))) o (link e)))
+        (link-from (λ e. ren-apart f m (called (value NidBg k z.fields)) own (link e)))
+      where
+        bg : same_var NidBg v ≡ true → Unnamed (f, m) (called u)
+        bg e = subst (λ i. Unnamed (f, m) (called (unwrap_or i 0))) fu (read-name e (called (value v k z.fields)) (called (value v k z.fields) ∷ (called x) ∷ []) (ns ∙ simp e) first_of)
 
-      link : same_var QLinkorientation v ≡ true → Unnamed (f, m) (called (value NidBg k z.fields))
-      link e = let d = bg-not e in read-link serial g t p v k x n f m r e (called (value NidBg k z.fields)) (called (value NidBg k z.fields) ∷ []) (ns ∙ simp (d, e)) first_of
+        link : same_var QLinkorientation v ≡ true → Unnamed (f, m) (called (value NidBg k z.fields))
+        link e = let d = bg-not e in read-link e (called (value NidBg k z.fields)) (called (value NidBg k z.fields) ∷ []) (ns ∙ simp (d, e)) first_of
 
-  pub set-back : n.names ≡ names_set v k x c fs1 → set_note v k x c (Some (packet_after f.1 m.own g t c p z)) ≡ set_note v k x c (Some z)
-  set-back ns = note-from (value-from (λ e. ren-apart-back f m g t c p z.fields v k u e l (bg e))
-      (λ e w o. subst (λ i. Unnamed (f, m) (called (unwrap_or i 0))) o (subst (λ i. Unnamed (f, m) (called i)) (kept e) (link e))))
-      kept
-    where
-      bg : same_var NidBg v ≡ true → Unnamed (f, m) (called (field_after f.1 m.own g t c p z.fields (v, k) u))
-      bg e =
-          let a = read-name serial g t p v k x n f m r e (identity (country_at c k fs1) (value v k fs1)) ((identity (country_at c k fs1) (value v k fs1)) ∷ (identity (country_at c k fs1) x) ∷ []) (ns ∙ simp e) first_of in
-          let b = subst (λ i. Unnamed (f, m) (identity i (value v k fs1))) country-same a in
-          subst (λ i. Unnamed (f, m) (called i)) (value-is v ∙ simp fu) b
+    pub set-back : n.names ≡ names_set v k x c fs1 → set_note v k x c (Some (packet_after f.1 m.own g t c p z)) ≡ set_note v k x c (Some z)
+    set-back ns = note-from (value-from (λ e. ren-apart-back f m g t c p z.fields v k u e l (bg e))
+        (λ e w o. subst (λ i. Unnamed (f, m) (called (unwrap_or i 0))) o (subst (λ i. Unnamed (f, m) (called i)) (kept e) (link e))))
+        kept
+      where
+        bg : same_var NidBg v ≡ true → Unnamed (f, m) (called (field_after f.1 m.own g t c p z.fields (v, k) u))
+        bg e =
+            let a = read-name e (identity (country_at c k fs1) (value v k fs1)) ((identity (country_at c k fs1) (value v k fs1)) ∷ (identity (country_at c k fs1) x) ∷ []) (ns ∙ simp e) first_of in
+            let b = subst (λ i. Unnamed (f, m) (identity i (value v k fs1))) country-same a in
+            subst (λ i. Unnamed (f, m) (called i)) (value-is v ∙ simp fu) b
 
-      link : same_var QLinkorientation v ≡ true → Unnamed (f, m) (called (value NidBg k fs1))
-      link e = let d = bg-not e in
-          let a = read-link serial g t p v k x n f m r e (identity (country_at c k fs1) (value NidBg k fs1)) ((identity (country_at c k fs1) (value NidBg k fs1)) ∷ []) (ns ∙ simp (d, e)) first_of in
-          subst (λ i. Unnamed (f, m) (identity i (value NidBg k fs1))) country-same a
+        link : same_var QLinkorientation v ≡ true → Unnamed (f, m) (called (value NidBg k fs1))
+        link e = let d = bg-not e in
+            let a = read-link e (identity (country_at c k fs1) (value NidBg k fs1)) ((identity (country_at c k fs1) (value NidBg k fs1)) ∷ []) (ns ∙ simp (d, e)) first_of in
+            subst (λ i. Unnamed (f, m) (identity i (value NidBg k fs1))) country-same a
 
-      kept : same_var QLinkorientation v ≡ true → value NidBg k fs1 ≡ value NidBg k z.fields
-      kept e = link-from (λ d. found (find same_key (NidBg, k) z.fields)
-          (λ o. let q : value NidBg k fs1 ≡ value NidBg k z.fields = value-is NidBg ∙ simp o in ren-apart f m (called (value NidBg k z.fields)) own (subst (λ i. Unnamed (f, m) (called i)) q (link d)))
-          (λ w o. let q : value NidBg k fs1 ≡ field_after f.1 m.own g t c p z.fields (NidBg, k) w = value-is NidBg ∙ simp o in
-          let b = ren-apart-back f m g t c p z.fields NidBg k w refl l (subst (λ i. Unnamed (f, m) (called i)) q (link d)) in
-          subst (λ i. RenApart f m (called (unwrap_or i 0))) (sym o) b)) e
+        kept : same_var QLinkorientation v ≡ true → value NidBg k fs1 ≡ value NidBg k z.fields
+        kept e = link-from (λ d. found (find same_key (NidBg, k) z.fields)
+            (λ o. let q : value NidBg k fs1 ≡ value NidBg k z.fields = value-is NidBg ∙ simp o in ren-apart f m (called (value NidBg k z.fields)) own (subst (λ i. Unnamed (f, m) (called i)) q (link d)))
+            (λ w o. let q : value NidBg k fs1 ≡ field_after f.1 m.own g t c p z.fields (NidBg, k) w = value-is NidBg ∙ simp o in
+            let b = ren-apart-back f m g t c p z.fields NidBg k w refl l (subst (λ i. Unnamed (f, m) (called i)) q (link d)) in
+            subst (λ i. RenApart f m (called (unwrap_or i 0))) (sym o) b)) e

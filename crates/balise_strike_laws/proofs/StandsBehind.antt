@@ -2,8 +2,8 @@
 -- Proves the law of later neighbours from its three cases.
 -- From the path of what was put in, which is that of the later edit's anchor.
 use Rattle.balise_rules.specs.Paths.{any_meets}
-use Rattle.balise_rules.specs.Behind.{put_in, anchored_on, same_path, one_path, behind_path, changes_but, stands_behind, re_anchored}
-use Rattle.std.proofs.Common.{◌≡◌, ℕ, Bool, true, false, ◌&&◌, not, eqb, List, [], ◌∷◌, ◌++◌, filter, Option, Some, None, refl, subst, ◌∙◌}
+use Rattle.balise_rules.specs.Behind.{put_in, anchored_on, same_path, one_path, behind_path, changes_but, stands_behind}
+use Rattle.std.proofs.Common.{◌≡◌, ℕ, Bool, true, false, ◌&&◌, not, eqb, List, [], ◌∷◌, ◌++◌, Option, Some, None, refl, subst, ◌∙◌}
 use Rattle.std.proofs.lemmas.Bool.{and_parts, false≢true, not-true}
 use Rattle.balise_rules.specs.declared.tag.Tag.{Tag}
 use Rattle.balise_rules.specs.declared.tag.Tag.TheVariants.{Fresh}
@@ -17,20 +17,16 @@ use Rattle.balise_rules.specs.Edits.{Item, group_of}
 use Rattle.balise_rules.specs.declared.tagged_edit.TaggedEdit.TheVariants.{InsertPacket, MovePacket, AddGroup}
 use Rattle.balise_rules.specs.Notes.{Note, noted}
 use Rattle.balise_rules.specs.Doing.{done}
-use Rattle.balise_rules.specs.Accepting.{AcceptedAt, Accepted}
+use Rattle.balise_rules.specs.Accepting.{AcceptedAt}
 use Rattle.balise_rules.specs.Paths.{At, Nth, After, Whose, Path, meet, anchor, Entry, changes, needs, room_apart}
-use Rattle.balise_rules.proofs.Tests.{split_on, flip_no, tag_test, nat_test}
+use Rattle.balise_rules.proofs.Tests.{flip_no, tag_test, nat_test}
 use Rattle.balise_rules.proofs.Cases.{parts4}
 use Rattle.balise_strike_laws.proofs.Places.{In, first_of, later_of, in-left, in-right, in-either, side_apart}
 use Rattle.balise_strike_laws.specs.Laws.{InTurn, CommutesBehind, CommutingBehind}
 use Rattle.balise_strike_laws.proofs.Places.{meet-sym, any_meets-false}
 use Rattle.balise_strike_laws.proofs.Facts.{facts}
-use Rattle.balise_strike_laws.proofs.Behind.{Behind, insert-behind, move-behind, add-behind}
-
-in-filter : {A : Type 0} → (test : A → Bool) → (x : A) → (xs : List A) → test x ≡ true → In x xs → In x (filter test xs)
-in-filter test x [] n h = elim h [ ]
-in-filter test x (y ∷ ys) n (first_of) = simp n first_of
-in-filter test x (y ∷ ys) n (later_of h) = split_on (test y) (λ e. simp e (later_of (in-filter test x ys n h))) (λ e. simp e (in-filter test x ys n h))
+use Rattle.balise_strike_laws.proofs.Behind.{insert-behind, move-behind, add-behind}
+use Rattle.balise_strike_laws.proofs.Named.{in-filter}
 
 -- no place that e changes meets one that f changes or needs, but for the side after what e puts in; nor does one that e needs meet one that f changes
 pub record ApartBut (e f : Entry) : Type 0 where
@@ -49,17 +45,14 @@ stands_behind-parts e f h =
       },
     )
 
-from-behind : (e f : Item) → (plan : Plan) → Behind e f (re_anchored e f) plan → CommutesBehind e f plan
-from-behind e f plan b = record { second_first = b.second_first; second_notes = b.second_notes; first_then = b.first_then; first_notes = b.first_notes; same_plan = b.same_plan }
-
 -- the law, as a fact of two edits on a plan
 abbrev Law : Item → Item → Plan → Type 0
 Law e f plan = InTurn e f plan → stands_behind (e, noted e.1 plan) (f, noted f.1 (done e plan)) ≡ true → CommutesBehind e f plan
 
 insert-insert : (s0 : ℕ) → (g : Tag) → (t : ℕ) → (a : Option Tag) → (x : Packet) → (s1 : ℕ) → (x1 : Packet) → (plan : Plan) →
     Law (s0, InsertPacket g t a x) (s1, InsertPacket g t (Some (Fresh s0)) x1) plan
-insert-insert s0 g t a x s1 x1 plan h far = from-behind (s0, InsertPacket g t a x) (s1, InsertPacket g t (Some (Fresh s0)) x1) plan
-    (insert-behind s0 g t a x s1 plan (facts plan h.sound) h.first_unused h.second_unused h.first_accepted x1 h.second_accepted)
+insert-insert s0 g t a x s1 x1 plan h far =
+    insert-behind s0 g t a x s1 plan (facts plan h.sound) h.first_unused h.second_unused h.first_accepted x1 h.second_accepted
 
 -- a move is to another place than the anchor of the insertion
 moved_apart : (s0 : ℕ) → (g : Tag) → (t : ℕ) → (a : Option Tag) → (x : Packet) → (s1 : ℕ) → (p : Tag) → (n m : Note) → same_tag p (Fresh s0) ≡ false →
@@ -78,15 +71,12 @@ insert-move s0 g t a x s1 p plan h far =
     let e : Item = (s0, InsertPacket g t a x) in
     let f : Item = (s1, MovePacket g t p (Some (Fresh s0))) in
     let w = stands_behind-parts (e, noted e.1 plan) (f, noted f.1 (done e plan)) far in
-    from-behind e f plan (move-behind s0 g t a x s1 plan (facts plan h.sound) h.first_unused h.second_unused h.first_accepted p
-    (moved_apart s0 g t a x s1 p (noted e.1 plan) (noted f.1 (done e plan)) (other_packet h.second_accepted) w.1) h.second_accepted)
+    move-behind s0 g t a x s1 plan (facts plan h.sound) h.first_unused h.second_unused h.first_accepted p
+    (moved_apart s0 g t a x s1 p (noted e.1 plan) (noted f.1 (done e plan)) (other_in (telegram_at g t (done e plan)) h.second_accepted.1) w.1) h.second_accepted
   where
     other_in : (o : Option Telegram) → AcceptedAt (MovePacket g t p (Some (Fresh s0))) o → same_tag p (Fresh s0) ≡ false
     other_in None k = absurd k
     other_in (Some y) k = flip_no tag_test (Fresh s0) p k.2
-
-    other_packet : Accepted (MovePacket g t p (Some (Fresh s0))) (done (s0, InsertPacket g t a x) plan) → same_tag p (Fresh s0) ≡ false
-    other_packet k = other_in (telegram_at g t (done (s0, InsertPacket g t a x) plan)) k.1
 
 -- a group after an added one
 module _ (s0 : ℕ) (a : Option Tag) (bs : List (List Bool)) (s1 : ℕ) (cs : List (List Bool)) (plan : Plan) where
@@ -132,7 +122,7 @@ module _ (s0 : ℕ) (a : Option Tag) (bs : List (List Bool)) (s1 : ℕ) (cs : Li
       let e : Item = (s0, AddGroup a bs) in
       let f : Item = (s1, AddGroup (Some (Fresh s0)) cs) in
       let w = stands_behind-parts (e, noted e.1 plan) (f, noted f.1 (done e plan)) far in
-      from-behind e f plan (add-behind s0 a bs s1 cs plan (facts plan h.sound) h.first_unused h.second_unused (first-clear w.1) (second-clear w.1) h.first_accepted h.second_accepted)
+      add-behind s0 a bs s1 cs plan (facts plan h.sound) h.first_unused h.second_unused (first-clear w.1) (second-clear w.1) h.first_accepted h.second_accepted
 
 -- one path: the telegram of the insertion, and what it put in
 path_packet : (P : Tag → ℕ → Tag → Type 0) → (g g1 : Tag) → (t t1 : ℕ) → (z b : Tag) → same_path (At g ∷ Nth t ∷ At z ∷ []) (At g1 ∷ Nth t1 ∷ At b ∷ []) ≡ true →
@@ -145,23 +135,18 @@ pub no_end : (b : Bool) → (b && false) ≡ true → ⊥
 no_end true h = false≢true h
 no_end false h = false≢true h
 
+-- the law where the later edit is anchored on what the first put in
+on_its_own : (e f : Item) → (plan : Plan) → one_path (put_in e) (anchored_on f) ≡ true → Law e f plan
+on_its_own (s0, InsertPacket g t a x) (s1, InsertPacket g1 t1 (Some b) x1) plan q =
+    path_packet (λ u i c. Law (s0, InsertPacket g t a x) (s1, InsertPacket u i (Some c) x1) plan) g g1 t t1 (Fresh s0) b q (insert-insert s0 g t a x s1 x1 plan)
+on_its_own (s0, InsertPacket g t a x) (s1, MovePacket g1 t1 p (Some b)) plan q =
+    path_packet (λ u i c. Law (s0, InsertPacket g t a x) (s1, MovePacket u i p (Some c)) plan) g g1 t t1 (Fresh s0) b q (insert-move s0 g t a x s1 p plan)
+on_its_own (s0, AddGroup a bs) (s1, AddGroup (Some b) cs) plan q =
+    subst (λ c. Law (s0, AddGroup a bs) (s1, AddGroup (Some c) cs) plan) (tag_test.one (Fresh s0) b (and_parts (same_tag (Fresh s0) b) true q).0) (add-add s0 a bs s1 cs plan)
+on_its_own (s0, InsertPacket g t a x) (s1, AddGroup (Some b) cs) plan q = absurd (no_end (same_tag g b) q)
+on_its_own (s0, AddGroup a bs) (s1, InsertPacket g t (Some b) x) plan q = absurd (no_end (same_tag (Fresh s0) g) q)
+on_its_own (s0, AddGroup a bs) (s1, MovePacket g t p (Some b)) plan q = absurd (no_end (same_tag (Fresh s0) g) q)
+on_its_own (s0, e) (s1, f) plan q = absurd (false≢true q)
+
 pub commuting_behind : CommutingBehind
-commuting_behind (s0, InsertPacket g t a x) (s1, InsertPacket g1 t1 (Some b) x1) plan h far =
-    path_packet (λ u i c. Law (s0, InsertPacket g t a x) (s1, InsertPacket u i (Some c) x1) plan) g g1 t t1 (Fresh s0) b
-    (stands_behind-parts ((s0, InsertPacket g t a x), noted (InsertPacket g t a x) plan) ((s1, InsertPacket g1 t1 (Some b) x1), noted (InsertPacket g1 t1 (Some b) x1) (done (s0, InsertPacket g t a x) plan)) far).0
-    (insert-insert s0 g t a x s1 x1 plan) h far
-commuting_behind (s0, InsertPacket g t a x) (s1, MovePacket g1 t1 p (Some b)) plan h far =
-    path_packet (λ u i c. Law (s0, InsertPacket g t a x) (s1, MovePacket u i p (Some c)) plan) g g1 t t1 (Fresh s0) b
-    (stands_behind-parts ((s0, InsertPacket g t a x), noted (InsertPacket g t a x) plan) ((s1, MovePacket g1 t1 p (Some b)), noted (MovePacket g1 t1 p (Some b)) (done (s0, InsertPacket g t a x) plan)) far).0
-    (insert-move s0 g t a x s1 p plan) h far
-commuting_behind (s0, AddGroup a bs) (s1, AddGroup (Some b) cs) plan h far =
-    subst (λ c. Law (s0, AddGroup a bs) (s1, AddGroup (Some c) cs) plan)
-    (tag_test.one (Fresh s0) b (and_parts (same_tag (Fresh s0) b) true (stands_behind-parts ((s0, AddGroup a bs), noted (AddGroup a bs) plan) ((s1, AddGroup (Some b) cs), noted (AddGroup (Some b) cs) (done (s0, AddGroup a bs) plan)) far).0).0)
-    (add-add s0 a bs s1 cs plan) h far
-commuting_behind (s0, InsertPacket g t a x) (s1, AddGroup (Some b) cs) plan h far =
-    absurd (no_end (same_tag g b) (stands_behind-parts ((s0, InsertPacket g t a x), noted (InsertPacket g t a x) plan) ((s1, AddGroup (Some b) cs), noted (AddGroup (Some b) cs) (done (s0, InsertPacket g t a x) plan)) far).0)
-commuting_behind (s0, AddGroup a bs) (s1, InsertPacket g t (Some b) x) plan h far =
-    absurd (no_end (same_tag (Fresh s0) g) (stands_behind-parts ((s0, AddGroup a bs), noted (AddGroup a bs) plan) ((s1, InsertPacket g t (Some b) x), noted (InsertPacket g t (Some b) x) (done (s0, AddGroup a bs) plan)) far).0)
-commuting_behind (s0, AddGroup a bs) (s1, MovePacket g t p (Some b)) plan h far =
-    absurd (no_end (same_tag (Fresh s0) g) (stands_behind-parts ((s0, AddGroup a bs), noted (AddGroup a bs) plan) ((s1, MovePacket g t p (Some b)), noted (MovePacket g t p (Some b)) (done (s0, AddGroup a bs) plan)) far).0)
-commuting_behind (s0, e) (s1, f) plan h far = absurd (false≢true far)
+commuting_behind e f plan h far = on_its_own e f plan (stands_behind-parts (e, noted e.1 plan) (f, noted f.1 (done e plan)) far).0 h far

@@ -12,9 +12,9 @@ use Rattle.balise_rules.specs.Forms.{Fields}
 use Rattle.balise_rules.specs.Packet.{Packet}
 use Rattle.balise_rules.specs.Telegram.{Telegram}
 use Rattle.balise_rules.specs.Plan.{Group, country_of}
-use Rattle.balise_rules.specs.Names.{links_among, names_of, names_in_packets, names_in}
+use Rattle.balise_rules.specs.Names.{links_among, names_in_packets, names_in}
 use Rattle.balise_rules.specs.Edits.{Edit, Item, group_after, in_order, telegram_after, packet_after, head_after, packets_change}
-use Rattle.balise_rules.specs.declared.tagged_edit.TaggedEdit.TheVariants.{SetVar, SetHead, InsertPacket, DeletePacket, MovePacket, AddGroup, DropGroup, Renumber, TurnGroup}
+use Rattle.balise_rules.specs.declared.tagged_edit.TaggedEdit.TheVariants.{SetVar, SetHead, InsertPacket, DeletePacket, MovePacket, Renumber, TurnGroup}
 use Rattle.balise_rules.specs.Notes.{Note}
 use Rattle.balise_rules.specs.Accepting.{Lawful}
 use Rattle.balise_rules.specs.Paths.{At, Nth, Of, Front, Turn, Name, Head}
@@ -23,12 +23,13 @@ use Rattle.balise_rules.proofs.Each.{each-id, each-same}
 use Rattle.balise_strike_laws.proofs.Cases.{drop1}
 use Rattle.balise_strike_laws.proofs.Headers.{country-kept}
 use Rattle.balise_strike_laws.proofs.Levels.{Inner}
-use Rattle.balise_strike_laws.proofs.Places.{In, first_of, later_of, in-left, in-right, Clear, clear-longer}
+use Rattle.balise_strike_laws.proofs.Places.{In, first_of, later_of, Clear, clear-longer}
 use Rattle.balise_strike_laws.proofs.Named.{in-real}
 use Rattle.balise_strike_laws.proofs.Writers.{packet-id}
 use Rattle.balise_strike_laws.proofs.Kept.{Unnamed, RealOwn, NamesApart, names-apart, names-apart-back, packet-same}
 use Rattle.balise_strike_laws.proofs.Settings.{lawful-head}
 use Rattle.balise_strike_laws.proofs.Readers.{home}
+use Rattle.balise_strike_laws.proofs.NamesThere.{in-packets-at, in-group-at}
 
 pub each-in : {K A : Type 0} → (h : K → A → A) → (xs : List (K × A)) → ((t : K) → (x : A) → In (t, x) xs → h t x ≡ x) → each h xs ≡ xs
 each-in h [] k = refl
@@ -43,15 +44,12 @@ other-group (serial1, DeletePacket g1 t1 p1) m g k h = drop1 (same_tag g1 g) (k 
 other-group (serial1, MovePacket g1 t1 p1 a1) m g k h = drop1 (same_tag g1 g) (k (At g1 ∷ Nth t1 ∷ At p1 ∷ Front ∷ []) first_of)
 other-group (serial1, Renumber g1 x1) m g k h = drop1 (same_tag g1 g) (k (At g1 ∷ Name ∷ []) first_of)
 other-group (serial1, TurnGroup g1) m g k h = drop1 (same_tag g1 g) (k (At g1 ∷ Turn ∷ []) first_of)
-other-group (s1, AddGroup a1 bs1) m g k h = absurd h
-other-group (serial1, DropGroup g1) m g k h = absurd h
+other-group e m g k h = absurd h
 
 head-still : (f : Edit) → Inner f → (g : Tag) → (t : ℕ) → (hs : Fields) → same_tag (home f).0 g ≡ false → each (head_after f g t hs) hs ≡ hs
 head-still (SetHead g1 t1 v1 x1) i g t hs n = each-same (head_after (SetHead g1 t1 v1 x1) g t hs) hs (λ key v. split_on (same_key (v1, 0) key) (λ e. simp (e, n)) (λ e. simp e))
 head-still (Renumber g1 x1) i g t hs n = each-same (head_after (Renumber g1 x1) g t hs) hs (λ key v. split_on (is_of NidBg key) (λ e. simp (e, n)) (λ e. simp e))
 head-still (TurnGroup g1) i g t hs n = each-same (head_after (TurnGroup g1) g t hs) hs (λ key v. split_on (is_of MDup key) (λ e. split_on (is_of NPig key) (λ d. simp (e, d, n)) (λ d. simp (e, d, n))) (λ e. split_on (is_of NPig key) (λ d. simp (e, d, n)) (λ d. simp (e, d))))
-head-still (AddGroup a1 bs1) i g t hs n = absurd i
-head-still (DropGroup g1) i g t hs n = absurd i
 head-still e i g t hs n = each-id hs
 
 -- elsewhere each edit works field by field
@@ -79,16 +77,6 @@ module _ (f : Item) (m : Note) (g : Tag) (k : Clear (f, m) (At g ∷ [])) (h : I
       group_after f m.own g xs ≡ xs
   group-same xs n = order-still f.1 g (each (telegram_after f m.own g) xs) h (other-group f m g k h) ∙ each-in (telegram_after f m.own g) xs (λ t y i. telegram-same t y (n t y i))
 
-in-packets-at : (c : ℕ) → (ps : List (Tag × Packet)) → (p : Tag) → (z : Packet) → In (p, z) ps → (q : Id) → In q (names_of c z) → In q (names_in_packets c ps)
-in-packets-at c [] p z i q j = elim i [ ]
-in-packets-at c ((p1, z1) ∷ ps) p z (first_of) q j = in-left q (names_of c z1) (names_in_packets c ps) j
-in-packets-at c (w ∷ ps) p z (later_of i) q j = in-right q (names_of c w.1) (names_in_packets c ps) (in-packets-at c ps p z i q j)
-
-in-group-at : (xs : Group) → (t : ℕ) → (y : Telegram) → In (t, y) xs → (q : Id) → In q (names_in_packets (country_of y) y.packets) → In q (names_in xs)
-in-group-at [] t y i q j = elim i [ ]
-in-group-at ((t1, y1) ∷ xs) t y (first_of) q j = in-left q (names_in_packets (country_of y1) y1.packets) (names_in xs) j
-in-group-at (w ∷ xs) t y (later_of i) q j = in-right q (names_in_packets (country_of w.1) w.1.packets) (names_in xs) (in-group-at xs t y i q j)
-
 in-each : {K A : Type 0} → (h : K → A → A) → (xs : List (K × A)) → (t : K) → (x : A) → In (t, x) xs → In (t, h t x) (each h xs)
 in-each h [] t x i = elim i [ ]
 in-each h ((t1, x1) ∷ xs) t x (first_of) = first_of
@@ -104,14 +92,10 @@ group-same-names f m r g k h xs n = group-same f m g k h xs (λ t y i p z j. nam
 pub group-same-after : (f : Item) → (m : Note) → RealOwn (f, m) → Lawful f.1 → (g : Tag) → Clear (f, m) (At g ∷ []) → Inner f.1 → (xs : Group) →
     ((q : Id) → In q (names_in (group_after f m.own g xs)) → Unnamed (f, m) q) → group_after f m.own g xs ≡ xs
 group-same-after f m r l g k h xs n = group-same f m g k h xs (λ t y i p z j. names-apart-back f m g t (country_of y) p z.fields r l
-    (λ q w e. n q (there t y i p z j q (in-real q (links_among (country_of y) (packet_after f.1 m.own g t (country_of y) p z).fields (packet_after f.1 m.own g t (country_of y) p z).fields) e w)) e))
-  where
-    there : (t : ℕ) → (y : Telegram) → In (t, y) xs → (p : Tag) → (z : Packet) → In (p, z) y.packets → (q : Id) →
-        In q (names_of (country_of y) (packet_after f.1 m.own g t (country_of y) p z)) → In q (names_in (group_after f m.own g xs))
-    there t y i p z j q w =
-        let o = other-group f m g k h in
-        let w1 = in-packets-at (country_of y) (each (packet_after f.1 m.own g t (country_of y)) y.packets) p (packet_after f.1 m.own g t (country_of y) p z) (in-each (packet_after f.1 m.own g t (country_of y)) y.packets p z j) q w in
-        let w2 = subst (λ ps. In q (names_in_packets (country_of y) ps)) (sym (packets-each f h m.own g t (country_of y) y.packets o)) w1 in
-        let w3 = subst (λ c. In q (names_in_packets c (telegram_after f m.own g t y).packets)) (sym (country-kept f.1 (lawful-head f.1 l) g t y.head)) w2 in
-        subst (λ u. In q (names_in u)) (sym (order-still f.1 g (each (telegram_after f m.own g) xs) h o))
-        (in-group-at (each (telegram_after f m.own g) xs) t (telegram_after f m.own g t y) (in-each (telegram_after f m.own g) xs t y i) q w3)
+    (λ q w e. let v = in-real q (links_among (country_of y) (packet_after f.1 m.own g t (country_of y) p z).fields (packet_after f.1 m.own g t (country_of y) p z).fields) e w in
+    let o = other-group f m g k h in
+    let w1 = in-packets-at (country_of y) (each (packet_after f.1 m.own g t (country_of y)) y.packets) p (packet_after f.1 m.own g t (country_of y) p z) (in-each (packet_after f.1 m.own g t (country_of y)) y.packets p z j) q v in
+    let w2 = subst (λ ps. In q (names_in_packets (country_of y) ps)) (sym (packets-each f h m.own g t (country_of y) y.packets o)) w1 in
+    let w3 = subst (λ c. In q (names_in_packets c (telegram_after f m.own g t y).packets)) (sym (country-kept f.1 (lawful-head f.1 l) g t y.head)) w2 in
+    n q (subst (λ u. In q (names_in u)) (sym (order-still f.1 g (each (telegram_after f m.own g) xs) h o))
+    (in-group-at (each (telegram_after f m.own g) xs) t (telegram_after f m.own g t y) (in-each (telegram_after f m.own g) xs t y i) q w3)) e))

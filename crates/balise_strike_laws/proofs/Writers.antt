@@ -15,7 +15,7 @@ use Rattle.balise_rules.specs.Edits.{Item, telegram_after, packet_after, packets
 use Rattle.balise_rules.specs.declared.tagged_edit.TaggedEdit.TheVariants.{InsertPacket, DeletePacket, MovePacket}
 use Rattle.balise_rules.specs.Notes.{Note}
 use Rattle.balise_rules.specs.Paths.{At, Nth, After, Front, Path, same_part, anchor, neighbour}
-use Rattle.balise_rules.proofs.Tests.{split_on, split_keys, flip_no, flip_spot, tag_test}
+use Rattle.balise_rules.proofs.Tests.{split_keys, flip_no, flip_spot, tag_test}
 use Rattle.balise_rules.proofs.Lists.{find-put, find-without, find-each, find-without_same}
 use Rattle.balise_rules.proofs.Cases.{map_itself}
 use Rattle.balise_rules.proofs.Each.{each-id}
@@ -23,58 +23,45 @@ use Rattle.balise_rules.proofs.Anchors.{find-put_same, stands-without}
 use Rattle.balise_rules.proofs.Moved.{find-move}
 use Rattle.balise_strike_laws.proofs.Cases.{drop1}
 use Rattle.balise_strike_laws.proofs.Neighbours.{Accepts, Free, takes}
-use Rattle.balise_strike_laws.proofs.Levels.{keep}
+use Rattle.balise_strike_laws.proofs.Levels.{keep, here}
 use Rattle.balise_strike_laws.proofs.Places.{first_of, later_of, Clear, side_apart, front_apart}
 
 pub flip_side : (a c : Option Tag) → (same_part (anchor a) (anchor c) && true) ≡ false → same_spot same_tag c a ≡ false
 flip_side a c h = flip_spot tag_test a c (side_apart a c h)
 
-here-free : {A : Type 0} → (b d : Bool) → (x : Change Tag A) → (c : Option Tag) → (b ≡ true → d ≡ true → Free x c) → Free (cond (b && d) x keep) c
-here-free true true x c h = h refl refl
-here-free true false x c h = tt
-here-free false d x c h = tt
-
 pub clear-free : (f : Item) → (m : Note) → (j : Id) → (g : Tag) → (t : ℕ) → (c0 : ℕ) → (c : Option Tag) → Clear (f, m) (At g ∷ Nth t ∷ anchor c ∷ After ∷ []) →
     Free (packets_change f j g t c0) c
 clear-free (s, InsertPacket g1 t1 a x) m j g t c0 c k =
-    here-free (same_tag g1 g) (eqb t1 t) (Put a (Fresh s, x)) c
+    here (λ y. Free y c) (same_tag g1 g) (eqb t1 t) (Put a (Fresh s, x)) tt
     (λ e d. (flip_side a c (simp (e, d) at (k (At g1 ∷ Nth t1 ∷ anchor a ∷ After ∷ []) (later_of first_of))), flip_spot tag_test (Some (Fresh s)) c (side_apart (Some (Fresh s)) c (simp (e, d) at (k (At g1 ∷ Nth t1 ∷ At (Fresh s) ∷ []) first_of)))))
 clear-free (serial1, DeletePacket g1 t1 p) m j g t c0 c k =
-    here-free (same_tag g1 g) (eqb t1 t) (Take p) c
+    here (λ y. Free y c) (same_tag g1 g) (eqb t1 t) (Take p) tt
     (λ e d. flip_side (Some p) c (simp (e, d) at (k (At g1 ∷ Nth t1 ∷ At p ∷ []) first_of)))
 clear-free (serial1, MovePacket g1 t1 p a) m j g t c0 c k =
-    here-free (same_tag g1 g) (eqb t1 t) (Move p a) c
+    here (λ y. Free y c) (same_tag g1 g) (eqb t1 t) (Move p a) tt
     (λ e d. (flip_side (Some p) c (simp (e, d) at (k (At g1 ∷ Nth t1 ∷ At p ∷ After ∷ []) (later_of first_of))), flip_side a c (simp (e, d) at (k (At g1 ∷ Nth t1 ∷ anchor a ∷ After ∷ []) (later_of (later_of (later_of first_of)))))))
 clear-free f m j g t c0 c k = tt
 
-here-takes : {A : Type 0} → (b d : Bool) → (x : Change Tag A) → (c : Option Tag) → (b ≡ true → d ≡ true → takes x c ≡ false) → takes (cond (b && d) x keep) c ≡ false
-here-takes true true x c h = h refl refl
-here-takes true false x c h = refl
-here-takes false d x c h = refl
-
 pub clear-takes : (f : Item) → (m : Note) → (j : Id) → (g : Tag) → (t : ℕ) → (c0 : ℕ) → (b : Option Tag) → Clear (f, m) (At g ∷ Nth t ∷ neighbour b ∷ Front ∷ []) →
     takes (packets_change f j g t c0) b ≡ false
-clear-takes (s, InsertPacket g1 t1 a x) m j g t c0 b k = here-takes (same_tag g1 g) (eqb t1 t) (Put a (Fresh s, x)) b (λ e d. refl)
+clear-takes (s, InsertPacket g1 t1 a x) m j g t c0 b k = here (λ y. takes y b ≡ false) (same_tag g1 g) (eqb t1 t) (Put a (Fresh s, x)) refl (λ e d. refl)
 clear-takes (serial1, DeletePacket g1 t1 p) m j g t c0 b k =
-    here-takes (same_tag g1 g) (eqb t1 t) (Take p) b
+    here (λ y. takes y b ≡ false) (same_tag g1 g) (eqb t1 t) (Take p) refl
     (λ e d. front_apart (Some p) b (simp (e, d) at (k (At g1 ∷ Nth t1 ∷ At p ∷ []) first_of)))
 clear-takes (serial1, MovePacket g1 t1 p a) m j g t c0 b k =
-    here-takes (same_tag g1 g) (eqb t1 t) (Move p a) b
+    here (λ y. takes y b ≡ false) (same_tag g1 g) (eqb t1 t) (Move p a) refl
     (λ e d. front_apart (Some p) b (simp (e, d) at (k (At g1 ∷ Nth t1 ∷ At p ∷ Front ∷ []) first_of)))
 clear-takes f m j g t c0 b k = refl
 
 -- a change spares an item: neither puts it in nor takes it out
 abbrev pub Spares : {A : Type 0} → Change Tag A → Tag → Type 0
-Spares (Each f) p = Unit {0}
 Spares (Put a z) p = same_tag p z.0 ≡ false
 Spares (Take q) p = same_tag p q ≡ false
-Spares (Move q a) p = Unit {0}
+Spares x p = Unit {0}
 
 abbrev pub by_change : {A : Type 0} → Change Tag A → Tag → Option A → Option A
 by_change (Each f) p o = option_map (f p) o
-by_change (Put a z) p o = o
-by_change (Take q) p o = o
-by_change (Move q a) p o = o
+by_change x p o = o
 
 pub find-change : {A : Type 0} → (x : Change Tag A) → (p : Tag) → (xs : List (Tag × A)) → Accepts x xs → Spares x p →
     find same_tag p (changed same_tag x xs) ≡ by_change x p (find same_tag p xs)
@@ -84,46 +71,35 @@ find-change (Take q) p xs s n = find-without tag_test p q n xs
 find-change (Move q a) p xs s n =
     split_keys tag_test p q
     (λ e r. let h : find same_tag q xs ≡ Some s.0.0 = s.0.1 in
-    ap (λ u. find same_tag u (move same_tag q a xs)) r ∙ ap (λ l. find same_tag q l) (moved h) ∙ find-put_same a (q, s.0.0) (without same_tag q xs) (stands-without a q xs s.2 s.1) (find-without_same same_tag q xs) ∙ sym h ∙ ap (λ u. find same_tag u xs) (sym r))
+    let m : move same_tag q a xs ≡ put same_tag a (q, s.0.0) (without same_tag q xs) = simp h in
+    ap (λ u. find same_tag u (move same_tag q a xs)) r ∙ ap (λ l. find same_tag q l) m ∙ find-put_same a (q, s.0.0) (without same_tag q xs) (stands-without a q xs s.2 s.1) (find-without_same same_tag q xs) ∙ sym h ∙ ap (λ u. find same_tag u xs) (sym r))
     (λ e. find-move tag_test p q a e xs)
-  where
-    moved : find same_tag q xs ≡ Some s.0.0 → move same_tag q a xs ≡ put same_tag a (q, s.0.0) (without same_tag q xs)
-    moved h = simp h
-
-here-spares : {A : Type 0} → (b d : Bool) → (x : Change Tag A) → (p : Tag) → (b ≡ true → d ≡ true → Spares x p) → Spares (cond (b && d) x keep) p
-here-spares true true x p h = h refl refl
-here-spares true false x p h = tt
-here-spares false d x p h = tt
 
 pub clear-spares : (f : Item) → (m : Note) → (j : Id) → (g : Tag) → (t : ℕ) → (c0 : ℕ) → (p : Tag) → (r : Path) → Clear (f, m) (At g ∷ Nth t ∷ At p ∷ r) →
     Spares (packets_change f j g t c0) p
 clear-spares (s, InsertPacket g1 t1 a x) m j g t c0 p r k =
-    here-spares (same_tag g1 g) (eqb t1 t) (Put a (Fresh s, x)) p (λ e d. flip_no tag_test (Fresh s) p (drop1 (same_tag (Fresh s) p) (simp (e, d) at (k (At g1 ∷ Nth t1 ∷ At (Fresh s) ∷ []) first_of))))
+    here (λ y. Spares y p) (same_tag g1 g) (eqb t1 t) (Put a (Fresh s, x)) tt
+    (λ e d. flip_no tag_test (Fresh s) p (drop1 (same_tag (Fresh s) p) (simp (e, d) at (k (At g1 ∷ Nth t1 ∷ At (Fresh s) ∷ []) first_of))))
 clear-spares (serial1, DeletePacket g1 t1 q) m j g t c0 p r k =
-    here-spares (same_tag g1 g) (eqb t1 t) (Take q) p (λ e d. flip_no tag_test q p (drop1 (same_tag q p) (simp (e, d) at (k (At g1 ∷ Nth t1 ∷ At q ∷ []) first_of))))
-clear-spares (serial1, MovePacket g1 t1 q a) m j g t c0 p r k = here-spares (same_tag g1 g) (eqb t1 t) (Move q a) p (λ e d. tt)
+    here (λ y. Spares y p) (same_tag g1 g) (eqb t1 t) (Take q) tt (λ e d. flip_no tag_test q p (drop1 (same_tag q p) (simp (e, d) at (k (At g1 ∷ Nth t1 ∷ At q ∷ []) first_of))))
+clear-spares (serial1, MovePacket g1 t1 q a) m j g t c0 p r k = here (λ y. Spares y p) (same_tag g1 g) (eqb t1 t) (Move q a) tt (λ e d. tt)
 clear-spares f m j g t c0 p r k = tt
 
 pub packet-id : (z : Packet) → ◌≡◌ {A = Packet} (record { fields = each (λ key v. v) z.fields; rest = z.rest }) z
 packet-id z = ap (λ fs. record z { fields = fs }) (each-id z.fields)
 
+-- a change of the list alone leaves each packet
+list-alone : (b : Bool) → (x : Change Tag Packet) → (p : Tag) → ((o : Option Packet) → by_change x p o ≡ o) → (h : Packet → Packet) → ((z : Packet) → h z ≡ z) → (o : Option Packet) →
+    by_change (cond b x keep) p o ≡ option_map h o
+list-alone true x p k h i o = k o ∙ map_itself h i o
+list-alone false x p k h i None = refl
+list-alone false x p k h i (Some z) = ap Some (sym (i z))
+
 pub by-packets : (f : Item) → (j : Id) → (g : Tag) → (t : ℕ) → (c : ℕ) → (p : Tag) → (o : Option Packet) →
     by_change (packets_change f j g t c) p o ≡ option_map (packet_after f.1 j g t c p) o
-by-packets (s, InsertPacket g1 t1 a x) j g t c p o =
-    split_on (same_tag g1 g && eqb t1 t) (λ e. simp e (map_itself (packet_after (InsertPacket g1 t1 a x) j g t c p) packet-id o)) (λ e. simp e (no_change o)) where
-      no_change : (o : Option Packet) → option_map (λ z. z) o ≡ option_map (packet_after (InsertPacket g1 t1 a x) j g t c p) o
-      no_change None = refl
-      no_change (Some z) = ap Some (sym (packet-id z))
-by-packets (serial1, DeletePacket g1 t1 q) j g t c p o =
-    split_on (same_tag g1 g && eqb t1 t) (λ e. simp e (map_itself (packet_after (DeletePacket g1 t1 q) j g t c p) packet-id o)) (λ e. simp e (no_change o)) where
-      no_change : (o : Option Packet) → option_map (λ z. z) o ≡ option_map (packet_after (DeletePacket g1 t1 q) j g t c p) o
-      no_change None = refl
-      no_change (Some z) = ap Some (sym (packet-id z))
-by-packets (serial1, MovePacket g1 t1 q a) j g t c p o =
-    split_on (same_tag g1 g && eqb t1 t) (λ e. simp e (map_itself (packet_after (MovePacket g1 t1 q a) j g t c p) packet-id o)) (λ e. simp e (no_change o)) where
-      no_change : (o : Option Packet) → option_map (λ z. z) o ≡ option_map (packet_after (MovePacket g1 t1 q a) j g t c p) o
-      no_change None = refl
-      no_change (Some z) = ap Some (sym (packet-id z))
+by-packets (s, InsertPacket g1 t1 a x) j g t c p o = list-alone (same_tag g1 g && eqb t1 t) (Put a (Fresh s, x)) p (λ _. refl) (packet_after (InsertPacket g1 t1 a x) j g t c p) packet-id o
+by-packets (serial1, DeletePacket g1 t1 q) j g t c p o = list-alone (same_tag g1 g && eqb t1 t) (Take q) p (λ _. refl) (packet_after (DeletePacket g1 t1 q) j g t c p) packet-id o
+by-packets (serial1, MovePacket g1 t1 q a) j g t c p o = list-alone (same_tag g1 g && eqb t1 t) (Move q a) p (λ _. refl) (packet_after (MovePacket g1 t1 q a) j g t c p) packet-id o
 by-packets f j g t c p o = refl
 
 -- a packet that is spared is found, changed field by field

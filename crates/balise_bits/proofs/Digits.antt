@@ -1,6 +1,6 @@
 -- Digits and bytes: how many bits digits are, and that what the encoder writes are the digits of the bits.
-use Rattle.std.proofs.Common.{◌≡◌, ℕ, zero, suc, ◌+◌, ◌*◌, ◌/◌, ◌%◌, ◌^◌, ◌<◌, Bool, List, [], ◌∷◌, ◌++◌, length, get_or, slice_index, Option, Some, None, Ok, refl, sym, ap, ◌∙◌, append_assoc, arith, length-append, inl, inr}
-use Rattle.std.proofs.lemmas.Bool.{cases_eq}
+use Rattle.std.proofs.Common.{◌≡◌, ℕ, suc, ◌+◌, ◌*◌, ◌/◌, ◌%◌, ◌^◌, ◌<◌, Bool, true, eqb, List, [], ◌∷◌, ◌++◌, length, get_or, slice_index, Option, Some, None, Ok, refl, sym, ap, ◌∙◌, append_assoc, arith, length-append, inl, inr}
+use Rattle.std.proofs.lemmas.Bool.{cases_eq, eqb-true, agree_below_at}
 use Rattle.balise_rules.specs.Bits.{num, bits}
 use Rattle.balise_rules.specs.Digits.{digit_value, digit_of, behind_digit, digit_bits, digits_or_bad, read_digits, digits_in}
 use Rattle.balise_rules.proofs.Numbers.{length-bits, num-bits}
@@ -40,26 +40,7 @@ whole_bytes text b e = elim (cases_eq (length text % 2) 0) [
 
 -- the digit of a value, as the table has it
 pub same_digit : (d : ℕ) → d < 16 → digit_of d ≡ slice_index lower_digits d
-same_digit d h = below d h
-  where
-    below : (d : ℕ) → d < 16 → digit_of d ≡ slice_index lower_digits d
-    below zero h = refl
-    below (suc zero) h = refl
-    below (suc (suc zero)) h = refl
-    below (suc (suc (suc zero))) h = refl
-    below (suc (suc (suc (suc zero)))) h = refl
-    below (suc (suc (suc (suc (suc zero))))) h = refl
-    below (suc (suc (suc (suc (suc (suc zero)))))) h = refl
-    below (suc (suc (suc (suc (suc (suc (suc zero))))))) h = refl
-    below (suc (suc (suc (suc (suc (suc (suc (suc zero)))))))) h = refl
-    below (suc (suc (suc (suc (suc (suc (suc (suc (suc zero))))))))) h = refl
-    below (suc (suc (suc (suc (suc (suc (suc (suc (suc (suc zero)))))))))) h = refl
-    below (suc (suc (suc (suc (suc (suc (suc (suc (suc (suc (suc zero))))))))))) h = refl
-    below (suc (suc (suc (suc (suc (suc (suc (suc (suc (suc (suc (suc zero)))))))))))) h = refl
-    below (suc (suc (suc (suc (suc (suc (suc (suc (suc (suc (suc (suc (suc zero))))))))))))) h = refl
-    below (suc (suc (suc (suc (suc (suc (suc (suc (suc (suc (suc (suc (suc (suc zero)))))))))))))) h = refl
-    below (suc (suc (suc (suc (suc (suc (suc (suc (suc (suc (suc (suc (suc (suc (suc zero))))))))))))))) h = refl
-    below (suc (suc (suc (suc (suc (suc (suc (suc (suc (suc (suc (suc (suc (suc (suc (suc d)))))))))))))))) h = absurd (omega arith)
+same_digit d h = eqb-true _ _ (agree_below_at (λ (n : ℕ). eqb (digit_of n) (slice_index lower_digits n)) (λ _. true) 16 d refl h)
 
 -- four bits are one digit
 digits_in-four : (n : ℕ) (rest : List Bool) → digits_in (bits 4 n ++ rest) ≡ digit_of (num (bits 4 n)) ∷ digits_in rest

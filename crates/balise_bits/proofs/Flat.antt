@@ -73,24 +73,18 @@ num-flat_one (b ∷ []) one byte = ap num (flat_one b) ∙ num-bits_fit 8 b byte
 num-flat_one (b ∷ c ∷ bs) one byte = absurd (omega (arith, one))
 
 first_four : (bs : List ℕ) → 4 ≤ length bs → ((i : ℕ) → get_or bs i 0 < 256) → num (flat (take 4 bs)) ≡ get_or bs 0 0 * 16777216 + get_or bs 1 0 * 65536 + get_or bs 2 0 * 256 + get_or bs 3 0
-first_four bs long byte =
-    let n0 : num (flat (take 0 bs)) ≡ 0 = num-flat_nil in
-    let n1 : num (flat (take 1 bs)) ≡ num (flat (take 0 bs)) * 256 + get_or bs 0 0 = num-flat_more bs 0 (omega (arith, long)) (byte 0) in
-    let n2 : num (flat (take 2 bs)) ≡ num (flat (take 1 bs)) * 256 + get_or bs 1 0 = num-flat_more bs 1 (omega (arith, long)) (byte 1) in
-    let n3 : num (flat (take 3 bs)) ≡ num (flat (take 2 bs)) * 256 + get_or bs 2 0 = num-flat_more bs 2 (omega (arith, long)) (byte 2) in
-    let n4 : num (flat (take 4 bs)) ≡ num (flat (take 3 bs)) * 256 + get_or bs 3 0 = num-flat_more bs 3 (omega (arith, long)) (byte 3) in
-    omega (arith, n0, n1, n2, n3, n4)
+first_four bs long byte = omega (arith, num-flat_nil, more 0 (omega arith), more 1 (omega arith), more 2 (omega arith), more 3 (omega arith))
+  where
+    more : (i : ℕ) → i < 4 → num (flat (take (i + 1) bs)) ≡ num (flat (take i bs)) * 256 + get_or bs i 0
+    more i h = num-flat_more bs i (omega (arith, h, long)) (byte i)
 
 pub num-flat_four : (bs : List ℕ) → length bs ≡ 4 → ((i : ℕ) → get_or bs i 0 < 256) → num (flat bs) ≡ get_or bs 0 0 * 16777216 + get_or bs 1 0 * 65536 + get_or bs 2 0 * 256 + get_or bs 3 0
 num-flat_four bs four byte =
-    let all : take 4 bs ≡ bs = take_all 4 bs (omega (arith, four)) in
-    sym (ap (λ (x : List ℕ). num (flat x)) all) ∙ first_four bs (omega (arith, four)) byte
+    sym (ap (λ (x : List ℕ). num (flat x)) (take_all 4 bs (omega (arith, four)))) ∙ first_four bs (omega (arith, four)) byte
 
 pub num-flat_eight : (bs : List ℕ) → length bs ≡ 8 → ((i : ℕ) → get_or bs i 0 < 256) → num (flat bs) ≡ (get_or bs 0 0 * 16777216 + get_or bs 1 0 * 65536 + get_or bs 2 0 * 256 + get_or bs 3 0) * 4294967296 + (get_or bs 4 0 * 16777216 + get_or bs 5 0 * 65536 + get_or bs 6 0 * 256 + get_or bs 7 0)
 num-flat_eight bs eight byte =
-    let all : take 8 bs ≡ bs = take_all 8 bs (omega (arith, eight)) in
-    let n5 : num (flat (take 5 bs)) ≡ num (flat (take 4 bs)) * 256 + get_or bs 4 0 = num-flat_more bs 4 (omega (arith, eight)) (byte 4) in
-    let n6 : num (flat (take 6 bs)) ≡ num (flat (take 5 bs)) * 256 + get_or bs 5 0 = num-flat_more bs 5 (omega (arith, eight)) (byte 5) in
-    let n7 : num (flat (take 7 bs)) ≡ num (flat (take 6 bs)) * 256 + get_or bs 6 0 = num-flat_more bs 6 (omega (arith, eight)) (byte 6) in
-    let n8 : num (flat (take 8 bs)) ≡ num (flat (take 7 bs)) * 256 + get_or bs 7 0 = num-flat_more bs 7 (omega (arith, eight)) (byte 7) in
-    sym (ap (λ (x : List ℕ). num (flat x)) all) ∙ omega (arith, n5, n6, n7, n8, first_four bs (omega (arith, eight)) byte)
+    sym (ap (λ (x : List ℕ). num (flat x)) (take_all 8 bs (omega (arith, eight)))) ∙ omega (arith, more 4 (omega arith), more 5 (omega arith), more 6 (omega arith), more 7 (omega arith), first_four bs (omega (arith, eight)) byte)
+  where
+    more : (i : ℕ) → i < 8 → num (flat (take (i + 1) bs)) ≡ num (flat (take i bs)) * 256 + get_or bs i 0
+    more i h = num-flat_more bs i (omega (arith, h, eight)) (byte i)

@@ -1,8 +1,8 @@
 -- Numbers and their pieces: a number's bits in two parts, the number of a part, and a part replaced.
 use Rattle.std.proofs.Common.{◌≡◌, ℕ, ◌+◌, ◌-◌, ◌*◌, ◌/◌, ◌%◌, ◌^◌, ◌<◌, ◌≤◌, Bool, List, [], ◌++◌, length, take, drop, refl, sym, ap, subst, ◌∙◌, append_assoc, arith, length-append, lit<}
-use Rattle.std.proofs.Math.Nat.{pow-le-pow_right, mod-eq_of_lt}
+use Rattle.std.proofs.Math.Nat.{pow-le-pow_right, mod-eq_of_lt, mod-mod}
 use Rattle.std.proofs.lemmas.Nat.{one_shl, shr_high, mod_low, mod-pow-add}
-use Rattle.std.proofs.lemmas.List.{take-append-drop, length-take, length-drop, drop-drop}
+use Rattle.std.proofs.lemmas.List.{take-append-drop, length-drop, drop-drop}
 use Rattle.balise_rules.specs.Bits.{num, bits, part, put_at}
 use Rattle.balise_rules.proofs.Numbers.{length-bits, num_below, num-bits, num-bits_fit, num_injective, bits-num, num-append}
 use Rattle.balise_bits.proofs.Putting.{length-put_at, length-part}
@@ -22,10 +22,7 @@ bits-split a b n =
 
 -- only the low bits of a number count
 pub bits-mod : (w n : ℕ) → bits w (n % 2 ^ w) ≡ bits w n
-bits-mod w n = same_bits w (n % 2 ^ w) (bits w n) (length-bits w n) (mod-twice ∙ sym (num-bits w n))
-  where
-    mod-twice : n % 2 ^ w % 2 ^ w ≡ n % 2 ^ w
-    mod-twice = sym (num-bits w (n % 2 ^ w)) ∙ num-bits_fit w (n % 2 ^ w) (subst (λ (x : ℕ). x < 2 ^ w) (num-bits w n) (subst (λ (k : ℕ). num (bits w n) < 2 ^ k) (length-bits w n) (num_below (bits w n))))
+bits-mod w n = same_bits w (n % 2 ^ w) (bits w n) (length-bits w n) (mod-mod n (2 ^ w) ∙ sym (num-bits w n))
 
 -- a short list has a small number
 pub num_small : (b : List Bool) (n : ℕ) → length b ≤ n → num b < 2 ^ n
@@ -36,7 +33,7 @@ unfolding num
 num_nil = refl
 
 -- a list in three parts
-pub three_parts : (b : List Bool) (o w : ℕ) → b ≡ take o b ++ (take w (drop o b) ++ drop (o + w) b)
+three_parts : (b : List Bool) (o w : ℕ) → b ≡ take o b ++ (take w (drop o b) ++ drop (o + w) b)
 three_parts b o w =
     sym (ap (λ (x : List Bool). take o b ++ (take w (drop o b) ++ x)) (sym (drop-drop w o b)) ∙ ap (λ (x : List Bool). take o b ++ x) (take-append-drop w (drop o b)) ∙ take-append-drop o b)
 
@@ -49,65 +46,46 @@ pub num-three_above : (a m c : List Bool) → num (a ++ (m ++ c)) / 2 ^ length c
 num-three_above a m c =
     ap (λ (x : ℕ). x / 2 ^ length c) (num-three a m c) ∙ shr_high (num a * 2 ^ length m + num m) (length c) (num c) (num_below c)
 
-num-three_middle : (a m c : List Bool) → num (a ++ (m ++ c)) / 2 ^ length c % 2 ^ length m ≡ num m
-num-three_middle a m c =
-    ap (λ (x : ℕ). x % 2 ^ length m) (num-three_above a m c) ∙ mod_low (num a) (length m) (num m) (num_below m)
+-- ---- the number of a part, and its bits
 
-num-three_first : (a m c : List Bool) → num (a ++ (m ++ c)) / 2 ^ length c / 2 ^ length m ≡ num a
-num-three_first a m c =
-    ap (λ (x : ℕ). x / 2 ^ length m) (num-three_above a m c) ∙ shr_high (num a) (length m) (num m) (num_below m)
+pub num-part_below : (b : List Bool) (at w : ℕ) → at + w ≤ length b → num (part at w b) < 2 ^ w
+num-part_below b at w h = num_small (part at w b) w (omega (arith, length-part at w b h))
 
-num-three_last : (a m c : List Bool) → num (a ++ (m ++ c)) % 2 ^ length c ≡ num c
-num-three_last a m c =
-    ap (λ (x : ℕ). x % 2 ^ length c) (num-three a m c) ∙ mod_low (num a * 2 ^ length m + num m) (length c) (num c) (num_below c)
+pub bits-num_part : (b : List Bool) (at w : ℕ) → at + w ≤ length b → bits w (num (part at w b)) ≡ part at w b
+bits-num_part b at w h =
+    let p = part at w b in
+    subst (λ (k : ℕ). bits k (num p) ≡ p) (length-part at w b h) (bits-num p)
 
--- the number of a part that s more bits follow
+-- a number as those of a part that s more bits follow, of what is above it and of what is after it
+by_parts : (b : List Bool) (o w s : ℕ) → o + w + s ≡ length b → num b ≡ (num (take o b) * 2 ^ w + num (part o w b)) * 2 ^ s + num (drop (o + w) b)
+by_parts b o w s e =
+    let middle : length (part o w b) ≡ w = length-part o w b (omega arith) in
+    let last : length (drop (o + w) b) ≡ s = omega (arith, length-drop (o + w) b) in
+    ap num (three_parts b o w) ∙ num-three (take o b) (part o w b) (drop (o + w) b) ∙ rw (middle, last) refl
+
+last_below : (b : List Bool) (o w s : ℕ) → o + w + s ≡ length b → num (drop (o + w) b) < 2 ^ s
+last_below b o w s e = num_small (drop (o + w) b) s (omega (arith, length-drop (o + w) b))
+
+num-front : (b : List Bool) (o w s : ℕ) → o + w + s ≡ length b → num b / 2 ^ s ≡ num (take o b) * 2 ^ w + num (part o w b)
+num-front b o w s e = ap (λ (x : ℕ). x / 2 ^ s) (by_parts b o w s e) ∙ shr_high _ s _ (last_below b o w s e)
+
 pub num-part : (b : List Bool) (o w s : ℕ) → o + w + s ≡ length b → num b / 2 ^ s % 2 ^ w ≡ num (part o w b)
-num-part b o w s e =
-    let m = take w (drop o b) in
-    let c = drop (o + w) b in
-    let lm : length m ≡ w = omega (arith, length-take w (drop o b), length-drop o b) in
-    let lc : length c ≡ s = omega (arith, length-drop (o + w) b) in
-    ap (λ (x : List Bool). num x / 2 ^ s % 2 ^ w) (three_parts b o w)
-    ∙ subst (λ (k : ℕ). num (take o b ++ (m ++ c)) / 2 ^ k % 2 ^ w ≡ num m) lc
-    (subst (λ (k : ℕ). num (take o b ++ (m ++ c)) / 2 ^ length c % 2 ^ k ≡ num m) lm (num-three_middle (take o b) m c))
-
--- the number above a part, and the number after it
-num-above : (b : List Bool) (o w s : ℕ) → o + w + s ≡ length b → num b / 2 ^ s / 2 ^ w ≡ num (take o b)
-num-above b o w s e =
-    let m = take w (drop o b) in
-    let c = drop (o + w) b in
-    let lm : length m ≡ w = omega (arith, length-take w (drop o b), length-drop o b) in
-    let lc : length c ≡ s = omega (arith, length-drop (o + w) b) in
-    ap (λ (x : List Bool). num x / 2 ^ s / 2 ^ w) (three_parts b o w)
-    ∙ subst (λ (k : ℕ). num (take o b ++ (m ++ c)) / 2 ^ k / 2 ^ w ≡ num (take o b)) lc
-    (subst (λ (k : ℕ). num (take o b ++ (m ++ c)) / 2 ^ length c / 2 ^ k ≡ num (take o b)) lm (num-three_first (take o b) m c))
-
-num-after : (b : List Bool) (o w s : ℕ) → o + w + s ≡ length b → num b % 2 ^ s ≡ num (drop (o + w) b)
-num-after b o w s e =
-    let m = take w (drop o b) in
-    let c = drop (o + w) b in
-    let lc : length c ≡ s = omega (arith, length-drop (o + w) b) in
-    ap (λ (x : List Bool). num x % 2 ^ s) (three_parts b o w)
-    ∙ subst (λ (k : ℕ). num (take o b ++ (m ++ c)) % 2 ^ k ≡ num c) lc (num-three_last (take o b) m c)
+num-part b o w s e = rw (num-front b o w s e) (mod_low (num (take o b)) w _ (num-part_below b o w (omega arith)))
 
 -- another number in the place of a part
 abbrev pub replaced : ℕ → ℕ → ℕ → ℕ → ℕ
 replaced s w v n = (n / 2 ^ s / 2 ^ w * 2 ^ w + v) * 2 ^ s + n % 2 ^ s
 
-pub num-put_at : (b : List Bool) (o w s v : ℕ) → o + w + s ≡ length b → v < 2 ^ w → replaced s w v (num b) ≡ num (put_at o (bits w v) b)
+replaced-parts : (b : List Bool) (o w s v : ℕ) → o + w + s ≡ length b → replaced s w v (num b) ≡ (num (take o b) * 2 ^ w + v) * 2 ^ s + num (drop (o + w) b)
+replaced-parts b o w s v e =
+    let above : num b / 2 ^ s / 2 ^ w ≡ num (take o b) = rw (num-front b o w s e) (shr_high _ w _ (num-part_below b o w (omega arith))) in
+    let after : num b % 2 ^ s ≡ num (drop (o + w) b) = ap (λ (x : ℕ). x % 2 ^ s) (by_parts b o w s e) ∙ mod_low _ s _ (last_below b o w s e) in
+    rw (above, after) refl
+
+num-put_at : (b : List Bool) (o w s v : ℕ) → o + w + s ≡ length b → v < 2 ^ w → replaced s w v (num b) ≡ num (put_at o (bits w v) b)
 num-put_at b o w s v e fits =
-    let m = bits w v in
-    let c = drop (o + length m) b in
-    let lm : length m ≡ w = length-bits w v in
-    let far : drop (o + w) b ≡ c = ap (λ (k : ℕ). drop (o + k) b) (sym lm) in
-    let lc : length c ≡ s = omega (arith, lm, length-drop (o + length m) b) in
-    let value : num (take o b ++ (m ++ c)) ≡ (num (take o b) * 2 ^ w + v) * 2 ^ s + num c =
-    num-three (take o b) m c ∙ ap (λ (k : ℕ). (num (take o b) * 2 ^ k + num m) * 2 ^ length c + num c) lm
-    ∙ ap (λ (k : ℕ). (num (take o b) * 2 ^ w + num m) * 2 ^ k + num c) lc
-    ∙ ap (λ (x : ℕ). (num (take o b) * 2 ^ w + x) * 2 ^ s + num c) (num-bits_fit w v fits) in
-    ap (λ (x : ℕ). (x * 2 ^ w + v) * 2 ^ s + num b % 2 ^ s) (num-above b o w s e)
-    ∙ ap (λ (x : ℕ). (num (take o b) * 2 ^ w + v) * 2 ^ s + x) (num-after b o w s e ∙ ap num far) ∙ sym value
+    let last : length (drop (o + w) b) ≡ s = omega (arith, length-drop (o + w) b) in
+    replaced-parts b o w s v e ∙ sym (num-three (take o b) (bits w v) _ ∙ rw (length-bits w v, last, num-bits_fit w v fits) refl)
 
 length-put : (b : List Bool) (o w s v : ℕ) → o + w + s ≡ length b → length (put_at o (bits w v) b) ≡ length b
 length-put b o w s v e = length-put_at o (bits w v) b (omega (arith, length-bits w v))
@@ -127,52 +105,21 @@ replaced_below b o w s v e fits =
 abbrev pub replaced_word : ℕ → ℕ → ℕ → ℕ → ℕ
 replaced_word s w v n = n - n / 2 ^ s % (1 * 2 ^ w % 2 ^ 64) * 2 ^ s % 2 ^ 64 + v * 2 ^ s % 2 ^ 64
 
--- a number as those of its three parts
-by_parts : (b : List Bool) (o w s : ℕ) → o + w + s ≡ length b → num b ≡ (num (take o b) * 2 ^ w + num (part o w b)) * 2 ^ s + num (drop (o + w) b)
-by_parts b o w s e =
-    let m = take w (drop o b) in
-    let c = drop (o + w) b in
-    let lm : length m ≡ w = omega (arith, length-take w (drop o b), length-drop o b) in
-    let lc : length c ≡ s = omega (arith, length-drop (o + w) b) in
-    ap num (three_parts b o w) ∙ num-three (take o b) m c
-    ∙ ap (λ (k : ℕ). (num (take o b) * 2 ^ k + num m) * 2 ^ length c + num c) lm
-    ∙ ap (λ (k : ℕ). (num (take o b) * 2 ^ w + num m) * 2 ^ k + num c) lc
-
 -- what is taken off
-pub taken_off : (b : List Bool) (o w s : ℕ) → o + w + s ≡ length b → length b ≤ 64 → s < 64 → w < 64 → num b / 2 ^ s % (1 * 2 ^ w % 2 ^ 64) * 2 ^ s % 2 ^ 64 ≡ num (part o w b) * 2 ^ s
+taken_off : (b : List Bool) (o w s : ℕ) → o + w + s ≡ length b → length b ≤ 64 → s < 64 → w < 64 → num b / 2 ^ s % (1 * 2 ^ w % 2 ^ 64) * 2 ^ s % 2 ^ 64 ≡ num (part o w b) * 2 ^ s
 taken_off b o w s e small low narrow =
-    let mask : 1 * 2 ^ w % 2 ^ 64 ≡ 2 ^ w = one_shl w 64 narrow in
-    let whole = by_parts b o w s e in
-    let below : num b < 2 ^ 64 = num_small b 64 small in
-    let held : num (part o w b) * 2 ^ s % 2 ^ 64 ≡ num (part o w b) * 2 ^ s = mod-eq_of_lt (omega (arith, whole, below)) in
-    ap (λ (x : ℕ). num b / 2 ^ s % x * 2 ^ s % 2 ^ 64) mask
-    ∙ ap (λ (x : ℕ). x * 2 ^ s % 2 ^ 64) (num-part b o w s e) ∙ held
+    rw (one_shl w 64 narrow, num-part b o w s e) (mod-eq_of_lt (omega (arith, by_parts b o w s e, num_small b 64 small)))
 
 pub taken_off_below : (b : List Bool) (o w s : ℕ) → o + w + s ≡ length b → length b ≤ 64 → s < 64 → w < 64 → num b / 2 ^ s % (1 * 2 ^ w % 2 ^ 64) * 2 ^ s % 2 ^ 64 ≤ num b
 taken_off_below b o w s e small low narrow = omega (arith, taken_off b o w s e small low narrow, by_parts b o w s e)
 
 pub replaced-word : (b : List Bool) (o w s v : ℕ) → o + w + s ≡ length b → length b ≤ 64 → s < 64 → w < 64 → v < 2 ^ w → replaced_word s w v (num b) ≡ replaced s w v (num b)
 replaced-word b o w s v e small low narrow fits =
-    let m = num (part o w b) in
     let whole = by_parts b o w s e in
-    let other : replaced s w v (num b) ≡ (num (take o b) * 2 ^ w + v) * 2 ^ s + num (drop (o + w) b) =
-    ap (λ (x : ℕ). (x * 2 ^ w + v) * 2 ^ s + num b % 2 ^ s) (num-above b o w s e)
-    ∙ ap (λ (x : ℕ). (num (take o b) * 2 ^ w + v) * 2 ^ s + x) (num-after b o w s e) in
+    let other = replaced-parts b o w s v e in
     let most : 2 ^ length b ≤ 2 ^ 64 = pow-le-pow_right {n = 2} (lit< tt) small in
     let added : v * 2 ^ s % 2 ^ 64 ≡ v * 2 ^ s = mod-eq_of_lt (omega (arith, other, replaced_below b o w s v e fits, most)) in
-    ap (λ (x : ℕ). num b - x + v * 2 ^ s % 2 ^ 64) (taken_off b o w s e small low narrow)
-    ∙ ap (λ (x : ℕ). num b - m * 2 ^ s + x) added
-    ∙ omega (arith, whole, other)
-
--- ---- the number of a part, and its bits
-
-pub num-part_below : (b : List Bool) (at w : ℕ) → at + w ≤ length b → num (part at w b) < 2 ^ w
-num-part_below b at w h = num_small (part at w b) w (omega (arith, length-part at w b h))
-
-pub bits-num_part : (b : List Bool) (at w : ℕ) → at + w ≤ length b → bits w (num (part at w b)) ≡ part at w b
-bits-num_part b at w h =
-    let p = part at w b in
-    subst (λ (k : ℕ). bits k (num p) ≡ p) (length-part at w b h) (bits-num p)
+    rw (taken_off b o w s e small low narrow, added) (omega (arith, whole, other))
 
 -- a number of up to 32 bits fits a word of 32
 pub fits_word : (n w : ℕ) → n < 2 ^ w → w ≤ 32 → n < 2 ^ 32

@@ -1,6 +1,6 @@
 -- Bits put over others: at the end, one piece after another, in a front or a back part.
-use Rattle.std.proofs.Common.{◌≡◌, ℕ, suc, ◌+◌, ◌-◌, ◌≤◌, Bool, List, [], ◌∷◌, ◌++◌, length, take, drop, refl, sym, ap, ◌∙◌, append_assoc, arith, length-append}
-use Rattle.std.proofs.Math.Seq.{take-add}
+use Rattle.std.proofs.Common.{◌≡◌, ℕ, ◌+◌, ◌-◌, ◌≤◌, Bool, List, ◌++◌, length, take, drop, refl, sym, ap, ◌∙◌, append_assoc, arith, length-append}
+use Rattle.std.proofs.Math.Seq.{take-add, take-append-add, drop-append-add}
 use Rattle.std.proofs.lemmas.List.{append-nil, take_at, drop_at, take-append-drop, take-append-le, drop-append-le, length-take, length-drop, drop-take, take-take, drop-drop, drop_all}
 use Rattle.balise_rules.specs.Bits.{part, put_at}
 
@@ -56,18 +56,11 @@ put_at-append_left at x p q h =
 -- in a back part
 pub put_at-append_right : (at o : ℕ) (x p q : List Bool) → at ≡ length p + o → put_at at x (p ++ q) ≡ p ++ put_at o x q
 put_at-append_right at o x p q e =
-    let near : take at (p ++ q) ≡ p ++ take o q = ap (λ (k : ℕ). take k (p ++ q)) e ∙ take-append p q o in
+    let near : take at (p ++ q) ≡ p ++ take o q = ap (λ (k : ℕ). take k (p ++ q)) e ∙ take-append-add p q o in
     let far : drop (at + length x) (p ++ q) ≡ drop (o + length x) q =
-    ap (λ (k : ℕ). drop k (p ++ q)) (let s : at + length x ≡ length p + (o + length x) = omega (arith, e) in s) ∙ drop-append p q (o + length x) in
+    ap (λ (k : ℕ). drop k (p ++ q)) (let s : at + length x ≡ length p + (o + length x) = omega (arith, e) in s) ∙ drop-append-add p q (o + length x) in
     ap (λ (l : List Bool). l ++ (x ++ drop (at + length x) (p ++ q))) near ∙ ap (λ (l : List Bool). (p ++ take o q) ++ (x ++ l)) far
     ∙ append_assoc p (take o q) (x ++ drop (o + length x) q)
-  where
-    drop-append : (p q : List Bool) (k : ℕ) → drop (length p + k) (p ++ q) ≡ drop k q
-    drop-append p q k = sym (drop-drop k (length p) (p ++ q)) ∙ ap (drop k) (drop_at p q (length p) refl)
-
-    take-append : (p q : List Bool) (k : ℕ) → take (length p + k) (p ++ q) ≡ p ++ take k q
-    take-append [] q k = ap (λ (n : ℕ). take n q) (let s : 0 + k ≡ k = omega arith in s)
-    take-append (a ∷ p) q k = ap (λ (n : ℕ). take n (a ∷ p ++ q)) (let s : suc (length p) + k ≡ suc (length p + k) = omega arith in s) ∙ ap (λ (l : List Bool). a ∷ l) (take-append p q k)
 
 -- in the first bits of a list
 pub put_at-take : (n at : ℕ) (x b : List Bool) → at + length x ≤ n → n ≤ length b → take n (put_at at x b) ≡ put_at at x (take n b)

@@ -6,26 +6,13 @@ use Rattle.std.proofs.lemmas.Nat.{shr-shr}
 use Rattle.std.proofs.lemmas.Slice.{take-put_mid}
 use Rattle.std.proofs.lemmas.List.{length-take, length-drop, drop-drop, drop_more, take_more_set, take_all}
 use Rattle.balise_rules.specs.Bits.{num, bits, part}
-use Rattle.balise_rules.proofs.Numbers.{length-bits, num-bits_fit, bits-num, num-append}
+use Rattle.balise_rules.proofs.Numbers.{length-bits, num-bits_fit, num-append}
 use Rattle.balise_bits.specs.Bytes.{flat}
-use Rattle.balise_bits.proofs.Pieces.{bits-split, bits-mod, num-part}
-use Rattle.balise_bits.proofs.Putting.{part-part, length-part}
+use Rattle.balise_bits.proofs.Pieces.{bits-split, bits-mod, bits-num_part, num-part}
+use Rattle.balise_bits.proofs.Putting.{part-part}
 use Rattle.balise_bits.proofs.Flat.{flat-nil, flat-cons, flat_one, flat-append, flat-part, length-flat, num-flat_more}
 
 -- ---- the bytes of a number
-
--- eight writes to eight bytes
-pub set_eight : (w : List ℕ) (a b c d e f g h : ℕ) → length w ≡ 8 → set (set (set (set (set (set (set (set w 0 a) 1 b) 2 c) 3 d) 4 e) 5 f) 6 g) 7 h ≡ a ∷ b ∷ c ∷ d ∷ e ∷ f ∷ g ∷ h ∷ []
-set_eight [] a b c d e f g h long = absurd (omega (arith, long))
-set_eight (j ∷ []) a b c d e f g h long = absurd (omega (arith, long))
-set_eight (j ∷ k ∷ []) a b c d e f g h long = absurd (omega (arith, long))
-set_eight (j ∷ k ∷ l ∷ []) a b c d e f g h long = absurd (omega (arith, long))
-set_eight (j ∷ k ∷ l ∷ m ∷ []) a b c d e f g h long = absurd (omega (arith, long))
-set_eight (j ∷ k ∷ l ∷ m ∷ n ∷ []) a b c d e f g h long = absurd (omega (arith, long))
-set_eight (j ∷ k ∷ l ∷ m ∷ n ∷ o ∷ []) a b c d e f g h long = absurd (omega (arith, long))
-set_eight (j ∷ k ∷ l ∷ m ∷ n ∷ o ∷ p ∷ []) a b c d e f g h long = absurd (omega (arith, long))
-set_eight (j ∷ k ∷ l ∷ m ∷ n ∷ o ∷ p ∷ q ∷ []) a b c d e f g h long = refl
-set_eight (j ∷ k ∷ l ∷ m ∷ n ∷ o ∷ p ∷ q ∷ t ∷ r) a b c d e f g h long = absurd (omega (arith, long))
 
 -- four writes to four bytes
 pub set_four : (w : List ℕ) (a b c d : ℕ) → length w ≡ 4 → set (set (set (set w 0 a) 1 b) 2 c) 3 d ≡ a ∷ b ∷ c ∷ d ∷ []
@@ -35,6 +22,14 @@ set_four (v ∷ w ∷ []) a b c d h = absurd (omega (arith, h))
 set_four (v ∷ w ∷ x ∷ []) a b c d h = absurd (omega (arith, h))
 set_four (v ∷ w ∷ x ∷ y ∷ []) a b c d h = refl
 set_four (v ∷ w ∷ x ∷ y ∷ z ∷ r) a b c d h = absurd (omega (arith, h))
+
+-- eight writes to eight bytes
+pub set_eight : (w : List ℕ) (a b c d e f g h : ℕ) → length w ≡ 8 → set (set (set (set (set (set (set (set w 0 a) 1 b) 2 c) 3 d) 4 e) 5 f) 6 g) 7 h ≡ a ∷ b ∷ c ∷ d ∷ e ∷ f ∷ g ∷ h ∷ []
+set_eight [] a b c d e f g h long = absurd (omega (arith, long))
+set_eight (j ∷ []) a b c d e f g h long = absurd (omega (arith, long))
+set_eight (j ∷ k ∷ []) a b c d e f g h long = absurd (omega (arith, long))
+set_eight (j ∷ k ∷ l ∷ []) a b c d e f g h long = absurd (omega (arith, long))
+set_eight (j ∷ k ∷ l ∷ m ∷ w) a b c d e f g h long = ap (λ (r : List ℕ). a ∷ b ∷ c ∷ d ∷ r) (set_four w e f g h (omega (arith, long)))
 
 -- one write to one byte
 pub set_one : (w : List ℕ) (a : ℕ) → length w ≡ 1 → set w 0 a ≡ a ∷ []
@@ -51,17 +46,10 @@ byte_more m n bs e =
     ∙ ap (λ (x : List Bool). bits 8 (n / 2 ^ m) ++ x) e ∙ sym (bits-split 8 m n)
 
 pub flat-four : (n : ℕ) → flat (n / 2 ^ 24 % 256 ∷ n / 2 ^ 16 % 256 ∷ n / 2 ^ 8 % 256 ∷ n % 256 ∷ []) ≡ bits 32 n
-flat-four n =
-    let e2 : flat (n / 2 ^ 8 % 256 ∷ n % 256 ∷ []) ≡ bits 16 n = byte_more 8 n (n % 256 ∷ []) (flat-one n) in
-    let e3 : flat (n / 2 ^ 16 % 256 ∷ n / 2 ^ 8 % 256 ∷ n % 256 ∷ []) ≡ bits 24 n = byte_more 16 n (n / 2 ^ 8 % 256 ∷ n % 256 ∷ []) e2 in
-    byte_more 24 n (n / 2 ^ 16 % 256 ∷ n / 2 ^ 8 % 256 ∷ n % 256 ∷ []) e3
+flat-four n = byte_more 24 n _ (byte_more 16 n _ (byte_more 8 n _ (flat-one n)))
 
 pub flat-eight : (n : ℕ) → flat (n / 2 ^ 56 % 256 ∷ n / 2 ^ 48 % 256 ∷ n / 2 ^ 40 % 256 ∷ n / 2 ^ 32 % 256 ∷ n / 2 ^ 24 % 256 ∷ n / 2 ^ 16 % 256 ∷ n / 2 ^ 8 % 256 ∷ n % 256 ∷ []) ≡ bits 64 n
-flat-eight n =
-    let e5 : flat (n / 2 ^ 32 % 256 ∷ n / 2 ^ 24 % 256 ∷ n / 2 ^ 16 % 256 ∷ n / 2 ^ 8 % 256 ∷ n % 256 ∷ []) ≡ bits 40 n = byte_more 32 n (n / 2 ^ 24 % 256 ∷ n / 2 ^ 16 % 256 ∷ n / 2 ^ 8 % 256 ∷ n % 256 ∷ []) (flat-four n) in
-    let e6 : flat (n / 2 ^ 40 % 256 ∷ n / 2 ^ 32 % 256 ∷ n / 2 ^ 24 % 256 ∷ n / 2 ^ 16 % 256 ∷ n / 2 ^ 8 % 256 ∷ n % 256 ∷ []) ≡ bits 48 n = byte_more 40 n (n / 2 ^ 32 % 256 ∷ n / 2 ^ 24 % 256 ∷ n / 2 ^ 16 % 256 ∷ n / 2 ^ 8 % 256 ∷ n % 256 ∷ []) e5 in
-    let e7 : flat (n / 2 ^ 48 % 256 ∷ n / 2 ^ 40 % 256 ∷ n / 2 ^ 32 % 256 ∷ n / 2 ^ 24 % 256 ∷ n / 2 ^ 16 % 256 ∷ n / 2 ^ 8 % 256 ∷ n % 256 ∷ []) ≡ bits 56 n = byte_more 48 n (n / 2 ^ 40 % 256 ∷ n / 2 ^ 32 % 256 ∷ n / 2 ^ 24 % 256 ∷ n / 2 ^ 16 % 256 ∷ n / 2 ^ 8 % 256 ∷ n % 256 ∷ []) e6 in
-    byte_more 56 n (n / 2 ^ 48 % 256 ∷ n / 2 ^ 40 % 256 ∷ n / 2 ^ 32 % 256 ∷ n / 2 ^ 24 % 256 ∷ n / 2 ^ 16 % 256 ∷ n / 2 ^ 8 % 256 ∷ n % 256 ∷ []) e7
+flat-eight n = byte_more 56 n _ (byte_more 48 n _ (byte_more 40 n _ (byte_more 32 n _ (flat-four n))))
 
 -- no byte yet
 pub flat_none : (n : ℕ) → flat [] ≡ bits 0 n
@@ -106,11 +94,8 @@ pair_at from i h =
 own_part : (from : List ℕ) (shift i n m : ℕ) → shift + m ≤ 8 * n → i + n ≤ length from → bits m (num (part shift m (flat (take n (drop i from))))) ≡ part (shift + 8 * i) m (flat from)
 own_part from shift i n m fits held =
     let w = take n (drop i from) in
-    let size : length (flat w) ≡ 8 * n = omega (arith, length-flat w, length-take n (drop i from), length-drop i from) in
-    let p = part shift m (flat w) in
-    let long : length p ≡ m = length-part shift m (flat w) (omega (arith, size)) in
     let place : 8 * i + shift ≡ shift + 8 * i = omega arith in
-    subst (λ (k : ℕ). bits k (num p) ≡ p) long (bits-num p)
+    bits-num_part (flat w) shift m (omega (arith, length-flat w, length-take n (drop i from), length-drop i from))
     ∙ ap (part shift m) (flat-part i n from held) ∙ part-part shift m (8 * i) (8 * n) (flat from) (omega arith)
     ∙ ap (λ (k : ℕ). part k m (flat from)) place
 

@@ -1,11 +1,15 @@
 -- How often a variable stands among collected fields is one more than the number of its last occurrence.
-use Rattle.std.proofs.Common.{◌≡◌, ℕ, zero, suc, ◌+◌, ◌<◌, Bool, true, false, cond, List, [], ◌∷◌, ◌++◌, length, get_or, drop, refl, sym, ap, subst, ◌∙◌, arith}
+use Rattle.std.proofs.Common.{◌≡◌, ℕ, zero, suc, ◌+◌, ◌<◌, true, List, [], ◌∷◌, ◌++◌, length, get_or, drop, refl, sym, ap, subst, ◌∙◌, arith}
 use Rattle.balise_rules.specs.declared.variable.Var.{Var}
 use Rattle.balise_rules.specs.Tags.{Key, same_var, is_of}
 use Rattle.balise_rules.specs.Forms.{Fields, Numbered, NumberedFrom, count_of}
-use Rattle.balise_rules.proofs.Tests.{var_test, equal_yes}
+use Rattle.balise_rules.proofs.Tests.{split_on, var_test, equal_yes}
 use Rattle.balise_rules.proofs.Keys.{count-append}
 use Rattle.balise_layout.specs.Collected.{keyed, all_keyed}
+
+-- one field moved from those to come to those before
+count_of-moved : (v : Var) (seen : Fields) (f : Key × ℕ) (fs : Fields) → count_of v (seen ++ f ∷ []) + count_of v fs ≡ count_of v seen + count_of v (f ∷ fs)
+count_of-moved v seen f fs = ap (λ (n : ℕ). n + count_of v fs) (count-append v seen (f ∷ [])) ∙ split_on (is_of v f.0) (λ e. rw e (omega arith)) (λ e. rw e (omega arith))
 
 counted_last : (v : Var) (seen : Fields) (xs : List (Var × ℕ × ℕ)) (j : ℕ) (d : Var × ℕ × ℕ) → NumberedFrom seen (all_keyed xs) → j < length xs → count_of v (all_keyed (drop (suc j) xs)) ≡ 0 → v ≡ (get_or xs j d).0 → count_of v seen + count_of v (all_keyed xs) ≡ (get_or xs j d).1 + 1
 counted_last v seen [] j d m h none e = absurd (omega arith)
@@ -13,25 +17,11 @@ counted_last v seen (x ∷ xs) zero d m h none e =
     let here : is_of v (keyed x).0 ≡ true = equal_yes var_test v x.0 e in
     let k : x.1 ≡ count_of v seen = m.0 ∙ ap (λ (w : Var). count_of w seen) (sym e) in
     rw (here, none) (omega (arith, k))
-counted_last v seen (x ∷ xs) (suc j) d m h none e =
-    let more = counted_last v (seen ++ keyed x ∷ []) xs j d m.1 (omega (arith, h)) none e in
-    at (is_of v (keyed x).0) (sym (ap (λ (n : ℕ). n + count_of v (all_keyed xs)) (count-append v seen (keyed x ∷ []))) ∙ more)
-  where
-    at : (b : Bool) → (count_of v seen + cond b (suc 0) 0) + count_of v (all_keyed xs) ≡ (get_or xs j d).1 + 1 → count_of v seen + cond b (suc (count_of v (all_keyed xs))) (count_of v (all_keyed xs)) ≡ (get_or xs j d).1 + 1
-    at true h = omega (arith, h)
-    at false h = omega (arith, h)
+counted_last v seen (x ∷ xs) (suc j) d m h none e = sym (count_of-moved v seen (keyed x) (all_keyed xs)) ∙ counted_last v (seen ++ keyed x ∷ []) xs j d m.1 (omega (arith, h)) none e
 
 -- the last occurrence is at j
 pub count_of-last : (v : Var) (xs : List (Var × ℕ × ℕ)) (j : ℕ) (d : Var × ℕ × ℕ) → Numbered (all_keyed xs) → j < length xs → count_of v (all_keyed (drop (suc j) xs)) ≡ 0 → same_var (get_or xs j d).0 v ≡ true → (get_or xs j d).1 + 1 ≡ count_of v (all_keyed xs)
 count_of-last v xs j d m h none e = sym (counted_last v [] xs j d m h none (sym (var_test.one (get_or xs j d).0 v e))) ∙ omega arith
-
--- one field moved from those to come to those before
-count_of-moved : (v : Var) (seen : Fields) (f : Key × ℕ) (fs : Fields) → count_of v (seen ++ f ∷ []) + count_of v fs ≡ count_of v seen + count_of v (f ∷ fs)
-count_of-moved v seen f fs = ap (λ (n : ℕ). n + count_of v fs) (count-append v seen (f ∷ [])) ∙ at (is_of v f.0)
-  where
-    at : (b : Bool) → (count_of v seen + cond b (suc 0) 0) + count_of v fs ≡ count_of v seen + cond b (suc (count_of v fs)) (count_of v fs)
-    at true = omega arith
-    at false = omega arith
 
 numbered-push : (seen : Fields) (fs : Fields) (v : Var) (n : ℕ) → NumberedFrom seen fs → NumberedFrom seen (fs ++ ((v, count_of v seen + count_of v fs), n) ∷ [])
 numbered-push seen [] v n m = (omega arith, tt)

@@ -26,7 +26,7 @@ use Rattle.balise_layout.proofs.Walks.{walk_step}
 use Rattle.balise_rules.specs.declared.variable.Var.TheVariants.{NidPacket, QDir, LPacket}
 use Rattle.balise_rules.specs.Variables.{width_of}
 use Rattle.balise_rules.specs.Packets.{is_known}
-use Rattle.balise_rules.specs.Forms.{Form, Fields, Matches, plain, never}
+use Rattle.balise_rules.specs.Forms.{Form, Matches, plain, never}
 use Rattle.balise_rules.specs.Bits.{num}
 use Rattle.balise_layout.specs.LayoutLaws.{layout_reads}
 
@@ -46,28 +46,6 @@ Begun version n kind bits at end = (at ≤ end) × (end ≤ length bits) × Boun
 -- it is read by the form of its kind
 same_form : (version n : ℕ) (kind : PacketKind) (bits : List Bool) (at end : ℕ) → Begun version n kind bits at end → read_form (packet version) [] (take (end - at) (drop at bits)) ≡ read_form (headed (next_of (number_of kind))) [] (take (end - at) (drop at bits))
 same_form version n kind bits at end b = same_reading version n (next_of (number_of kind)) (take (end - at) (drop at bits)) (bounded_number n (end - at) (drop at bits) b.2) (ap (λ (o : Option ℕ). next_of o n) b.3 ∙ layout_reads version n)
-
-pub over_fails : {A : Type 0} (step : A → ℕ → Var → ℕ → A) (version n : ℕ) (kind : PacketKind) (bits : List Bool) (at end : ℕ) (old : A × List Bool) (a : A) (e : LayoutFault) (y : A × List Bool) → Begun version n kind bits at end → old ≡ (a, take (end - at) (drop at bits)) → walk step (headed (next_of (number_of kind))) old ≡ Err (e, y) → (e ≢ OutOfMemory) × Finds version bits at (Err e)
-over_fails step version n kind bits at end old a e y b start walked =
-    let front = take (end - at) (drop at bits) in
-    let form = headed (next_of (number_of kind)) in
-    let none = walked_none step form a front e y (ap (walk step form) (sym start) ∙ walked) in
-    (mismatch e none.0, bounded_reads version n (end - at) (drop at bits) b.2 ∙ ap (read_packet (drop (end - at) (drop at bits))) (same_form version n kind bits at end b ∙ none.1) ∙ ap refused (sym none.0))
-
-pub over_ends : {A : Type 0} (step : A → ℕ → Var → ℕ → A) (version n : ℕ) (kind : PacketKind) (bits : List Bool) (at end : ℕ) (old : A × List Bool) (a : A) (after : A × List Bool) → Begun version n kind bits at end → old ≡ (a, take (end - at) (drop at bits)) → walk step (headed (next_of (number_of kind))) old ≡ Ok after → Finds version bits at (Ok (kind, end))
-over_ends step version n kind bits at end old a after b start walked =
-    let size = end - at in
-    let front = take size (drop at bits) in
-    let next = next_of (number_of kind) in
-    let far : at + size ≡ end = omega (arith, b.0) in
-    let long : length front ≡ size = omega (arith, length-take size (drop at bits), length-drop at bits, b.0, b.1) in
-    let said = bounded_size n size (drop at bits) b.2 in
-    let whole : IsHeld next front = walked_held step next a front after (ap (walk step (headed next)) (sym start) ∙ walked) (said ∙ sym long) in
-    let p = held next front in
-    let reads = bounded_reads version n size (drop at bits) b.2
-    ∙ ap (read_packet (drop size (drop at bits))) (same_form version n kind bits at end b ∙ held_read next front p whole refl)
-    ∙ ap (packet_and p) (drop-drop size at bits ∙ ap (λ (k : ℕ). drop k bits) far) in
-    (b.0, b.1, whole, reads)
 
 -- a packet of the number has the layout by which the version reads it
 own_takes : (version n : ℕ) (k : Option ℕ) → k ≡ layout_in version n → (n == 0) ≡ false → (n == 255) ≡ false → takes k n ≡ true
@@ -91,20 +69,42 @@ over_head step next form bits at end a number dir said long within is =
     ∙ ap (λ f. walk step f (a, take (end - (at + 8 + 2 + 13)) (drop (at + 8 + 2 + 13) bits))) is
     ∙ ap (λ (k : ℕ). walk step form (a, take (end - k) (drop k bits))) places
 
-pub over_rest : {A : Type 0} (step : A → ℕ → Var → ℕ → A) (version n : ℕ) (kind : PacketKind) (bits : List Bool) (at end : ℕ) (a : A) → ((x : A) (l : ℕ) (v : Var) (m : ℕ) → x ≡ step x l v m) → Begun version n kind bits at end
-    → walk step (headed (next_of (number_of kind))) (a, take (end - at) (drop at bits)) ≡ walk step (form_of (number_of kind)) (a, take (end - (at + 23)) (drop (at + 23) bits))
-over_rest step version n kind bits at end a same b =
+-- So does what keeps nothing of any field, and a walker that begins after the first three.
+over_rest : {A : Type 0} (step : A → ℕ → Var → ℕ → A) (version n : ℕ) (kind : PacketKind) (bits : List Bool) (at end : ℕ) (old : A × List Bool) (a : A) → ((x : A) (l : ℕ) (v : Var) (m : ℕ) → x ≡ step x l v m) → Begun version n kind bits at end → old ≡ (a, take (end - (at + 23)) (drop (at + 23) bits))
+    → walk step (headed (next_of (number_of kind))) (a, take (end - at) (drop at bits)) ≡ walk step (form_of (number_of kind)) old
+over_rest step version n kind bits at end old a same b start =
     let h = b.2 in
     over_head step (next_of (number_of kind)) (form_of (number_of kind)) bits at end a (λ l m. same a l NidPacket m) (λ l m. same a l QDir m) (λ l m. same a l LPacket m) (omega (arith, b.0, h.least)) b.1
     (ap (next_of (number_of kind)) h.has_number ∙ next_own (number_of kind) n (own_takes version n (number_of kind) b.3 h.not_zero h.not_end))
+    ∙ ap (walk step (form_of (number_of kind))) (sym start)
+
+-- where what keeps nothing of fields goes over what follows the first three and fails, no packet is found
+pub over_fails : {A : Type 0} (step : A → ℕ → Var → ℕ → A) (version n : ℕ) (kind : PacketKind) (bits : List Bool) (at end : ℕ) (old : A × List Bool) (a : A) (e : LayoutFault) (y : A × List Bool) → ((x : A) (l : ℕ) (v : Var) (m : ℕ) → x ≡ step x l v m) → Begun version n kind bits at end → old ≡ (a, take (end - (at + 23)) (drop (at + 23) bits)) → walk step (form_of (number_of kind)) old ≡ Err (e, y) → (e ≢ OutOfMemory) × Finds version bits at (Err e)
+over_fails step version n kind bits at end old a e y same b start walked =
+    let front = take (end - at) (drop at bits) in
+    let none = walked_none step (headed (next_of (number_of kind))) a front e y (over_rest step version n kind bits at end old a same b start ∙ walked) in
+    (mismatch e none.0, bounded_reads version n (end - at) (drop at bits) b.2 ∙ ap (read_packet (drop (end - at) (drop at bits))) (same_form version n kind bits at end b ∙ none.1) ∙ ap refused (sym none.0))
+
+-- where it comes to the end, the packet is found
+pub over_ends : {A : Type 0} (step : A → ℕ → Var → ℕ → A) (version n : ℕ) (kind : PacketKind) (bits : List Bool) (at end : ℕ) (old : A × List Bool) (a : A) (after : A × List Bool) → ((x : A) (l : ℕ) (v : Var) (m : ℕ) → x ≡ step x l v m) → Begun version n kind bits at end → old ≡ (a, take (end - (at + 23)) (drop (at + 23) bits)) → walk step (form_of (number_of kind)) old ≡ Ok after → Finds version bits at (Ok (kind, end))
+over_ends step version n kind bits at end old a after same b start walked =
+    let size = end - at in
+    let front = take size (drop at bits) in
+    let next = next_of (number_of kind) in
+    let far : at + size ≡ end = omega (arith, b.0) in
+    let long : length front ≡ size = omega (arith, length-take size (drop at bits), length-drop at bits, b.0, b.1) in
+    let said = bounded_size n size (drop at bits) b.2 in
+    let whole : IsHeld next front = walked_held step next a front after (over_rest step version n kind bits at end old a same b start ∙ walked) (said ∙ sym long) in
+    let p = held next front in
+    let reads = bounded_reads version n size (drop at bits) b.2
+    ∙ ap (read_packet (drop size (drop at bits))) (same_form version n kind bits at end b ∙ held_read next front p whole refl)
+    ∙ ap (packet_and p) (drop-drop size at bits ∙ ap (λ (k : ℕ). drop k bits) far) in
+    (b.0, b.1, whole, reads)
 
 -- what follows the first three fields of a packet that lies there is of the form of its layout
 pub lying_form : (own : Option ℕ) (bits : List Bool) (at end : ℕ) (p : Packet) → Lies (next_of own) bits at end p → next_of own (num (take 8 (drop at bits))) ≡ form_of own
 lying_form own bits at end p l =
     let h = head_of (next_of own) p.fields p.rest l.holds.form l.holds.numbered in
     let number : num (take 8 (drop at bits)) ≡ h.number = number_lies (next_of own) bits at end p l ∙ number_is (next_of own) p.fields p.rest h in
-    let takes_it : takes own h.number ≡ true = split_on (takes own h.number) (λ e. e) (λ e. absurd (never_matched h.more p.rest (subst (λ (f : Form). Matches f h.more p.rest) (next_other own h.number e) h.matches))) in
+    let takes_it : takes own h.number ≡ true = split_on (takes own h.number) (λ e. e) (λ e. let none : Matches never h.more p.rest = subst (λ (f : Form). Matches f h.more p.rest) (next_other own h.number e) h.matches in absurd none) in
     ap (next_of own) number ∙ next_own own h.number takes_it
-  where
-    never_matched : (fs : Fields) (rest : List Bool) → Matches never fs rest → ⊥
-    never_matched fs rest m = m

@@ -1,6 +1,6 @@
 -- A packet that lies between two places of longer bits: what is read of it there is read of the packet.
 use Rattle.std.proofs.Common.{◌≡◌, ℕ, ◌+◌, ◌-◌, ◌/◌, ◌%◌, ◌^◌, ◌<◌, ◌≤◌, Bool, List, length, take, drop, Option, Some, Ok, refl, sym, ap, subst, ◌∙◌, arith, length-append}
-use Rattle.std.proofs.lemmas.List.{take-take, drop-take, drop-drop, take_at, length-take, length-drop}
+use Rattle.std.proofs.lemmas.List.{drop-drop, take_at, length-take, length-drop}
 use Rattle.balise_rules.specs.declared.variable.Var.{Var}
 use Rattle.balise_rules.specs.declared.variable.Var.TheVariants.{NidPacket, QDir}
 use Rattle.balise_rules.specs.Variables.{width_of}
@@ -10,8 +10,10 @@ use Rattle.balise_rules.specs.Packets.{body}
 use Rattle.balise_rules.specs.Packet.{Packet, bits_of, field_of, value, width, length_said, read_first}
 use Rattle.balise_rules.proofs.PacketAgain.{said_again}
 use Rattle.balise_bits.proofs.Pieces.{num-part, num-part_below}
-use Rattle.balise_bits.proofs.Putting.{length-part}
+use Rattle.balise_bits.proofs.Putting.{length-part, part-part}
+use Rattle.balise_layout.specs.declared.packet_ref.PacketRef.TheInside.{Inside}
 use Rattle.balise_layout.specs.Held.{before, headed, held, Holds, IsHeld}
+use Rattle.balise_layout.specs.Kinds.{number_of}
 use Rattle.balise_layout.specs.Layouts.{next_of, layout_in}
 use Rattle.balise_layout.proofs.First.{reads_begins, spells_holds}
 use Rattle.balise_layout.specs.LayoutLaws.{layout_reads}
@@ -24,8 +26,9 @@ pub record Lies (next : ℕ → Form) (b : List Bool) (at end : ℕ) (p : Packet
   pub within : end ≤ length b
   pub holds : Holds next (part at (end - at) b) p
 
-pub lies : (next : ℕ → Form) (b : List Bool) (at end : ℕ) (p : Packet) → (at ≤ end) × (end ≤ length b) × IsHeld next (part at (end - at) b) → held next (part at (end - at) b) ≡ p → Lies next b at end p
-lies next b at end p i e = record { ordered = i.0; within = i.1; holds = subst (Holds next (part at (end - at) b)) e i.2 }
+-- what is lent as a packet
+pub lies : (i : Inside) (p : Packet) → (i.at ≤ i.end) × (i.end ≤ length i.bits.now) × IsHeld (next_of (number_of i.kind)) (part i.at (i.end - i.at) i.bits.now) → held (next_of (number_of i.kind)) (part i.at (i.end - i.at) i.bits.now) ≡ p → Lies (next_of (number_of i.kind)) i.bits.now i.at i.end p
+lies i p h e = record { ordered = h.0; within = h.1; holds = subst (Holds (next_of (number_of i.kind)) (part i.at (i.end - i.at) i.bits.now)) e h.2 }
 
 pub part_long : (at end : ℕ) (b : List Bool) → at ≤ end → end ≤ length b → length (part at (end - at) b) ≡ end - at
 part_long at end b ordered within = omega (arith, length-take (end - at) (drop at b), length-drop at b, ordered, within)
@@ -40,14 +43,8 @@ least next b p h = (front_alone next p.fields p.rest (head_of next p.fields p.re
 pub lies_long : (next : ℕ → Form) (b : List Bool) (at end : ℕ) (p : Packet) → Lies next b at end p → at + 23 ≤ end
 lies_long next b at end p l = omega (arith, is_wide next b at end p l, least next _ p l.holds, l.ordered)
 
--- a part of a part
-part_in : (w d at n : ℕ) (b : List Bool) → d + w ≤ n → take w (drop d (part at n b)) ≡ part (at + d) w b
-part_in w d at n b h =
-    let split : n ≡ d + (n - d) = omega (arith, h) in
-    ap (λ (k : ℕ). take w (drop d (take k (drop at b)))) split
-    ∙ ap (take w) (drop-take d (n - d) (drop at b))
-    ∙ take-take w (n - d) (drop d (drop at b)) (omega (arith, h))
-    ∙ ap (take w) (drop-drop d at b)
+pub lies_within : (next : ℕ → Form) (b : List Bool) (at end : ℕ) (p : Packet) → Lies next b at end p → at + 23 ≤ length b
+lies_within next b at end p l = omega (arith, lies_long next b at end p l, l.within)
 
 -- the number and the length of a packet, from its first 23 bits
 pub head_parts : (b : List Bool) (at h : ℕ) → at + 23 ≤ length b → h ≡ num (part at 23 b) → (h / 2 ^ 15 ≡ num (part at 8 b)) × (h % 8192 ≡ num (part (at + 10) 13 b))
@@ -58,8 +55,8 @@ head_parts b at h within e =
     let front : num x / 2 ^ 15 % 2 ^ 8 ≡ num (part 0 8 x) = num-part x 0 8 15 (omega (arith, size)) in
     let back : num x / 2 ^ 0 % 2 ^ 13 ≡ num (part 10 13 x) = num-part x 10 13 0 (omega (arith, size)) in
     let here : at + 0 ≡ at = omega arith in
-    let number : num (part 0 8 x) ≡ num (part at 8 b) = ap num (part_in 8 0 at 23 b (omega arith)) ∙ ap (λ (k : ℕ). num (part k 8 b)) here in
-    let long : num (part 10 13 x) ≡ num (part (at + 10) 13 b) = ap num (part_in 13 10 at 23 b (omega arith)) in
+    let number : num (part 0 8 x) ≡ num (part at 8 b) = ap num (part-part 0 8 at 23 b (omega arith)) ∙ ap (λ (k : ℕ). num (part k 8 b)) here in
+    let long : num (part 10 13 x) ≡ num (part (at + 10) 13 b) = ap num (part-part 10 13 at 23 b (omega arith)) in
     (omega (arith, e, small, front, number), omega (arith, e, back, long))
 
 -- a field that stands in it
@@ -74,7 +71,7 @@ field_lies next b at end p v k d l e =
     let fits : d + width_of v ≤ end - at = omega (arith, inside, long) in
     record {
       within = omega (arith, fits, l.ordered);
-      is = stands_value next _ p v k d l.holds e ∙ ap (λ (x : List Bool). Some (num x)) (part_in (width_of v) d at (end - at) b fits);
+      is = stands_value next _ p v k d l.holds e ∙ ap (λ (x : List Bool). Some (num x)) (part-part d (width_of v) at (end - at) b fits);
     }
 
 -- the first two fields

@@ -1,25 +1,18 @@
 -- A packet of a layout has the number of that layout.
-use Rattle.std.proofs.Common.{◌≡◌, ◌⊎◌, ◌∙◌, inl, inr, ℕ, Bool, true, false, List, [], ◌∷◌, Option, Some, ap, refl, subst}
+use Rattle.std.proofs.Common.{◌≡◌, ◌⊎◌, ◌∙◌, inl, inr, ℕ, Bool, List, Option, Some, ap, subst}
 use Rattle.std.proofs.lemmas.Bool.{eqb-true}
 use Rattle.balise_rules.specs.declared.variable.Var.TheVariants.{NidPacket}
 use Rattle.balise_rules.specs.Forms.{Fields, Form, Matches, never}
 use Rattle.balise_rules.specs.Packet.{Packet, value}
+use Rattle.balise_rules.proofs.Tests.{split_on}
 use Rattle.balise_layout.specs.Held.{Holds}
 use Rattle.balise_layout.specs.Layouts.{next_of, takes}
 use Rattle.balise_layout.proofs.Layouts.{next_other}
 use Rattle.balise_layout.proofs.Spelt.{head_of}
 
-no_such : (fs : Fields) (raw : List Bool) → Matches never fs raw → ⊥
-no_such [] raw m = m
-no_such (f ∷ fs) raw m = m
-
 taken : (own n : ℕ) (fs : Fields) (raw : List Bool) → Matches (next_of (Some own) n) fs raw → n ≡ own
 unfolding takes
-taken own n fs raw m = by (takes (Some own) n) refl
-  where
-    by : (b : Bool) → takes (Some own) n ≡ b → n ≡ own
-    by true e = eqb-true n own e
-    by false e = absurd (no_such fs raw (subst (λ (f : Form). Matches f fs raw) (next_other (Some own) n e) m))
+taken own n fs raw m = split_on (takes (Some own) n) (λ e. eqb-true n own e) (λ e. let none : Matches never fs raw = subst (λ (f : Form). Matches f fs raw) (next_other (Some own) n e) m in absurd none)
 
 own_number : (own : ℕ) (b : List Bool) (p : Packet) → Holds (next_of (Some own)) b p → value NidPacket 0 p.fields ≡ own
 own_number own b p h = let f = head_of (next_of (Some own)) p.fields p.rest h.form h.numbered in ap (value NidPacket 0) f.is ∙ taken own f.number f.more p.rest f.matches

@@ -1,6 +1,8 @@
 -- Where a field of a packet stands among its bits, and what another value put there spells.
-use Rattle.std.proofs.Common.{◌≡◌, ℕ, suc, ◌+◌, ◌^◌, ◌<◌, ◌≤◌, Bool, true, false, cond, List, [], ◌∷◌, ◌++◌, length, take, drop, Option, Some, None, refl, sym, ap, ◌∙◌, append_assoc, arith, length-append}
+use Rattle.std.proofs.Common.{◌≡◌, ℕ, ◌+◌, ◌^◌, ◌<◌, ◌≤◌, Bool, true, false, cond, List, [], ◌∷◌, ◌++◌, length, take, drop, Option, Some, None, refl, sym, ap, ◌∙◌, append_assoc, arith, length-append}
 use Rattle.std.proofs.lemmas.List.{take_at, drop_at}
+use Rattle.std.proofs.Math.Seq.{drop-append-add}
+use Rattle.balise_bits.proofs.Putting.{put_at-append_right}
 use Rattle.balise_rules.specs.declared.variable.Var.{Var}
 use Rattle.balise_rules.specs.Variables.{width_of}
 use Rattle.balise_rules.specs.Bits.{bits, put_at}
@@ -33,19 +35,9 @@ pub further_is : (w : ℕ) (p : Option ℕ) (d : ℕ) → further w p ≡ Some d
 further_is w None d e = absurd cc
 further_is w (Some n) d e = record { from = n; is = refl; sum = sym (unsome e) }
 
-drop_further : (a b : List Bool) (d : ℕ) → drop (length a + d) (a ++ b) ≡ drop d b
-drop_further [] b d = ap (λ (n : ℕ). drop n b) (let e : 0 + d ≡ d = omega arith in e)
-drop_further (x ∷ a) b d = ap (λ (n : ℕ). drop n (x ∷ (a ++ b))) (let e : suc (length a) + d ≡ suc (length a + d) = omega arith in e) ∙ drop_further a b d
-
-take_further : (a b : List Bool) (d : ℕ) → take (length a + d) (a ++ b) ≡ a ++ take d b
-take_further [] b d = ap (λ (n : ℕ). take n b) (let e : 0 + d ≡ d = omega arith in e)
-take_further (x ∷ a) b d = ap (λ (n : ℕ). take n (x ∷ (a ++ b))) (let e : suc (length a) + d ≡ suc (length a + d) = omega arith in e) ∙ ap (λ (l : List Bool). x ∷ l) (take_further a b d)
-
 -- bits put after others
 pub put_further : (a b new : List Bool) (d : ℕ) → put_at (length a + d) new (a ++ b) ≡ a ++ put_at d new b
-put_further a b new d =
-    let far : (length a + d) + length new ≡ length a + (d + length new) = omega arith in
-    rw (take_further a b d, far, drop_further a b (d + length new)) (append_assoc a (take d b) (new ++ drop (d + length new) b))
+put_further a b new d = put_at-append_right (length a + d) d new a b refl
 
 pub standing : (v : Var) (k : ℕ) (fs : Fields) (raw : List Bool) (d : ℕ) → before (v, k) fs ≡ Some d → Standing v k fs raw d
 unfolding spelling
@@ -77,7 +69,7 @@ standing v k (f ∷ fs) raw d e = at (same_key (v, k) f.0) refl e (λ c i. stand
           value = s.value;
           is = ap (λ (b : Bool). cond b (Some f.1) (find same_key (v, k) fs)) is ∙ s.is;
           within = omega (arith, ap length whole, length-append (bits (width_of f.0.0) f.1) (spelling fs ++ raw), size, s.within, more.sum);
-          reads = ap (λ (x : List Bool). take (width_of v) (drop d x)) whole ∙ ap (λ (n : ℕ). take (width_of v) (drop n (bits (width_of f.0.0) f.1 ++ (spelling fs ++ raw)))) place ∙ ap (take (width_of v)) (drop_further (bits (width_of f.0.0) f.1) (spelling fs ++ raw) more.from) ∙ s.reads;
+          reads = ap (λ (x : List Bool). take (width_of v) (drop d x)) whole ∙ ap (λ (n : ℕ). take (width_of v) (drop n (bits (width_of f.0.0) f.1 ++ (spelling fs ++ raw)))) place ∙ ap (take (width_of v)) (drop-append-add (bits (width_of f.0.0) f.1) (spelling fs ++ raw) more.from) ∙ s.reads;
         }
 
 -- a field that isn't there

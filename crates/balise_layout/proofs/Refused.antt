@@ -1,5 +1,6 @@
 -- What reading answers by the number and the length at the front of the bits.
 use Rattle.std.proofs.Common.{◌≡◌, ◌≢◌, ℕ, ◌+◌, ◌-◌, ◌<◌, ◌≤◌, Bool, true, false, ◌||◌, eqb, ltb, List, [], length, take, drop, Err, refl, ap, ◌∙◌, arith}
+use Rattle.std.proofs.Math.Bool.{or-true}
 use Rattle.std.proofs.lemmas.Bool.{lt-ltb, le-ltb, ne_eqb}
 use Rattle.std.proofs.lemmas.List.{take-take, drop-take}
 use Rattle.balise_rules.specs.declared.refusal.Refusal.TheVariants.{PacketCut, LayoutMismatch, PacketZero}
@@ -33,10 +34,6 @@ refuse_cut version b h z n c =
     let end_not : eqb (num (take 8 b)) 255 ≡ false = ne_eqb _ _ n in
     rw (e, zero_not, end_not, c) refl
 
-or_true : (a : Bool) → (a || true) ≡ true
-or_true true = refl
-or_true false = refl
-
 pub refuse_few : (version : ℕ) (b : List Bool) → 8 ≤ length b → num (take 8 b) ≢ 0 → num (take 8 b) ≢ 255 → length b < 23 → read_first version b ≡ Err PacketCut
 refuse_few version b h z n few =
     let e : ltb (length b) 23 ≡ true = lt-ltb _ _ few in
@@ -45,12 +42,12 @@ refuse_few version b h z n few =
 pub refuse_small : (version : ℕ) (b : List Bool) → 8 ≤ length b → num (take 8 b) ≢ 0 → num (take 8 b) ≢ 255 → length_said b < 23 → read_first version b ≡ Err PacketCut
 refuse_small version b h z n small =
     let e : ltb (length_said b) 23 ≡ true = lt-ltb _ _ small in
-    refuse_cut version b h z n (rw (e, or_true (ltb (length b) 23)) refl)
+    refuse_cut version b h z n (rw (e, or-true (ltb (length b) 23)) refl)
 
 pub refuse_long : (version : ℕ) (b : List Bool) → 8 ≤ length b → num (take 8 b) ≢ 0 → num (take 8 b) ≢ 255 → length b < length_said b → read_first version b ≡ Err PacketCut
 refuse_long version b h z n long =
     let e : ltb (length b) (length_said b) ≡ true = lt-ltb _ _ long in
-    refuse_cut version b h z n (rw e (or_true (ltb (length b) 23 || ltb (length_said b) 23)))
+    refuse_cut version b h z n (rw e (or-true (ltb (length b) 23 || ltb (length_said b) 23)))
 
 -- ---- within its bounds
 

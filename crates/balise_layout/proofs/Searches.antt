@@ -1,12 +1,12 @@
 -- What a search over a packet's fields finds is where the field stands.
-use Rattle.std.proofs.Common.{◌≡◌, ℕ, zero, suc, ◌+◌, ◌-◌, ◌≤◌, Bool, true, false, ◌&&◌, cond, eqb, List, [], ◌∷◌, ◌++◌, length, Option, Some, None, refl, sym, ap, ◌∙◌, arith}
+use Rattle.std.proofs.Common.{◌≡◌, ℕ, zero, suc, ◌+◌, ◌-◌, ◌≤◌, Bool, true, false, cond, eqb, List, [], ◌∷◌, ◌++◌, length, Option, Some, None, refl, sym, ap, ◌∙◌, arith}
 use Rattle.std.proofs.Math.Dec.{eqb-suc-zero}
 use Rattle.std.proofs.lemmas.Bool.{eq-eqb, ne_eqb}
 use Rattle.balise_rules.specs.declared.variable.Var.{Var}
 use Rattle.balise_rules.specs.Variables.{width_of}
 use Rattle.balise_rules.specs.Tags.{Key, same_var, same_key}
 use Rattle.balise_rules.specs.Forms.{Fields, Numbered, NumberedFrom, count_of, spelling}
-use Rattle.balise_rules.proofs.Tests.{var_test, equal_yes, other_no}
+use Rattle.balise_rules.proofs.Tests.{test-sym, var_test, equal_yes}
 use Rattle.balise_rules.proofs.Keys.{count-more, count-other}
 use Rattle.balise_rules.proofs.Cases.{unsome}
 use Rattle.balise_layout.specs.declared.search.Search.{Search}
@@ -37,19 +37,14 @@ look_later v k left w n = let one : suc k - 1 ≡ k = omega arith in rw (eqb-suc
 
 -- the test of a field's key, where the variable is the one sought
 key_same : (v : Var) (k : ℕ) (f : Key × ℕ) (b : Bool) → v ≡ f.0.0 → eqb k f.0.1 ≡ b → same_key (v, k) f.0 ≡ b
-key_same v k f b e h = at (same_var v f.0.0) (equal_yes var_test v f.0.0 e)
-  where
-    at : (x : Bool) → x ≡ true → (x && eqb k f.0.1) ≡ b
-    at x p = rw p h
+key_same v k f b e h = rw (equal_yes var_test v f.0.0 e) h
 
 key_other : (v : Var) (k : ℕ) (f : Key × ℕ) → same_var f.0.0 v ≡ false → same_key (v, k) f.0 ≡ false
-key_other v k f h = at (same_var v f.0.0) (other_no var_test v f.0.0 (λ e. no (equal_yes var_test f.0.0 v (sym e))))
-  where
-    no : same_var f.0.0 v ≡ true → ⊥
-    no e = let bad : true ≡ false = sym e ∙ h in absurd cc
+key_other v k f h = rw (test-sym var_test v f.0.0 ∙ h) refl
 
-    at : (x : Bool) → x ≡ false → (x && eqb k f.0.1) ≡ false
-    at x p = rw p refl
+-- a field of another variable isn't counted
+count-same : (v : Var) (seen : Fields) (f : Key × ℕ) → same_var f.0.0 v ≡ false → count_of v (seen ++ f ∷ []) ≡ count_of v seen
+count-same v seen f h = count-other v seen f (test-sym var_test v f.0.0 ∙ h)
 
 -- a search that skips so many goes on after those that were counted
 pub search_from : (v : Var) (skip total : ℕ) (seen fs : Fields) → NumberedFrom seen fs → (kept look (searching v skip) total fs).found ≡ left_from total (before (v, count_of v seen + skip) fs)
@@ -63,11 +58,7 @@ search_from v zero total seen (f ∷ fs) m = here (same_var f.0.0 v) refl (λ h.
         rw (key_same v (count_of v seen + 0) f true v_is (eq-eqb _ _ k_is)) (found_stays v 0 total (total - width_of f.0.0) fs ∙ ap Some (let e : total ≡ total - 0 = omega arith in e))
     here false is later =
         let gone : same_key (v, count_of v seen + 0) f.0 ≡ false = key_other v (count_of v seen + 0) f is in
-        let same : count_of v (seen ++ f ∷ []) ≡ count_of v seen = count-other v seen f (other_no var_test v f.0.0 (λ e. apart is (equal_yes var_test f.0.0 v (sym e)))) in
-        rw gone (later is ∙ ap (λ (n : ℕ). left_from (total - width_of f.0.0) (before (v, n + 0) fs)) same ∙ left_further total (width_of f.0.0) (before (v, count_of v seen + 0) fs))
-      where
-        apart : same_var f.0.0 v ≡ false → same_var f.0.0 v ≡ true → ⊥
-        apart p q = let bad : true ≡ false = sym q ∙ p in absurd cc
+        rw gone (later is ∙ ap (λ (n : ℕ). left_from (total - width_of f.0.0) (before (v, n + 0) fs)) (count-same v seen f is) ∙ left_further total (width_of f.0.0) (before (v, count_of v seen + 0) fs))
 search_from v (suc skip) total seen (f ∷ fs) m =
     ap (λ (s : Search). (kept look s (total - width_of f.0.0) fs).found) (look_later v skip total f.0.0 f.1)
     ∙ here (same_var f.0.0 v) refl (λ k. search_from v k (total - width_of f.0.0) (seen ++ f ∷ []) fs m.1)
@@ -81,11 +72,7 @@ search_from v (suc skip) total seen (f ∷ fs) m =
         rw gone (later skip ∙ ap (λ (n : ℕ). left_from (total - width_of f.0.0) (before (v, n) fs)) next ∙ left_further total (width_of f.0.0) (before (v, count_of v seen + suc skip) fs))
     here false is later =
         let gone : same_key (v, count_of v seen + suc skip) f.0 ≡ false = key_other v (count_of v seen + suc skip) f is in
-        let same : count_of v (seen ++ f ∷ []) ≡ count_of v seen = count-other v seen f (other_no var_test v f.0.0 (λ e. apart is (equal_yes var_test f.0.0 v (sym e)))) in
-        rw gone (later (suc skip) ∙ ap (λ (n : ℕ). left_from (total - width_of f.0.0) (before (v, n + suc skip) fs)) same ∙ left_further total (width_of f.0.0) (before (v, count_of v seen + suc skip) fs))
-      where
-        apart : same_var f.0.0 v ≡ false → same_var f.0.0 v ≡ true → ⊥
-        apart p q = let bad : true ≡ false = sym q ∙ p in absurd cc
+        rw gone (later (suc skip) ∙ ap (λ (n : ℕ). left_from (total - width_of f.0.0) (before (v, n + suc skip) fs)) (count-same v seen f is) ∙ left_further total (width_of f.0.0) (before (v, count_of v seen + suc skip) fs))
 
 -- a search over a whole packet
 pub search_is : (v : Var) (k total : ℕ) (fs : Fields) → Numbered fs → (kept look (searching v k) total fs).found ≡ left_from total (before (v, k) fs)

@@ -14,7 +14,7 @@ use Rattle.balise_rules.specs.Forms.{Form, Fields}
 use Rattle.balise_rules.specs.Packet.{Packet, field_of, value, with_value, IsSpelt}
 use Rattle.balise_rules.specs.Edits.{exchanged}
 use Rattle.balise_rules.proofs.Numbers.{num-bits_fit}
-use Rattle.balise_rules.proofs.Tests.{key_test, split_keys}
+use Rattle.balise_rules.proofs.Tests.{key_test, split_keys, split_on}
 use Rattle.balise_rules.proofs.Keys.{numbered_distinct}
 use Rattle.balise_rules.proofs.Cases.{unsome}
 use Rattle.balise_rules.proofs.Each.{each-found}
@@ -84,11 +84,7 @@ accepted v k n d p e s fit =
 
 -- a value that is too wide leaves something when its width is shifted out
 pub shifted_out : (n w : ℕ) → n / 2 ^ w ≢ 0 → 2 ^ w ≤ n
-shifted_out n w h = at (ltb n (2 ^ w)) refl
-  where
-    at : (b : Bool) → ltb n (2 ^ w) ≡ b → 2 ^ w ≤ n
-    at true e = absurd (h (div-eq_of_lt (ltb-true n (2 ^ w) e)))
-    at false e = ltb-false n (2 ^ w) e
+shifted_out n w h = split_on (ltb n (2 ^ w)) (λ e. absurd (h (div-eq_of_lt (ltb-true n (2 ^ w) e)))) (λ e. ltb-false n (2 ^ w) e)
 
 pub nothing_left : (n w : ℕ) → n / 2 ^ w ≡ 0 → n < 2 ^ w
 nothing_left n w e =

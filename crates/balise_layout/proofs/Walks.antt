@@ -81,46 +81,37 @@ walk_found {A = A} before step (valued v next) a b after e =
       numbered = (refl, more.numbered);
     }
 
--- the fault of a walk that fails
-fault_is : {A : Type 0} (d e : LayoutFault) (x y : A) → ◌≡◌ {A = Result A (LayoutFault × A)} (Err (d, x)) (Err (e, y)) → d ≡ e
-fault_is {A = A} d e x y h = ap fault_of h
+failed : {S T : Type 0} (e : LayoutFault) (s y : S) (z : T) → ◌≡◌ {A = Result S (LayoutFault × S)} (Err (LayoutMismatch, s)) (Err (e, y)) → (e ≡ LayoutMismatch) × (w : T) × (◌≡◌ {A = Result T (LayoutFault × T)} (Err (LayoutMismatch, z)) (Err (e, w)))
+failed {S = S} {T = T} e s y z h = (sym is, z, ap (λ (f : LayoutFault). Err (f, z)) is)
   where
-    fault_of : Result A (LayoutFault × A) → LayoutFault
-    fault_of (Ok r) = d
+    fault_of : Result S (LayoutFault × S) → LayoutFault
+    fault_of (Ok r) = LayoutMismatch
     fault_of (Err r) = r.0
 
-fails_so : {B : Type 0} (d e : LayoutFault) (z : B) → d ≡ e → ◌≡◌ {A = Result B (LayoutFault × B)} (Err (d, z)) (Err (e, z))
-fails_so {B = B} d e z h = ap (λ (f : LayoutFault). Err (f, z)) h
+    is : LayoutMismatch ≡ e
+    is = ap fault_of h
 
--- a fault does not hang on what is kept
-pub walk_fails : {A B : Type 0} (s : A → ℕ → Var → ℕ → A) (t : B → ℕ → Var → ℕ → B) (form : Form) (a : A) (x : B) (b : List Bool) (e : LayoutFault) (y : A × List Bool) → walk s form (a, b) ≡ Err (e, y) → (z : B × List Bool) × (walk t form (x, b) ≡ Err (e, z))
+-- a walk has one fault, which does not hang on what is kept
+both_fail : {A B : Type 0} (s : A → ℕ → Var → ℕ → A) (t : B → ℕ → Var → ℕ → B) (form : Form) (a : A) (x : B) (b : List Bool) (e : LayoutFault) (y : A × List Bool) → walk s form (a, b) ≡ Err (e, y) → (e ≡ LayoutMismatch) × (z : B × List Bool) × (walk t form (x, b) ≡ Err (e, z))
 unfolding walk
-walk_fails {A = A} {B = B} s t done a x b e y h = absurd cc
-walk_fails {A = A} {B = B} s t shut a x [] e y h = absurd cc
-walk_fails {A = A} {B = B} s t shut a x (b ∷ bs) e y h = ((x, b ∷ bs), fails_so LayoutMismatch e (x, b ∷ bs) (fault_is LayoutMismatch e (a, b ∷ bs) y h))
-walk_fails {A = A} {B = B} s t never a x b e y h = ((x, b), fails_so LayoutMismatch e (x, b) (fault_is LayoutMismatch e (a, b) y h))
-walk_fails {A = A} {B = B} s t (valued v next) a x b e y h =
+both_fail s t done a x b e y h = absurd cc
+both_fail s t shut a x [] e y h = absurd cc
+both_fail s t shut a x (b ∷ bs) e y h = failed e (a, b ∷ bs) y (x, b ∷ bs) h
+both_fail s t never a x b e y h = failed e (a, b) y (x, b) h
+both_fail {A = A} {B = B} s t (valued v next) a x b e y h =
     let n = num (take (width_of v) b) in
-    both (ltb (length b) (width_of v)) _ _ h (walk_fails s t (next n) (s a (length b) v n) (t x (length b) v n) (drop (width_of v) b) e y)
+    both (ltb (length b) (width_of v)) _ _ h (both_fail s t (next n) (s a (length b) v n) (t x (length b) v n) (drop (width_of v) b) e y)
   where
-    both : (g : Bool) (r : Result (A × List Bool) (LayoutFault × (A × List Bool))) (q : Result (B × List Bool) (LayoutFault × (B × List Bool))) → cond g (Err (LayoutMismatch, (a, b))) r ≡ Err (e, y) → (r ≡ Err (e, y) → (z : B × List Bool) × (q ≡ Err (e, z))) → (z : B × List Bool) × (cond g (Err (LayoutMismatch, (x, b))) q ≡ Err (e, z))
-    both true r q h k = ((x, b), fails_so LayoutMismatch e (x, b) (fault_is LayoutMismatch e (a, b) y h))
+    both : (g : Bool) (r : Result (A × List Bool) (LayoutFault × (A × List Bool))) (q : Result (B × List Bool) (LayoutFault × (B × List Bool))) → cond g (Err (LayoutMismatch, (a, b))) r ≡ Err (e, y) → (r ≡ Err (e, y) → (e ≡ LayoutMismatch) × (z : B × List Bool) × (q ≡ Err (e, z)))
+        → (e ≡ LayoutMismatch) × (z : B × List Bool) × (cond g (Err (LayoutMismatch, (x, b))) q ≡ Err (e, z))
+    both true r q h k = failed e (a, b) y (x, b) h
     both false r q h k = k h
 
--- the one fault of a walk
+pub walk_fails : {A B : Type 0} (s : A → ℕ → Var → ℕ → A) (t : B → ℕ → Var → ℕ → B) (form : Form) (a : A) (x : B) (b : List Bool) (e : LayoutFault) (y : A × List Bool) → walk s form (a, b) ≡ Err (e, y) → (z : B × List Bool) × (walk t form (x, b) ≡ Err (e, z))
+walk_fails s t form a x b e y h = let f = both_fail s t form a x b e y h in (f.1, f.2)
+
 pub walk_fault : {A : Type 0} (step : A → ℕ → Var → ℕ → A) (form : Form) (a : A) (b : List Bool) (e : LayoutFault) (y : A × List Bool) → walk step form (a, b) ≡ Err (e, y) → e ≡ LayoutMismatch
-unfolding walk
-walk_fault {A = A} step done a b e y h = absurd cc
-walk_fault {A = A} step shut a [] e y h = absurd cc
-walk_fault {A = A} step shut a (b ∷ bs) e y h = sym (fault_is LayoutMismatch e (a, b ∷ bs) y h)
-walk_fault {A = A} step never a b e y h = sym (fault_is LayoutMismatch e (a, b) y h)
-walk_fault {A = A} step (valued v next) a b e y h =
-    let n = num (take (width_of v) b) in
-    one (ltb (length b) (width_of v)) _ h (walk_fault step (next n) (step a (length b) v n) (drop (width_of v) b) e y)
-  where
-    one : (g : Bool) (r : Result (A × List Bool) (LayoutFault × (A × List Bool))) → cond g (Err (LayoutMismatch, (a, b))) r ≡ Err (e, y) → (r ≡ Err (e, y) → e ≡ LayoutMismatch) → e ≡ LayoutMismatch
-    one true r h k = sym (fault_is LayoutMismatch e (a, b) y h)
-    one false r h k = k h
+walk_fault step form a b e y h = (both_fail step step form a a b e y h).0
 
 -- what was collected is the fields
 pub kept_collect : (fs gs : Fields) (n : ℕ) → NumberedFrom fs gs → kept collect fs n gs ≡ fs ++ gs

@@ -17,7 +17,7 @@ returns c =
     let i = c.self.inside in
     let p = c.args.self.now in
     let next = next_of (number_of i.kind) in
-    let l = lies next i.bits.now i.at i.end p c.self.invariant c.self.view_is in
+    let l = lies i p c.self.invariant c.self.view_is in
     c.into_elements.ensures
     ∙ ap (λ (x : ℕ × List Id). x.1) (c.into_visitor.ensures ∙ visited link next c.new.result _ p c.new-walker.result c.walk.new.walker l.holds c.new-walker.ensures c.in-Ok.ensures ∙ ap (λ (a : ℕ × List Id). kept link a (width p) p.fields) c.new.ensures)
     ∙ links_found c.args.country (width p) p l.holds.numbered (few_elements i.kind _ p l.holds)
@@ -27,5 +27,5 @@ returns-in_default c =
     let i = c.self.inside in
     let p = c.args.self.now in
     let next = next_of (number_of i.kind) in
-    let l = lies next i.bits.now i.at i.end p c.self.invariant c.self.view_is in
+    let l = lies i p c.self.invariant c.self.view_is in
     absurd (not_stuck link next c.new.result _ p c.new-walker.result _ _ l.holds c.new-walker.ensures (c.in_default.ensures (λ _. refl)))

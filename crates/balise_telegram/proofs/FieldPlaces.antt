@@ -1,6 +1,6 @@
 -- Where a packet and its fields stand among the bits that a telegram shows.
 -- From going over so many packets.
-use Rattle.std.proofs.Common.{◌≡◌, ◌∙◌, ℕ, zero, suc, ◌+◌, ◌<◌, ◌≤◌, Bool, true, false, cond, List, [], ◌∷◌, length, drop, take, get_or, Some, None, Ok, refl, sym, ap, length-append, arith}
+use Rattle.std.proofs.Common.{◌≡◌, ◌∙◌, ℕ, zero, suc, ◌+◌, ◌<◌, ◌≤◌, Bool, false, cond, List, [], ◌∷◌, length, drop, take, get_or, Some, None, Ok, refl, sym, ap, length-append, arith}
 use Rattle.std.proofs.lemmas.List.{length-drop}
 use Rattle.std.proofs.lemmas.Option.{slice_get-get_or}
 use Rattle.balise_rules.specs.declared.tag.Tag.{Tag}
@@ -19,7 +19,7 @@ use Rattle.balise_layout.proofs.Places.{further_is}
 use Rattle.balise_layout.proofs.Values.{dir_stands}
 use Rattle.balise_telegram.specs.Packed.{packet_place, place_from}
 use Rattle.balise_telegram.specs.Shown.{IsShown}
-use Rattle.balise_telegram.proofs.Tagging.{Packets, StandsAt, found, stands_behind}
+use Rattle.balise_telegram.proofs.Tagging.{Packets, none_here, StandsAt, found, stands_behind}
 use Rattle.balise_telegram.proofs.PackedPlaces.{field_stands, Located}
 use Rattle.balise_telegram.proofs.PackedChanges.{further_place}
 use Rattle.balise_telegram.proofs.PackedFields.{FieldThere}
@@ -41,19 +41,17 @@ further_on tag x xs i z other s = record { within = (let h = s.within in omega (
 
 pub placed : (tag : Tag) (at place : ℕ) (ps : Packets) → packet_place at tag ps ≡ Some place → Placed tag at place ps
 placed tag at place [] e = absurd cc
-placed tag at place (x ∷ xs) e = by (same_tag tag x.0) refl e (placed tag (at + width x.1) place xs)
-  where
-    by : (c : Bool) → same_tag tag x.0 ≡ c → cond c (Some at) (packet_place (at + width x.1) tag xs) ≡ Some place → (packet_place (at + width x.1) tag xs ≡ Some place → Placed tag (at + width x.1) place xs) → Placed tag at place (x ∷ xs)
-    by true same h later = record {
+placed tag at place (x ∷ xs) e = split_on (same_tag tag x.0)
+    (λ same. record {
       index = 0;
       item = x;
       stands = record { within = omega arith; is = refl; tagged = same; first = λ k l. absurd (omega (arith, l)) };
-      place_is = (let one = unsome h in omega (arith, one));
-    }
-    by false same h later =
-        let l = later h in
-        let e = l.place_is in
-        record { index = suc l.index; item = l.item; stands = further_on tag x xs l.index l.item same l.stands; place_is = omega (arith, e) }
+      place_is = (let here : Some at ≡ Some place = simp same at e in let one = unsome here in omega (arith, one));
+    })
+    (λ same.
+    let l = placed tag (at + width x.1) place xs (simp same at e) in
+    let far = l.place_is in
+    record { index = suc l.index; item = l.item; stands = further_on tag x xs l.index l.item same l.stands; place_is = omega (arith, far) })
 
 pub place_there : (tag : Tag) (at place : ℕ) (ps : Packets) (i : ℕ) (x : Tag × Packet) → StandsAt tag ps i x → place + 58 ≡ at + used (take i ps) → packet_place at tag ps ≡ Some place
 place_there tag at place [] i x s e = absurd (let h = s.within in omega (arith, h))
@@ -64,9 +62,7 @@ place_there tag at place (y ∷ ys) (suc i) x s e =
 
 pub no_place_there : (tag : Tag) (at : ℕ) (ps : Packets) → find same_tag tag ps ≡ None → packet_place at tag ps ≡ None
 no_place_there tag at [] n = refl
-no_place_there tag at (y ∷ ys) n =
-    split_on (same_tag tag y.0) (λ e. absurd (let h = simp e at n in cc))
-    (λ e. let h : find same_tag tag ys ≡ None = simp e at n in simp e (no_place_there tag (at + width y.1) ys h))
+no_place_there tag at (y ∷ ys) n = let h = none_here tag y ys n in let e = h.0 in simp e (no_place_there tag (at + width y.1) ys h.1)
 
 pub there : (b : List Bool) (y : Telegram) (tag : Tag) (place : ℕ) → IsShown b y → packet_place 50 tag y.packets ≡ Some place → Located b y tag y.packets place
 there b y tag place s e =
@@ -121,6 +117,10 @@ field_there b y tag v k place at s e f =
     let inside = packet_within b y tag place s e in
     let t = field_stands b y tag y.packets place v k at l (sym same) (omega (arith, inside)) in
     record { packet = l.packet; is = l.is; spelt = l.spelt; from = d.from; stands = d.is; within = t.within; reads = t.is }
+
+-- the field of a packet that was found
+pub field_found : (b : List Bool) (y : Telegram) (tag : Tag) (v : Var) (k place at : ℕ) → IsShown b y → Some place ≡ packet_place 50 tag y.packets → ((t : Tag) → packet_place 50 t y.packets ≡ Some place → Some at ≡ place_from 50 t (v, k) y.packets) → FieldThere b y tag v k at
+field_found b y tag v k place at s e f = field_there b y tag v k place at s (sym e) (sym (f tag (sym e)))
 
 pub dir_place : (b : List Bool) (y : Telegram) (tag : Tag) (place : ℕ) → IsShown b y → packet_place 50 tag y.packets ≡ Some place → place_from 50 tag (QDir, 0) y.packets ≡ Some (place + 8)
 dir_place b y tag place s e =

@@ -1,6 +1,7 @@
 -- Another value put where a field of a packet stands, in a telegram that is held as its bits.
 -- From what is put over the spelling of one packet, with all that stands after it as it is.
 use Rattle.std.proofs.Common.{◌≡◌, ◌∙◌, ℕ, ◌+◌, Bool, true, false, cond, List, [], ◌∷◌, ◌++◌, Some, None, refl, sym, ap, append_assoc, arith}
+use Rattle.std.proofs.lemmas.Bool.{cond_both}
 use Rattle.std.specs.Prelude.{All}
 use Rattle.std.proofs.lemmas.List.Elements.{All-head, All-tail}
 use Rattle.balise_rules.specs.declared.tag.Tag.{Tag}
@@ -15,7 +16,7 @@ use Rattle.balise_rules.specs.Telegram.{Telegram, packets_bits}
 use Rattle.balise_rules.proofs.Cases.{unsome}
 use Rattle.balise_rules.proofs.Each.{each-absent}
 use Rattle.balise_rules.proofs.Found.{fields_distinct}
-use Rattle.balise_rules.proofs.Tests.{tag_test}
+use Rattle.balise_rules.proofs.Tests.{split_on, tag_test}
 use Rattle.balise_layout.specs.Held.{before, further, with_field as with_packet_field}
 use Rattle.balise_layout.proofs.Places.{further_is, put_further, put_spelling}
 use Rattle.balise_telegram.specs.Packed.{packet_place, place_from}
@@ -26,11 +27,12 @@ use Rattle.balise_telegram.proofs.Tagging.{Packets, with_packet}
 -- where a field of the packet that was found stands
 pub further_place : (tag : Tag) (key : Key) (at place : ℕ) (ps : Packets) (p : Packet) → packet_place at tag ps ≡ Some place → find same_tag tag ps ≡ Some p → place_from at tag key ps ≡ further place (before key p.fields)
 further_place tag key at place [] p e f = absurd cc
-further_place tag key at place (x ∷ xs) p e f = by (same_tag tag x.0) e f (further_place tag key (at + width x.1) place xs p)
-  where
-    by : (c : Bool) → cond c (Some at) (packet_place (at + width x.1) tag xs) ≡ Some place → cond c (Some x.1) (find same_tag tag xs) ≡ Some p → (packet_place (at + width x.1) tag xs ≡ Some place → find same_tag tag xs ≡ Some p → place_from (at + width x.1) tag key xs ≡ further place (before key p.fields)) → cond c (further at (before key x.1.fields)) (place_from (at + width x.1) tag key xs) ≡ further place (before key p.fields)
-    by true e f later = ap (λ (q : Packet). further at (before key q.fields)) (unsome f) ∙ ap (λ (k : ℕ). further k (before key p.fields)) (unsome e)
-    by false e f later = later e f
+further_place tag key at place (x ∷ xs) p e f = split_on (same_tag tag x.0)
+    (λ d.
+    let here : Some at ≡ Some place = simp d at e in
+    let is : Some x.1 ≡ Some p = simp d at f in
+    simp d (ap (λ (q : Packet). further at (before key q.fields)) (unsome is) ∙ ap (λ (k : ℕ). further k (before key p.fields)) (unsome here)))
+    (λ d. simp d (further_place tag key (at + width x.1) place xs p (simp d at e) (simp d at f)))
 
 -- the packets with another value in one of them
 abbrev pub set_in : Tag → Var → ℕ → ℕ → Packets → Packets
@@ -84,18 +86,12 @@ put_packets version tag v k n at place (x ∷ xs) raw dist a e = by (same_tag ta
 -- two changes that make the same of the packet that is found
 each_alike : (tag : Tag) (f g : Packet → Packet) (ps : Packets) → Distinct same_tag ps → ((p : Packet) → find same_tag tag ps ≡ Some p → f p ≡ g p) → each (with_packet tag f) ps ≡ each (with_packet tag g) ps
 each_alike tag f g [] dist h = refl
-each_alike tag f g (x ∷ xs) dist h = by (same_tag tag x.0) refl (λ later. each_alike tag f g xs dist.1 later)
-  where
-    by : (c : Bool) → same_tag tag x.0 ≡ c → (((p : Packet) → find same_tag tag xs ≡ Some p → f p ≡ g p) → each (with_packet tag f) xs ≡ each (with_packet tag g) xs) → (x.0, with_packet tag f x.0 x.1) ∷ each (with_packet tag f) xs ≡ (x.0, with_packet tag g x.0 x.1) ∷ each (with_packet tag g) xs
-    by true same rest =
-        let gone : find same_tag tag xs ≡ None = ap (λ (t : Tag). find same_tag t xs) (tag_test.one tag x.0 same) ∙ dist.0 in
-        let here : f x.1 ≡ g x.1 = h x.1 (ap (λ (c : Bool). cond c (Some x.1) (find same_tag tag xs)) same) in
-        let one : with_packet tag f x.0 x.1 ≡ with_packet tag g x.0 x.1 = ap (λ (c : Bool). cond c (f x.1) x.1) same ∙ here ∙ ap (λ (c : Bool). cond c (g x.1) x.1) (sym same) in
-        ap (λ (p : Packet). (x.0, p) ∷ each (with_packet tag f) xs) one ∙ ap (λ (l : Packets). (x.0, with_packet tag g x.0 x.1) ∷ l) (each-absent same_tag tag f xs gone ∙ sym (each-absent same_tag tag g xs gone))
-    by false same rest =
-        let one : with_packet tag f x.0 x.1 ≡ with_packet tag g x.0 x.1 = ap (λ (c : Bool). cond c (f x.1) x.1) same ∙ ap (λ (c : Bool). cond c (g x.1) x.1) (sym same) in
-        let more = rest (λ p e. h p (ap (λ (c : Bool). cond c (Some x.1) (find same_tag tag xs)) same ∙ e)) in
-        ap (λ (p : Packet). (x.0, p) ∷ each (with_packet tag f) xs) one ∙ ap (λ (l : Packets). (x.0, with_packet tag g x.0 x.1) ∷ l) more
+each_alike tag f g (x ∷ xs) dist h = split_on (same_tag tag x.0)
+    (λ same.
+    let gone : find same_tag tag xs ≡ None = ap (λ (t : Tag). find same_tag t xs) (tag_test.one tag x.0 same) ∙ dist.0 in
+    let here : f x.1 ≡ g x.1 = h x.1 (simp same) in
+    simp (same, here) (ap (λ (l : Packets). (x.0, g x.1) ∷ l) (each-absent same_tag tag f xs gone ∙ sym (each-absent same_tag tag g xs gone))))
+    (λ same. simp same (ap (λ (l : Packets). x ∷ l) (each_alike tag f g xs dist.1 (λ p e. h p (simp same e)))))
 
 pub changed_alike : (tag : Tag) (f g : Packet → Packet) (y : Telegram) (p : Packet) → Distinct same_tag y.packets → find same_tag tag y.packets ≡ Some p → f p ≡ g p → with_changed tag f y ≡ with_changed tag g y
 changed_alike tag f g y p dist is same =
@@ -104,12 +100,8 @@ changed_alike tag f g y p dist is same =
 each_itself : (tag : Tag) (ps : Packets) → each (with_packet tag (λ x. x)) ps ≡ ps
 each_itself tag [] = refl
 each_itself tag (x ∷ xs) =
-    let one : with_packet tag (λ x. x) x.0 x.1 ≡ x.1 = by (same_tag tag x.0) in
+    let one : with_packet tag (λ x. x) x.0 x.1 ≡ x.1 = cond_both (same_tag tag x.0) x.1 x.1 (λ p. p ≡ x.1) (λ d. refl) (λ d. refl) in
     ap (λ (p : Packet). (x.0, p) ∷ each (with_packet tag (λ x. x)) xs) one ∙ ap (λ (l : Packets). x ∷ l) (each_itself tag xs)
-  where
-    by : (c : Bool) → cond c x.1 x.1 ≡ x.1
-    by true = refl
-    by false = refl
 
 -- a change that leaves the packet as it is
 pub kept_as_is : (tag : Tag) (f : Packet → Packet) (y : Telegram) (p : Packet) → Distinct same_tag y.packets → find same_tag tag y.packets ≡ Some p → f p ≡ p → y ≡ with_changed tag f y

@@ -1,6 +1,6 @@
 -- Going over the packets of a telegram that is held as its bits: what stands from a place on.
 -- From what is shown, one packet after another.
-use Rattle.std.proofs.Common.{◌≡◌, ◌∙◌, ℕ, ◌+◌, ◌-◌, ◌≤◌, Bool, true, false, cond, inl, inr, List, [], ◌∷◌, ◌++◌, length, take, drop, Option, Some, None, refl, sym, ap, append_assoc, length-append, arith}
+use Rattle.std.proofs.Common.{◌≡◌, ◌∙◌, ℕ, ◌+◌, ◌-◌, ◌≤◌, Bool, true, inl, inr, List, [], ◌∷◌, ◌++◌, length, take, drop, Option, Some, None, refl, sym, ap, append_assoc, length-append, arith}
 use Rattle.std.proofs.lemmas.List.{drop-drop, length-drop, length-replicate}
 use Rattle.balise_rules.specs.declared.tag.Tag.{Tag}
 use Rattle.balise_rules.specs.Bits.{num, ones, part}
@@ -12,6 +12,7 @@ use Rattle.balise_rules.specs.declared.variable.Var.{Var}
 use Rattle.balise_rules.specs.Variables.{width_of}
 use Rattle.balise_rules.specs.Packets.{packet}
 use Rattle.balise_rules.specs.Tagged.{find}
+use Rattle.balise_rules.proofs.Tests.{split_on}
 use Rattle.balise_rules.proofs.Numbers.{num-bits_fit}
 use Rattle.balise_layout.specs.Held.{before, further}
 use Rattle.balise_layout.proofs.Places.{standing, field_fits}
@@ -26,12 +27,10 @@ use Rattle.balise_telegram.proofs.Tagging.{Packets}
 pub held_read : (b : List Bool) → IsTelegram b → IsRead b (telegram_of (read_telegram b))
 held_read b e = telegram_read b (telegram_of (read_telegram b)) e
 
-pub long_enough : (b : List Bool) (y : Telegram) → IsRead b y → (58 ≤ length b) × (length b ≤ 830)
-long_enough b y r = by r.size
-  where
-    by : IsLength (length b) → (58 ≤ length b) × (length b ≤ 830)
-    by (inl e) = (omega (arith, e), omega (arith, e))
-    by (inr e) = (omega (arith, e), omega (arith, e))
+-- a telegram has room for its header and packet 255, and 830 bits at most
+pub length_within : (n : ℕ) → IsLength n → (58 ≤ n) × (n ≤ 830)
+length_within n (inl e) = (omega (arith, e), omega (arith, e))
+length_within n (inr e) = (omega (arith, e), omega (arith, e))
 
 -- the padding is as long as the telegram, and what is used lies within
 pub padding_long : (b : List Bool) (y : Telegram) → IsRead b y → (length b ≡ length y.padding) × (used y.packets ≤ length y.padding)
@@ -56,11 +55,9 @@ pub record Located (b : List Bool) (y : Telegram) (tag : Tag) (ps : Packets) (pl
 
 pub not_located : (tag : Tag) (at : ℕ) (left : Packets) → packet_place at tag left ≡ None → find same_tag tag left ≡ None
 not_located tag at [] e = refl
-not_located tag at (x ∷ xs) e = by (same_tag tag x.0) e (not_located tag (at + width x.1) xs)
-  where
-    by : (c : Bool) → cond c (Some at) (packet_place (at + width x.1) tag xs) ≡ None → (packet_place (at + width x.1) tag xs ≡ None → find same_tag tag xs ≡ None) → cond c (Some x.1) (find same_tag tag xs) ≡ None
-    by true h later = absurd cc
-    by false h later = later h
+not_located tag at (x ∷ xs) e = split_on (same_tag tag x.0)
+    (λ d. absurd (let h = simp d at e in cc))
+    (λ d. simp d (not_located tag (at + width x.1) xs (simp d at e)))
 
 -- a field of a packet that stands at a place
 pub record FieldStands (b : List Bool) (v : Var) (k : ℕ) (p : Packet) (at : ℕ) : Type 0 where

@@ -14,7 +14,7 @@ use Rattle.balise_rules.proofs.Distincts.{distinct-without}
 use Rattle.balise_rules.proofs.Used.{used-without}
 use Rattle.balise_telegram.specs.Reading.{IsHeld}
 use Rattle.balise_telegram.specs.Moving.{inserted}
-use Rattle.balise_telegram.proofs.Tagging.{Packets, is_tagged, StandsAt, stands_at, stands_behind, found, not_found}
+use Rattle.balise_telegram.proofs.Tagging.{Packets, is_tagged, none_here, StandsAt, stands_at, stands_behind, found, not_found}
 
 -- the packet taken out at its place is the packet taken out under its tag
 pub removed : (tag : Tag) (ps : Packets) (i : ℕ) (x : Tag × Packet) → Distinct same_tag ps → StandsAt tag ps i x → without same_tag tag ps ≡ remove ps i
@@ -56,15 +56,11 @@ put_at_place tag (y ∷ ys) (suc i) x z s =
 -- beside a tag that isn't there nothing is put
 pub none_after : (tag : Tag) (z : Tag × Packet) (ps : Packets) → find same_tag tag ps ≡ None → ps ≡ put_behind same_tag tag z ps
 none_after tag z [] n = refl
-none_after tag z (y ∷ ys) n =
-    split_on (same_tag tag y.0) (λ e. absurd (let h = simp e at n in cc))
-    (λ e. let h : find same_tag tag ys ≡ None = simp e at n in simp e (ap (λ l. y ∷ l) (none_after tag z ys h)))
+none_after tag z (y ∷ ys) n = let h = none_here tag y ys n in let e = h.0 in simp e (ap (λ l. y ∷ l) (none_after tag z ys h.1))
 
 pub none_before : (tag : Tag) (z : Tag × Packet) (ps : Packets) → find same_tag tag ps ≡ None → ps ≡ put_in_front same_tag tag z ps
 none_before tag z [] n = refl
-none_before tag z (y ∷ ys) n =
-    split_on (same_tag tag y.0) (λ e. absurd (let h = simp e at n in cc))
-    (λ e. let h : find same_tag tag ys ≡ None = simp e at n in simp e (ap (λ l. y ∷ l) (none_before tag z ys h)))
+none_before tag z (y ∷ ys) n = let h = none_here tag y ys n in let e = h.0 in simp e (ap (λ l. y ∷ l) (none_before tag z ys h.1))
 
 -- ---- what a telegram keeps
 
@@ -88,8 +84,7 @@ distinct-insert [] zero z u n = (refl, tt)
 distinct-insert [] (suc i) z u n = (refl, tt)
 distinct-insert (y ∷ ys) zero z u n = (n, u)
 distinct-insert (y ∷ ys) (suc i) z u n =
-    split_on (same_tag z.0 y.0) (λ e. absurd (let h = simp e at n in cc))
-    (λ e. let h : find same_tag z.0 ys ≡ None = simp e at n in (find-insert y.0 ys i z (flip_no tag_test z.0 y.0 e) ∙ u.0, distinct-insert ys i z u.1 h))
+    let h = none_here z.0 y ys n in (find-insert y.0 ys i z (flip_no tag_test z.0 y.0 h.0) ∙ u.0, distinct-insert ys i z u.1 h.1)
 
 pub held_insert : (ps : Packets) (padding : List Bool) (i : ℕ) (z : Tag × Packet) → IsHeld ps padding → find same_tag z.0 ps ≡ None → used ps + width z.1 ≤ length padding → IsHeld (insert ps i z) padding
 held_insert ps padding i z h n fits = let u = used-insert ps i z in record { tags = distinct-insert ps i z h.tags n; size = h.size; fits = omega (arith, u, fits) }

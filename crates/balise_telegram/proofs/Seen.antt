@@ -7,14 +7,17 @@ use Rattle.std.proofs.lemmas.List.{drop_at, length-replicate, map-append, take-m
 use Rattle.std.proofs.lemmas.List.Elements.{All-head, All-tail, All-cons, All-nil}
 use Rattle.balise_rules.specs.declared.tag.Tag.{Tag}
 use Rattle.balise_rules.specs.declared.tag.Tag.TheVariants.{Base}
-use Rattle.balise_rules.specs.Bits.{ones}
+use Rattle.balise_rules.specs.declared.variable.Var.{Var}
+use Rattle.balise_rules.specs.Bits.{bits, ones, put_at}
+use Rattle.balise_rules.specs.Variables.{width_of}
 use Rattle.balise_rules.specs.Forms.{spelling}
 use Rattle.balise_rules.specs.Packet.{Packet, bits_of, width, IsSpelt}
 use Rattle.balise_rules.specs.Telegram.{Telegram, version_of, used, packets_bits, TaggedFrom, IsRead, read_telegram}
 use Rattle.balise_rules.proofs.TaggedFrom.{tagged_distinct}
 use Rattle.balise_rules.proofs.TelegramAgain.{padding_shown, telegram_again}
 use Rattle.balise_telegram.specs.Packed.{telegram_of}
-use Rattle.balise_telegram.specs.Shown.{tagged_by, tags_of, seen_as, seen, Kept, IsShown, StandsFor}
+use Rattle.balise_telegram.specs.declared.telegram.contents.Contents.{Contents}
+use Rattle.balise_telegram.specs.Shown.{kept_of, packed_of, tagged_by, tags_of, seen_as, seen, Kept, IsShown, StandsFor}
 use Rattle.balise_telegram.proofs.PackedPlaces.{padding_long}
 use Rattle.balise_telegram.proofs.Tagging.{Packets}
 
@@ -114,6 +117,19 @@ seen_is b (Some e) y o =
 -- what is held then, and what it is seen as
 pub is_again : (b : List Bool) (k : Kept) (y : Telegram) → StandsFor b k y → StandsFor b k (seen b k) × (seen b k ≡ y)
 is_again b k y o = let e = seen_is b k y o in (subst (λ (z : Telegram). StandsFor b k z) (sym e) o, e)
+
+-- what is held stands for the telegram as which it is seen
+pub stands_as : (x : Contents) (y : Telegram) → StandsFor (packed_of x) (kept_of x) (seen (packed_of x) (kept_of x)) → seen (packed_of x) (kept_of x) ≡ y → StandsFor (packed_of x) (kept_of x) y
+stands_as x y o e = subst (λ (z : Telegram). StandsFor (packed_of x) (kept_of x) z) e o
+
+abbrev pub IsAgain : Contents → Telegram → Type 0
+IsAgain x y = StandsFor (packed_of x) (kept_of x) (seen (packed_of x) (kept_of x)) × (seen (packed_of x) (kept_of x) ≡ y)
+
+-- the same where a value was put into the bits
+pub put_again : (new old : Contents) (y : Telegram) (at w n : ℕ) (v : Var) → packed_of new ≡ put_at at (bits w n) (packed_of old) → w ≡ width_of v → kept_of new ≡ kept_of old → StandsFor (put_at at (bits (width_of v) n) (packed_of old)) (kept_of old) y → IsAgain new y
+put_again new old y at w n v put wide kept o =
+    let packed : put_at at (bits (width_of v) n) (packed_of old) ≡ packed_of new = ap (λ (k : ℕ). put_at at (bits k n) (packed_of old)) (sym wide) ∙ sym put in
+    is_again (packed_of new) (kept_of new) y (subst (λ (k : Kept). StandsFor (packed_of new) k y) (sym kept) (subst (λ (l : List Bool). StandsFor l (kept_of old) y) packed o))
 
 -- ---- the tags
 

@@ -1,6 +1,6 @@
 -- Going over the packets of the bits that a telegram shows.
 -- From what is shown, cut after so many packets.
-use Rattle.std.proofs.Common.{◌≡◌, ◌∙◌, ℕ, ◌+◌, ◌*◌, ◌<◌, ◌≤◌, Bool, false, eqb, inl, inr, List, [], ◌∷◌, ◌++◌, length, take, drop, get_or, slice_get, Some, Ok, refl, sym, ap, subst, append_assoc, length-append, arith}
+use Rattle.std.proofs.Common.{◌≡◌, ◌∙◌, ℕ, ◌+◌, ◌*◌, ◌<◌, ◌≤◌, Bool, false, eqb, List, [], ◌∷◌, ◌++◌, length, take, drop, get_or, slice_get, Some, Ok, refl, sym, ap, subst, append_assoc, length-append, arith}
 use Rattle.std.specs.Prelude.{All}
 use Rattle.std.proofs.lemmas.List.{drop_at, drop-drop, take-append-drop, take_all, length-drop, length-take-le, get_or-drop}
 use Rattle.std.proofs.lemmas.List.Elements.{All-head, All-tail, All-take, All-drop}
@@ -9,13 +9,14 @@ use Rattle.balise_rules.specs.declared.tag.Tag.{Tag}
 use Rattle.balise_rules.specs.Bits.{num, ones, part}
 use Rattle.balise_rules.specs.Forms.{spelling}
 use Rattle.balise_rules.specs.Packet.{Packet, bits_of, width, IsSpelt, length_said, read_first}
-use Rattle.balise_rules.specs.Telegram.{Telegram, header, version_of, used, packets_bits, shown, IsLength, read_header}
+use Rattle.balise_rules.specs.Telegram.{Telegram, header, version_of, used, packets_bits, shown, read_header}
 use Rattle.balise_rules.proofs.PacketAgain.{front_of, first_again, said_again}
 use Rattle.balise_rules.proofs.TelegramAgain.{fixed_length, header_again}
 use Rattle.balise_rules.proofs.TelegramRead.{header_fixed}
 use Rattle.balise_rules.proofs.TelegramShown.{used_is}
 use Rattle.balise_telegram.specs.declared.telegram.walking.Place.{Place}
 use Rattle.balise_telegram.specs.Shown.{IsPlace, IsShown, Passes}
+use Rattle.balise_telegram.proofs.PackedPlaces.{length_within}
 use Rattle.balise_telegram.proofs.Tagging.{Packets}
 use Rattle.balise_telegram.proofs.Using.{used-take}
 
@@ -52,11 +53,7 @@ ahead b y n at s e =
 
 -- the bits are as long as a telegram, and what is used lies within
 pub shown_size : (b : List Bool) (y : Telegram) → IsShown b y → (58 ≤ length b) × (length b ≤ 830)
-shown_size b y s = by s.size
-  where
-    by : IsLength (length b) → (58 ≤ length b) × (length b ≤ 830)
-    by (inl e) = (omega (arith, e), omega (arith, e))
-    by (inr e) = (omega (arith, e), omega (arith, e))
+shown_size b y s = length_within (length b) s.size
 
 pub used_within : (b : List Bool) (y : Telegram) → IsShown b y → used y.packets ≤ length b
 used_within b y s =
@@ -186,14 +183,14 @@ place_within b y n at s h e =
       omega (arith, long, length-drop at b, length-append (packets_bits (drop n ps)) (tail_of y), length-append (ones 8) left),
     )
 
--- what is known once all packets are gone over
-pub passed_all : (b : List Bool) (y : Telegram) (most n at : ℕ) → IsShown b y → length y.packets ≤ most → Passes y.packets most n at → (n ≡ length y.packets) × (at + 8 ≡ used y.packets)
-passed_all b y most n at s h p =
-    let all : n ≡ length y.packets = omega (arith, p.counted, h) in
-    (all, p.place ∙ ap used (take_all n y.packets (omega (arith, all))))
-
 pub few : (b : List Bool) (y : Telegram) → IsShown b y → length y.packets ≤ 33
 few b y s = omega (arith, spare (version_of y) y.packets s.packets, used_within b y s, (shown_size b y s).1)
+
+-- what is known once all packets are gone over, which are fewer than were asked
+pub passed_all : (b : List Bool) (y : Telegram) (p : Place) → IsShown b y → Passes y.packets 18446744073709551615 p.index p.at → (p.index ≡ length y.packets) × (p.at + 8 ≡ used y.packets)
+passed_all b y p s passes =
+    let all : p.index ≡ length y.packets = omega (arith, passes.counted, few b y s) in
+    (all, passes.place ∙ ap used (take_all p.index y.packets (omega (arith, all))))
 
 -- the packet at a place is read there
 pub lent_at : (b : List Bool) (y : Telegram) (i at version : ℕ) → IsShown b y → i < length y.packets → at + 8 ≡ used (take i y.packets) → version ≡ version_of y → (x : Tag × Packet) × (behind : List Bool) × (slice_get y.packets i ≡ Some x) × (read_first version (drop at b) ≡ Ok (x.1, behind))

@@ -4,7 +4,7 @@ use Rattle.balise_rules.specs.declared.variable.Var.TheVariants.{NidBg}
 use Rattle.balise_layout.specs.Setting.{renamed}
 use Rattle.balise_layout.proofs.Values.{with_field-missing}
 use Rattle.balise_telegram.proofs.PackedPlaces.{not_located}
-use Rattle.balise_telegram.proofs.PackedFields.{absent, found_there, none_stands}
+use Rattle.balise_telegram.proofs.PackedFields.{absent, field_missing}
 use Rattle.balise_telegram.proofs.PackedChanges.{kept_as_is}
 use Rattle.balise_telegram.proofs.telegram.Telegram.name_link.Goals as goal
 
@@ -19,8 +19,5 @@ returns-in-Some-place_in c = c.put_field.ensures c.args.tag c.args.k (sym (c.in-
 
 pub returns-in_default-place_in : goal.returns-in_default-place_in
 returns-in_default-place_in c =
-    let y = c.args.self.now in
-    let e = sym c.in-Some.ensures.place in
-    let p = found_there c.args.tag 50 c.in-Some.packet y.packets e in
-    let none = none_stands c.args.tag NidBg c.args.k c.in-Some.packet y.packets p.0 e p.1 (sym (c.in_default-place_in.ensures c.args.tag e)) in
-    kept_as_is c.args.tag (renamed c.args.k c.args.number) y p.0 c.in-Some.ensures.tags p.1 (with_field-missing p.0 NidBg c.args.k c.args.number none)
+    let p = field_missing c.args.tag NidBg c.args.k c.in-Some.packet c.args.self.now.packets c.in-Some.ensures.place c.in_default-place_in.ensures in
+    kept_as_is c.args.tag (renamed c.args.k c.args.number) c.args.self.now p.0 c.in-Some.ensures.tags p.1 (with_field-missing p.0 NidBg c.args.k c.args.number p.2)

@@ -20,11 +20,7 @@ overflow_add-place c =
     omega (arith, z.within, most)
 
 pub overflow_add-result : goal.overflow_add-result
-overflow_add-result c =
-    let r = c.requires in
-    let most = few c.args.bits.now r.0 r.1 in
-    let within = r.2.0 in
-    omega (arith, most, within)
+overflow_add-result c = omega (arith, few c.args.bits.now c.requires.0 c.requires.1, c.requires.2.0)
 
 pub overflow_add-result-2 : goal.overflow_add-result-2
 overflow_add-result-2 c =

@@ -1,3 +1,4 @@
+pub mod Coded
 pub mod Entries
 pub mod Held
 pub mod Put

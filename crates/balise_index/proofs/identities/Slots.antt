@@ -1,23 +1,18 @@
 -- Slots, and the cells that say where they are.
 use Rattle.std.proofs.Common.{◌≡◌, ◌∙◌, ℕ, zero, suc, true, false, List, [], ◌∷◌, Option, Some, None, length, option_map, slice_get, refl, sym, ap, arith}
 use Rattle.std.specs.Option.{is_some}
-use Rattle.std.proofs.lemmas.Bool.{true≢false}
+use Rattle.std.proofs.lemmas.Bool.{true≢false, cond_both}
 use Rattle.std.proofs.lemmas.Option.{slice_get_past}
 use Rattle.std.proofs.lemmas.Map.Entries.{place_from_lookup}
 use Rattle.balise_rules.specs.declared.identity.Id.{Id}
 use Rattle.balise_rules.specs.Tags.{same_id}
-use Rattle.balise_rules.proofs.Cases.{unsome}
-use Rattle.balise_rules.proofs.Tests.{id_test, split_on}
-use Rattle.balise_index.specs.Identities.{indexed}
+use Rattle.balise_rules.proofs.Cases.{unsome, found as by_option}
+use Rattle.balise_rules.proofs.Tests.{id_test, equal_yes, split_on}
+use Rattle.balise_index.specs.Identities.{indexed, Updates}
 use Rattle.balise_index.specs.IdentityMap.{IsPlaced}
 
 abbrev pub pair : {V : Type 0} → Id → V → Id × V
 pair q v = (q, v)
-
--- by what an option is
-pub by_option : {A P : Type 0} (o : Option A) → (o ≡ None → P) → ((x : A) → o ≡ Some x → P) → P
-by_option None n s = n refl
-by_option (Some x) n s = s x refl
 
 pub none_some : {A : Type 0} {o : Option A} {x : A} → o ≡ None → o ≡ Some x → ⊥
 none_some n s = let e = sym n ∙ s in cc
@@ -66,6 +61,14 @@ same_under xs ys cells noted at to q forth back =
     by_option (indexed xs q)
     (λ n. n ∙ sym (unplaced ys noted to q (λ i v e. let b = back i v e in none_some n (found xs cells at b.0 (q, v) b.1))))
     (λ v e. let p = standing xs cells at q v e in let f = forth p.0 v p.1 in e ∙ sym (found ys noted to f.0 (q, v) f.1))
+
+-- a slot with another value under one identity, and with the same under each other
+pub updates_by : {V : Type 0} (xs ys : List (Id × V)) (i : Id) (r : Option V) → indexed ys i ≡ r → ((q : Id) → same_id i q ≡ false → indexed ys q ≡ indexed xs q) → Updates xs ys i r
+updates_by xs ys i r here others q = cond_both (same_id i q) r (indexed xs q) (λ o. indexed ys q ≡ o) (λ d. ap (indexed ys) (sym (id_test.one i q d)) ∙ here) (others q)
+
+-- one identity isn't another one
+pub not_it : {V : Type 0} {s t : Id × V} → s ≡ t → same_id s.0 t.0 ≡ false → ⊥
+not_it {s = s} {t} e d = true≢false (sym (equal_yes id_test s.0 t.0 (ap (λ (z : Id × _). z.0) e)) ∙ d)
 
 pub at_place : {V : Type 0} (xs : List (Id × V)) (q : Id) (s : Id × V) → Some s ≡ option_map (λ (v : V). (q, v)) (indexed xs q) → (s.0 ≡ q) × (indexed xs q ≡ Some s.1)
 at_place {V} xs q s e = by (indexed xs q) e

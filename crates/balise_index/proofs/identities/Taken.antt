@@ -1,16 +1,16 @@
 -- One slot less, with the last one in its place.
-use Rattle.std.proofs.Common.{◌≡◌, ◌≢◌, ◌∙◌, ℕ, zero, suc, ◌-◌, ◌<◌, ◌≤◌, ◌⊎◌, inl, inr, false, cond, eqb, List, [], ◌∷◌, Option, Some, None, length, take, slice_get, slice_set, slice_index_or, refl, sym, ap, arith}
+use Rattle.std.proofs.Common.{◌≡◌, ◌≢◌, ◌∙◌, ℕ, zero, suc, ◌-◌, ◌<◌, ◌≤◌, ◌⊎◌, inl, inr, false, eqb, List, [], ◌∷◌, Option, Some, None, length, take, slice_get, slice_set, slice_index_or, refl, sym, ap, arith}
 use Rattle.std.specs.List.{swap_remove}
-use Rattle.std.proofs.lemmas.Bool.{true≢false, eqb-true, eqb-false, cases_lt}
+use Rattle.std.proofs.lemmas.Bool.{eqb-true, eqb-false, cases_lt}
 use Rattle.std.proofs.lemmas.Option.{slice_get_within, slice_get-get_or}
 use Rattle.balise_rules.specs.declared.identity.Id.{Id}
 use Rattle.balise_rules.specs.Tags.{same_id}
 use Rattle.balise_rules.proofs.Cases.{unsome}
-use Rattle.balise_rules.proofs.Tests.{id_test, split_on, split_keys, other_no}
-use Rattle.balise_index.specs.Identities.{indexed, Updates}
+use Rattle.balise_rules.proofs.Tests.{id_test, split_on, other_no}
+use Rattle.balise_index.specs.Identities.{Updates}
 use Rattle.balise_index.specs.Cells.{KeepsOthers}
 use Rattle.balise_index.specs.IdentityMap.{IsPlaced}
-use Rattle.balise_index.proofs.identities.Slots.{pair, unplaced, once, same_under}
+use Rattle.balise_index.proofs.identities.Slots.{pair, not_it, unplaced, once, same_under, updates_by}
 use Rattle.balise_index.proofs.identities.Written.{set_other, set_it}
 
 take_back : {A : Type 0} (n : ℕ) (xs : List A) (j : ℕ) (t : A) → slice_get (take n xs) j ≡ Some t → (j < n) × (slice_get xs j ≡ Some t)
@@ -51,14 +51,13 @@ module _ {V : Type 0} (xs : List (Id × V)) (cells : Id → Option ℕ) (at : Is
   pub moved_cell : (left : Id → Option ℕ) → KeepsOthers cells left s.0 → i < end → left moved.0 ≡ Some end
   moved_cell left forgot w = left_cell left forgot end moved last (λ k. omega (arith, w, k))
 
-  stays : (j : ℕ) (t : Id × V) → slice_get fewer j ≡ Some t → (j < end) × (((i ≡ j) × (moved ≡ t)) ⊎ ((i ≢ j) × (slice_get xs j ≡ Some t)))
-  stays j t e =
-      let h = take_back end (slice_set xs i moved) j t e in (
-        h.0,
-        split_on (eqb i j)
-            (λ d. let k = eqb-true i j d in inl (k, unsome (sym (set_it xs i moved s here) ∙ ap (slice_get (slice_set xs i moved)) k ∙ h.1)))
-            (λ d. inr (eqb-false i j d, sym (set_other xs i j moved (eqb-false i j d)) ∙ h.1)),
-      )
+  -- by cases: the one that was moved stands there, or what stood there
+  stays : {P : Type 0} (j : ℕ) (t : Id × V) → slice_get fewer j ≡ Some t → (j < end → i ≡ j → moved ≡ t → P) → (j < end → i ≢ j → slice_get xs j ≡ Some t → P) → P
+  stays j t e f g =
+      let h = take_back end (slice_set xs i moved) j t e in
+      split_on (eqb i j)
+      (λ d. let k = eqb-true i j d in f h.0 k (unsome (sym (set_it xs i moved s here) ∙ ap (slice_get (slice_set xs i moved)) k ∙ h.1)))
+      (λ d. let n = eqb-false i j d in g h.0 n (sym (set_other xs i j moved n) ∙ h.1))
 
   stands : (j : ℕ) (t : Id × V) → slice_get xs j ≡ Some t → i ≢ j → (k : ℕ) × (slice_get fewer k ≡ Some t)
   stands j t e n = by (cases_lt j end)
@@ -78,39 +77,24 @@ module _ {V : Type 0} (xs : List (Id × V)) (cells : Id → Option ℕ) (at : Is
   pub placed_last : (left : Id → Option ℕ) → KeepsOthers cells left s.0 → length fewer ≤ length xs → end ≤ i → IsPlaced fewer left
   placed_last left forgot short past = record {
     few = omega (arith, short, at.few);
-    placed = λ j t e. let h = stays j t e in by j t h.0 h.1;
+    placed = λ j t e. stays j t e (λ w k m. absurd (omega arith)) (λ w n f. left_cell left forgot j t f n);
   }
-    where
-      by : (j : ℕ) (t : Id × V) → j < end → ((i ≡ j) × (moved ≡ t)) ⊎ ((i ≢ j) × (slice_get xs j ≡ Some t)) → left t.0 ≡ Some j
-      by j t w (inl h) = absurd (let k = h.0 in omega (arith, w, past, k))
-      by j t w (inr h) = left_cell left forgot j t h.1 h.0
 
   pub placed_moved : (left noted : Id → Option ℕ) → KeepsOthers cells left s.0 → length fewer ≤ length xs → KeepsOthers left noted moved.0 → noted moved.0 ≡ Some i → IsPlaced fewer noted
   placed_moved left noted forgot short kept set = record {
     few = omega (arith, short, at.few);
-    placed = λ j t e. let h = stays j t e in by j t h.0 h.1;
+    placed = λ j t e. stays j t e
+        (λ w k m. ap (λ (z : Id × V). noted z.0) (sym m) ∙ set ∙ ap (λ (k : ℕ). Some k) k)
+        (λ w n f. kept t.0
+        (other_no id_test moved.0 t.0 (λ k. omega (arith, once xs cells at end j moved t last f k)))
+        j (left_cell left forgot j t f n));
   }
-    where
-      by : (j : ℕ) (t : Id × V) → j < end → ((i ≡ j) × (moved ≡ t)) ⊎ ((i ≢ j) × (slice_get xs j ≡ Some t)) → noted t.0 ≡ Some j
-      by j t w (inl h) = ap (λ (z : Id × V). noted z.0) (sym h.1) ∙ set ∙ ap (λ (k : ℕ). Some k) h.0
-      by j t w (inr h) =
-          kept t.0
-          (other_no id_test moved.0 t.0 (λ k. let same = once xs cells at end j moved t last h.1 k in omega (arith, w, same)))
-          j (left_cell left forgot j t h.1 h.0)
 
   pub updates_out : (noted : Id → Option ℕ) → IsPlaced fewer noted → Updates xs fewer s.0 None
-  updates_out noted to q =
-      split_keys id_test s.0 q
-      (λ d k. unplaced fewer noted to q (λ j v e. let h = stays j (q, v) e in gone k j v h.0 h.1) ∙ ap (λ b. cond b None (indexed xs q)) (sym d))
-      (λ d. same_under fewer xs noted cells to at q
-      (λ j v e. let h = stays j (q, v) e in back j v h.1)
-      (λ j v e. stands j (q, v) e (λ k. let u : s ≡ pair q v = unsome (sym here ∙ ap (slice_get xs) k ∙ e) in true≢false (sym (id_test.itself s.0) ∙ ap (λ (z : Id × V). same_id s.0 z.0) u ∙ d)))
-      ∙ ap (λ b. cond b None (indexed xs q)) (sym d))
-    where
-      gone : s.0 ≡ q → (j : ℕ) (v : V) → j < end → ((i ≡ j) × (moved ≡ pair q v)) ⊎ ((i ≢ j) × (slice_get xs j ≡ Some (pair q v))) → ⊥
-      gone k j v w (inl h) = let same = once xs cells at end i moved s last here (ap (λ (z : Id × V). z.0) h.1 ∙ sym k) in let e = h.0 in omega (arith, w, same, e)
-      gone k j v w (inr h) = h.0 (once xs cells at i j s (pair q v) here h.1 k)
-
-      back : (j : ℕ) (v : V) → ((i ≡ j) × (moved ≡ pair q v)) ⊎ ((i ≢ j) × (slice_get xs j ≡ Some (pair q v))) → (k : ℕ) × (slice_get xs k ≡ Some (q, v))
-      back j v (inl h) = (end, last ∙ ap (λ (z : Id × V). Some z) h.1)
-      back j v (inr h) = (j, h.1)
+  updates_out noted to = updates_by xs fewer s.0 None
+      (unplaced fewer noted to s.0 (λ j v e. stays j (pair s.0 v) e
+      (λ w k m. omega (arith, once xs cells at end i moved s last here (ap (λ (z : Id × V). z.0) m)))
+      (λ w n f. n (once xs cells at i j s (pair s.0 v) here f refl))))
+      (λ q d. same_under fewer xs noted cells to at q
+      (λ j v e. stays j (pair q v) e (λ w k m. (end, last ∙ ap (λ (z : Id × V). Some z) m)) (λ w n f. (j, f)))
+      (λ j v e. stands j (q, v) e (λ k. let u : s ≡ pair q v = unsome (sym here ∙ ap (slice_get xs) k ∙ e) in not_it u d)))

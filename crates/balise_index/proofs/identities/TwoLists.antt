@@ -5,12 +5,12 @@ use Rattle.std.specs.Option.{is_some, IfSome}
 use Rattle.std.proofs.lemmas.Bool.{true≢false, ltb-true, ltb-false}
 use Rattle.std.proofs.lemmas.Option.{slice_get_past, slice_get_read}
 use Rattle.balise_rules.specs.declared.identity.Id.{Id}
-use Rattle.balise_rules.proofs.Cases.{unsome}
+use Rattle.balise_rules.proofs.Cases.{unsome, found as by_option}
 use Rattle.balise_index.specs.declared.identity_map.narrow.Narrow.{Narrow}
 use Rattle.balise_index.specs.Identities.{indexed, Updates}
 use Rattle.balise_index.specs.IdentityMap.{IsPlaced}
 use Rattle.balise_index.specs.Narrow.{wide, slots_of}
-use Rattle.balise_index.proofs.identities.Slots.{at_place, by_option}
+use Rattle.balise_index.proofs.identities.Slots.{at_place}
 use Rattle.balise_index.proofs.identities.Written.{placed_set, updates_set}
 
 pub length_slots : {V : Type 0} (ns : List Narrow) (vs : List V) → length ns ≡ length vs → length (slots_of ns vs) ≡ length ns
@@ -36,9 +36,8 @@ slot_there ns vs i n e f = let v = slot_value ns vs i n e f in (v.0, get_slot ns
 
 -- and each value a slot
 pub slot_identity : {V : Type 0} (ns : List Narrow) (vs : List V) (i : ℕ) (v : V) → length ns ≡ length vs → slice_get vs i ≡ Some v → (n : Narrow) × (slice_get ns i ≡ Some n)
-slot_identity [] [] i v e f = cc
+slot_identity ns [] i v e f = cc
 slot_identity [] (w ∷ vs) i v e f = cc
-slot_identity (m ∷ ns) [] i v e f = cc
 slot_identity (m ∷ ns) (w ∷ vs) zero v e f = (m, refl)
 slot_identity (m ∷ ns) (w ∷ vs) (suc i) v e f = slot_identity ns vs i v (omega (arith, e)) f
 

@@ -1,14 +1,13 @@
 -- One value written to its slot.
-use Rattle.std.proofs.Common.{◌≡◌, ◌≢◌, ◌∙◌, ℕ, zero, suc, true, false, cond, eqb, List, [], ◌∷◌, Option, Some, slice_get, slice_set, refl, sym, ap, arith}
-use Rattle.std.proofs.lemmas.Bool.{true≢false, eqb-true, eqb-false, eq-eqb}
+use Rattle.std.proofs.Common.{◌≡◌, ◌≢◌, ◌∙◌, ℕ, zero, suc, true, false, eqb, List, [], ◌∷◌, Option, Some, slice_get, slice_set, refl, sym, ap, arith}
+use Rattle.std.proofs.lemmas.Bool.{eqb-true, eqb-false, eq-eqb}
 use Rattle.std.proofs.Math.ListN.{length-set}
 use Rattle.balise_rules.specs.declared.identity.Id.{Id}
-use Rattle.balise_rules.specs.Tags.{same_id}
 use Rattle.balise_rules.proofs.Cases.{unsome}
-use Rattle.balise_rules.proofs.Tests.{id_test, split_on, split_keys}
-use Rattle.balise_index.specs.Identities.{indexed, Updates}
+use Rattle.balise_rules.proofs.Tests.{split_on}
+use Rattle.balise_index.specs.Identities.{Updates}
 use Rattle.balise_index.specs.IdentityMap.{IsPlaced}
-use Rattle.balise_index.proofs.identities.Slots.{pair, found, same_under}
+use Rattle.balise_index.proofs.identities.Slots.{pair, found, not_it, same_under, updates_by}
 
 pub set_it : {A : Type 0} (xs : List A) (i : ℕ) (x s : A) → slice_get xs i ≡ Some s → slice_get (slice_set xs i x) i ≡ Some x
 set_it [] i x s e = cc
@@ -41,14 +40,12 @@ module _ {V : Type 0} (xs : List (Id × V)) (cells : Id → Option ℕ) (at : Is
   }
 
   pub updates_set : Updates xs written s.0 (Some w)
-  updates_set q =
-      split_keys id_test s.0 q
-      (λ d e. ap (indexed written) (sym e) ∙ found written cells placed_set i (s.0, w) (at_it i (eq-eqb i i refl)) ∙ ap (λ b. cond b (Some w) (indexed xs q)) (sym d))
-      (λ d. same_under written xs cells cells placed_set at q
+  updates_set = updates_by xs written s.0 (Some w)
+      (found written cells placed_set i (s.0, w) (at_it i (eq-eqb i i refl)))
+      (λ q d. same_under written xs cells cells placed_set at q
       (λ j v e. split_on (eqb i j)
-      (λ h. let u : pair s.0 w ≡ pair q v = unsome (sym (at_it j h) ∙ e) in absurd (true≢false (sym (id_test.itself s.0) ∙ ap (λ (z : Id × V). same_id s.0 z.0) u ∙ d)))
+      (λ h. let u : pair s.0 w ≡ pair q v = unsome (sym (at_it j h) ∙ e) in absurd (not_it u d))
       (λ h. (j, sym (elsewhere j h) ∙ e)))
       (λ j v e. split_on (eqb i j)
-      (λ h. let u : s ≡ pair q v = unsome (sym here ∙ ap (slice_get xs) (eqb-true i j h) ∙ e) in absurd (true≢false (sym (id_test.itself s.0) ∙ ap (λ (z : Id × V). same_id s.0 z.0) u ∙ d)))
-      (λ h. (j, elsewhere j h ∙ e)))
-      ∙ ap (λ b. cond b (Some w) (indexed xs q)) (sym d))
+      (λ h. let u : s ≡ pair q v = unsome (sym here ∙ ap (slice_get xs) (eqb-true i j h) ∙ e) in absurd (not_it u d))
+      (λ h. (j, elsewhere j h ∙ e))))

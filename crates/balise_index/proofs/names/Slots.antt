@@ -4,6 +4,7 @@ use Rattle.std.specs.Prelude.{option_and_then}
 use Rattle.std.specs.Option.{IfSome, IsSome}
 use Rattle.std.specs.BTreeSet as set
 use Rattle.std.proofs.Math.Path.{fun_ext}
+use Rattle.std.proofs.lemmas.Bool.{cond_both}
 use Rattle.balise_rules.specs.declared.identity.Id.{Id}
 use Rattle.balise_rules.proofs.Tests.{split_on}
 use Rattle.balise_index.specs.declared.link_place.LinkPlace.{LinkPlace}
@@ -13,73 +14,20 @@ use Rattle.balise_index.specs.Identities as slots
 use Rattle.balise_index.specs.NameIndex.{if_any, in_links, names_in, names_of, some_links, AreFull, IndexOf, NameIndex, Sets}
 use Rattle.balise_index.specs.Places.{Links, compare_place, is_place}
 use Rattle.balise_index.proofs.identities.Equal.{id_one}
-use Rattle.balise_index.proofs.names.Written.{empty_inside, no_length, written}
-
--- ---- one slot is another one, or none
+use Rattle.balise_index.proofs.names.Written.{empty_inside, written}
 
 -- what a question about a slot answers under each identity
-abbrev pub asked : {B : Type 0} → (Named → Option B) → NameIndex → IndexOf B
+abbrev asked : {B : Type 0} → (Named → Option B) → NameIndex → IndexOf B
 asked f m i = option_and_then f (slots.indexed m i)
-
-module _ {B : Type 0} (f : Named → Option B) (m n : NameIndex) (q : Id) (o : Option Named) (slot : (r : Id) → slots.indexed n r ≡ cond (is_id q r) o (slots.indexed m r)) where
-  over : (b : Bool) (x y : Option Named) → option_and_then f (cond b x y) ≡ cond b (option_and_then f x) (option_and_then f y)
-  over true x y = refl
-  over false x y = refl
-
-  pub answer : (r : Id) → asked f n r ≡ cond (is_id q r) (option_and_then f o) (asked f m r)
-  answer r = ap (option_and_then f) (slot r) ∙ over (is_id q r) o (slots.indexed m r)
-
-  -- the answer is as before
-  pub stays : option_and_then f o ≡ asked f m q → asked f n ≡ asked f m
-  stays e = fun_ext (λ r. split_on (is_id q r)
-      (λ t. answer r ∙ ap (λ b. cond b (option_and_then f o) (asked f m r)) t ∙ e ∙ ap (asked f m) (id_one q r t))
-      (λ t. answer r ∙ ap (λ b. cond b (option_and_then f o) (asked f m r)) t))
-
--- a slot that is lent, and written; the index is seen from inside and from outside
-module _ (inner m n : NameIndex) (view : inner ≡ m) (q : Id) (a : Named) (was : Some a ≡ slots.indexed inner q) where
-  pub held_there : Some a ≡ slots.indexed m q
-  held_there = subst (λ x. Some a ≡ slots.indexed x q) view was
-
-  pub lent : (b : Named) → (IsSome (slots.indexed inner q) → slots.Updates inner n q (Some b)) → (r : Id) → slots.indexed n r ≡ cond (is_id q r) (Some b) (slots.indexed m r)
-  lent b w r = subst (λ x. slots.indexed n r ≡ cond (is_id q r) (Some b) (slots.indexed x r)) view (w (subst (λ o. IsSome o) was refl) r)
-
-  -- what is asked of it has the same answer
-  pub as_it_was : {B : Type 0} (f : Named → Option B) (b : Named) → f b ≡ f a → (IsSome (slots.indexed inner q) → slots.Updates inner n q (Some b)) → asked f n ≡ asked f m
-  as_it_was f b e w = stays f m n q (Some b) (lent b w) (e ∙ ap (option_and_then f) held_there)
-
--- a slot that is written, and then taken out
-pub twice : (l m n : NameIndex) (q : Id) (a b : Option Named) → ((r : Id) → slots.indexed m r ≡ cond (is_id q r) a (slots.indexed l r)) → ((r : Id) → slots.indexed n r ≡ cond (is_id q r) b (slots.indexed m r)) →
-    (r : Id) → slots.indexed n r ≡ cond (is_id q r) b (slots.indexed l r)
-twice l m n q a b f g r = g r ∙ ap (cond (is_id q r) b) (f r) ∙ again (is_id q r) a b (slots.indexed l r)
-  where
-    again : (c : Bool) (x y z : Option Named) → cond c y (cond c x z) ≡ cond c y z
-    again true x y z = refl
-    again false x y z = refl
-
--- nothing stands in a slot that isn't there
-pub absent : (m : NameIndex) (q : Id) → None ≡ slots.indexed m q → (r : Id) → slots.indexed m r ≡ cond (is_id q r) None (slots.indexed m r)
-absent m q e r = split_on (is_id q r)
-    (λ t. ap (slots.indexed m) (sym (id_one q r t)) ∙ sym e ∙ ap (λ c. cond c None (slots.indexed m r)) (sym t))
-    (λ t. ap (λ c. cond c None (slots.indexed m r)) (sym t))
 
 -- ---- places, if there are any
 
-pub inside : (s : Links) (v : LinkPlace) → in_links (some_links s) v ≡ set.contains compare_place s v
+inside : (s : Links) (v : LinkPlace) → in_links (some_links s) v ≡ set.contains compare_place s v
 inside s v = by s.keys refl
   where
     by : (ks : List LinkPlace) → s.keys ≡ ks → in_links (if_any ks s) v ≡ set.contains compare_place s v
     by [] e = sym (empty_inside compare_place s v e)
     by (k ∷ ks) e = refl
-
-pub any : (s : Links) → (set.btree_set_len s ≡ 0 → ⊥) → some_links s ≡ Some s
-any s n = by s.keys refl
-  where
-    by : (ks : List LinkPlace) → s.keys ≡ ks → if_any ks s ≡ Some s
-    by [] e = absurd (n (ap length e))
-    by (k ∷ ks) e = refl
-
-pub nothing : (s : Links) → set.btree_set_len s ≡ 0 → some_links s ≡ None
-nothing s e = ap (λ ks. if_any ks s) (no_length s.keys e)
 
 full_of : (o : Option Named) → IfSome (option_and_then names_in o) (λ s. 0 < set.btree_set_len s)
 full_of None = tt
@@ -93,8 +41,73 @@ full_of (Some n) = by n.links.keys refl
 pub are_full : (m : NameIndex) → AreFull (names_of m)
 are_full m r = full_of (slots.indexed m r)
 
--- one place is put in, or taken out
-pub place_set : (m n : NameIndex) (q : Id) (w : LinkPlace) (b : Bool) (o : Option Named) →
-    ((r : Id) → slots.indexed n r ≡ cond (is_id q r) o (slots.indexed m r)) →
-    ((v : LinkPlace) → in_links (option_and_then names_in o) v ≡ cond (is_place w v) b (in_links (names_of m q) v)) → Sets (names_of m) (names_of n) q w b
-place_set m n q w b o slot put = written compare_place (names_of m) (names_of n) q w b (option_and_then names_in o) (names_of m q) (answer names_in m n q o slot) put (λ r e. ap (names_of m) (sym (id_one q r e)))
+-- the places that a slot holds, if it is there
+abbrev has : Option Named → LinkPlace → Bool
+has None v = false
+has (Some n) v = set.contains compare_place n.links v
+
+-- the index says of a place what its slot holds
+held : (o : Option Named) (v : LinkPlace) → in_links (option_and_then names_in o) v ≡ has o v
+held None v = refl
+held (Some n) v = inside n.links v
+
+-- a slot with other places
+abbrev pub with_links : Named → Links → Named
+with_links n s = record { owner = n.owner; links = s }
+
+-- ---- one slot is another one, or none
+
+-- a stood under q, and b stands there now; under each other identity the index has what it had
+pub record Changed (m n : NameIndex) (q : Id) (a b : Option Named) : Type 0 where
+  pub was : a ≡ slots.indexed m q
+  pub now : slots.Updates m n q b
+
+-- the index is seen from inside, comes back as it was, and is then written
+pub changed : {inner lent m n : NameIndex} {q : Id} {a b : Option Named} → inner ≡ m → lent ≡ inner → a ≡ slots.indexed inner q → slots.Updates lent n q b → Changed m n q a b
+changed {inner} {lent} {m} {n} {q} {a} {b} view same was now = record {
+  was = subst (λ x. a ≡ slots.indexed x q) view was;
+  now = subst (λ x. slots.Updates x n q b) (same ∙ view) now;
+}
+
+-- a slot was lent, and written
+pub lent : {inner m n : NameIndex} {q : Id} {a : Named} → inner ≡ m → Some a ≡ slots.indexed inner q → (b : Named) → (IsSome (slots.indexed inner q) → slots.Updates inner n q (Some b)) → Changed m n q (Some a) (Some b)
+lent view was b now = changed view refl was (now (subst (λ o. IsSome o) was refl))
+
+-- nothing stands in a slot that isn't there
+pub absent : {inner m : NameIndex} {q : Id} → inner ≡ m → None ≡ slots.indexed inner q → Changed m m q None None
+absent {inner} {m} {q} view was =
+    let none : None ≡ slots.indexed m q = subst (λ x. None ≡ slots.indexed x q) view was in
+    record {
+      was = none;
+      now = λ r. cond_both (is_id q r) None (slots.indexed m r) (λ o. slots.indexed m r ≡ o) (λ t. ap (slots.indexed m) (sym (id_one q r t)) ∙ sym none) (λ t. refl);
+    }
+
+module _ {m n : NameIndex} {q : Id} {a b : Option Named} (change : Changed m n q a b) where
+  -- what a question answers, where it answers the same of both slots
+  module _ {B : Type 0} (f : Named → Option B) where
+    over : (c : Bool) (x y : Option Named) → option_and_then f (cond c x y) ≡ cond c (option_and_then f x) (option_and_then f y)
+    over true x y = refl
+    over false x y = refl
+
+    answer : (r : Id) → asked f n r ≡ cond (is_id q r) (option_and_then f b) (asked f m r)
+    answer r = ap (option_and_then f) (change.now r) ∙ over (is_id q r) b (slots.indexed m r)
+
+    pub stays : option_and_then f b ≡ option_and_then f a → asked f n ≡ asked f m
+    stays e = fun_ext (λ r. split_on (is_id q r)
+        (λ t. answer r ∙ ap (λ c. cond c (option_and_then f b) (asked f m r)) t ∙ e ∙ ap (option_and_then f) change.was ∙ ap (asked f m) (id_one q r t))
+        (λ t. answer r ∙ ap (λ c. cond c (option_and_then f b) (asked f m r)) t))
+
+  -- one place is put in, or taken out
+  pub place_set : (w : LinkPlace) (t : Bool) → ((v : LinkPlace) → has b v ≡ cond (is_place w v) t (has a v)) → Sets (names_of m) (names_of n) q w t
+  place_set w t put =
+      written compare_place (names_of m) (names_of n) q w t (option_and_then names_in b) (names_of m q) (answer names_in)
+      (λ v. held b v ∙ put v ∙ ap (cond (is_place w v) t) (sym (held a v) ∙ ap (λ o. in_links (option_and_then names_in o) v) change.was))
+      (λ r e. ap (names_of m) (sym (id_one q r e)))
+
+  -- and then the slot was taken out
+  pub taken : {l : NameIndex} {c : Option Named} → slots.Updates n l q c → Changed m l q a c
+  taken {l} {c} out = record { was = change.was; now = λ r. out r ∙ ap (cond (is_id q r) c) (change.now r) ∙ again (is_id q r) b c (slots.indexed m r) }
+    where
+      again : (t : Bool) (x y z : Option Named) → cond t y (cond t x z) ≡ cond t y z
+      again true x y z = refl
+      again false x y z = refl

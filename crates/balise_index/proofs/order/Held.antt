@@ -1,5 +1,5 @@
 -- What is held under codes, under the tags that these stand for.
-use Rattle.std.proofs.Common.{◌≡◌, ◌∙◌, ◌+◌, ◌<◌, ◌≤◌, ◌⊎◌, inl, inr, ℕ, false, cond, List, [], ◌∷◌, Option, Some, None, length, refl, sym, ap, subst, arith}
+use Rattle.std.proofs.Common.{◌≡◌, ◌∙◌, ◌+◌, ◌<◌, ◌≤◌, ◌⊎◌, inl, inr, ℕ, false, cond, List, [], ◌∷◌, Option, Some, None, length, refl, sym, ap, arith}
 use Rattle.std.specs.Prelude.{eqb, is_some}
 use Rattle.std.specs.Map.{set_value}
 use Rattle.std.proofs.lemmas.Bool.{true≢false}
@@ -10,7 +10,6 @@ use Rattle.balise_rules.proofs.Tests.{split_on, split_keys, equal_yes, other_no,
 use Rattle.balise_index.specs.TagCode.{tag_of, HasNone, KeepsTags, OneCode}
 use Rattle.balise_index.specs.InOrder.{in_order, tagged, HoldsKnown, IsOrder}
 use Rattle.balise_index.proofs.order.Entries.{found-order}
-use Rattle.balise_index.proofs.order.Written.{order-set, set-order}
 
 -- the code stands for the tag
 pub record IsCode (rare : List Tag) (c : ℕ) (g : Tag) : Type 0 where
@@ -105,23 +104,6 @@ tagged-kept old new (e ∷ es) k h =
 pub known-kept : {A : Type 0} (old new : List Tag) (held : List (ℕ × A)) → length old ≤ length new → HoldsKnown old held → HoldsKnown new held
 known-kept old new held m h d s = let w = h d s in omega (arith, w, m)
 
--- what is found in order under a tag stands under its code
-pub find-held : {A : Type 0} (rare : List Tag) (held : List (ℕ × A)) (gs : List Tag) (c : ℕ) (g : Tag) → OneCode rare → IsCode rare c g → HoldsKnown rare held → IsOrder (tagged rare held) gs → find same_tag g (in_order (tagged rare held) gs) ≡ find eqb c held
-find-held rare held gs c g one is h o = found-order (tagged rare held) gs g o ∙ find-code rare one c g is held h
-
-pub none-held : {A : Type 0} (rare : List Tag) (held : List (ℕ × A)) (gs : List Tag) (g : Tag) → HasNone rare g → HoldsKnown rare held → IsOrder (tagged rare held) gs → find same_tag g (in_order (tagged rare held) gs) ≡ None
-none-held rare held gs g n h o = found-order (tagged rare held) gs g o ∙ find-none rare g n held h
-
--- one value written under a code
-module _ {A : Type 0} (rare : List Tag) (held new : List (ℕ × A)) (gs : List Tag) (c : ℕ) (g : Tag) (w : A) (one : OneCode rare) (is : IsCode rare c g) (e : new ≡ set_value (eqb c) held w) (h : HoldsKnown rare held) (o : IsOrder (tagged rare held) gs) where
-  tagged_set : tagged rare new ≡ set_value (same_tag g) (tagged rare held) w
-  tagged_set = ap (tagged rare) e ∙ set-code rare one c g is w held h
-
-  pub order-written : IsOrder (tagged rare new) gs
-  order-written = order-set (tagged rare held) (tagged rare new) gs g w tagged_set o
-
-  pub known-written : HoldsKnown rare new
-  known-written = subst (HoldsKnown rare) (sym e) (known-set rare c w held h)
-
-  pub entries-written : in_order (tagged rare new) gs ≡ set_value (same_tag g) (in_order (tagged rare held) gs) w
-  entries-written = set-order (tagged rare held) (tagged rare new) gs g w tagged_set o
+-- nothing is held under a tag that has no code
+pub none-held : {A : Type 0} (rare : List Tag) (held : List (ℕ × A)) {gs : List Tag} {entries : List (Tag × A)} (g : Tag) → HasNone rare g → HoldsKnown rare held → IsOrder (tagged rare held) gs → in_order (tagged rare held) gs ≡ entries → find same_tag g entries ≡ None
+none-held rare held {gs} g n h o view = sym (ap (find same_tag g) view) ∙ found-order (tagged rare held) gs g o ∙ find-none rare g n held h

@@ -1,6 +1,7 @@
 -- One tag more in the order.
 use Rattle.std.proofs.Common.{◌≡◌, ◌∙◌, ℕ, zero, suc, ◌≤◌, Bool, true, false, cond, ◌||◌, List, [], ◌∷◌, Some, length, insert, refl, sym, ap, arith}
 use Rattle.std.specs.Prelude.{is_some}
+use Rattle.std.proofs.lemmas.Bool.{cond_both, or_right}
 use Rattle.balise_rules.specs.declared.tag.Tag.{Tag}
 use Rattle.balise_rules.specs.Tagged.{find}
 use Rattle.balise_rules.specs.Tags.{same_tag}
@@ -31,10 +32,8 @@ among_put q g (k ∷ ks) zero w = refl
 among_put q g (k ∷ ks) (suc i) w = ap (λ b. same_tag q k || b) (among_put q g ks i (omega (arith, w))) ∙ swap (same_tag q k) (same_tag q g) (is_among q ks)
   where
     swap : (a b c : Bool) → (a || (b || c)) ≡ (b || (a || c))
-    swap true true c = refl
-    swap true false c = refl
-    swap false true c = refl
-    swap false false c = refl
+    swap true b c = sym (or_right b true refl)
+    swap false b c = refl
 
 once_put : (g : Tag) (gs : List Tag) (i : ℕ) → i ≤ length gs → is_among g gs ≡ false → Once gs → Once (insert gs i g)
 once_put g [] zero w n o = (n, o)
@@ -47,9 +46,9 @@ once_put g (k ∷ ks) (suc i) w n o =
 pub order-put : {A : Type 0} (held new : List (Tag × A)) (gs : List Tag) (g : Tag) (x : A) (i : ℕ) → ((q : Tag) → find same_tag q new ≡ cond (same_tag g q) (Some x) (find same_tag q held)) → i ≤ length gs → is_among g gs ≡ false → IsOrder held gs → IsOrder new (insert gs i g)
 order-put held new gs g x i put w n o = record {
   once = once_put g gs i w n o.once;
-  there = λ q. ap is_some (put q) ∙ by (same_tag g q) q refl ∙ sym (among_put q g gs i w);
+  there = λ q. ap is_some (put q)
+      ∙ cond_both (same_tag g q) (Some x) (find same_tag q held) (λ r. is_some r ≡ (same_tag q g || is_among q gs))
+      (λ e. ap (λ c. c || is_among q gs) (sym (test-sym tag_test q g ∙ e)))
+      (λ e. o.there q ∙ ap (λ c. c || is_among q gs) (sym (test-sym tag_test q g ∙ e)))
+      ∙ sym (among_put q g gs i w);
 }
-  where
-    by : (b : Bool) (q : Tag) → same_tag g q ≡ b → is_some (cond b (Some x) (find same_tag q held)) ≡ (same_tag q g || is_among q gs)
-    by true q e = ap (λ c. c || is_among q gs) (sym (test-sym tag_test q g ∙ e))
-    by false q e = o.there q ∙ ap (λ c. c || is_among q gs) (sym (test-sym tag_test q g ∙ e))

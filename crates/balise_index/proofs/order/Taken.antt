@@ -4,7 +4,7 @@ use Rattle.std.specs.Prelude.{is_some}
 use Rattle.std.specs.Map.{keys_of, remove_entry}
 use Rattle.std.proofs.lemmas.List.Quantifiers.{position-Some}
 use Rattle.indexmap.proofs.MapLemmas.{some_index}
-use Rattle.std.proofs.lemmas.Bool.{true≢false}
+use Rattle.std.proofs.lemmas.Bool.{true≢false, cond_both}
 use Rattle.balise_rules.specs.declared.tag.Tag.{Tag}
 use Rattle.balise_rules.specs.Tagged.{find}
 use Rattle.balise_rules.specs.Tags.{same_tag}
@@ -50,21 +50,13 @@ among_out q g (k ∷ ks) (suc i) a o =
 once_out : (g : Tag) (gs : List Tag) (i : ℕ) → StandsAt (same_tag g) gs i → Once gs → Once (remove gs i)
 once_out g [] i a o = absurd a
 once_out g (k ∷ ks) zero a o = o.1
-once_out g (k ∷ ks) (suc i) a o = (among_out k g ks i a.1 o.1 ∙ ap (cond (same_tag g k) false) o.0 ∙ none (same_tag g k), once_out g ks i a.1 o.1)
-  where
-    none : (b : Bool) → cond b false false ≡ false
-    none true = refl
-    none false = refl
+once_out g (k ∷ ks) (suc i) a o = (among_out k g ks i a.1 o.1 ∙ ap (cond (same_tag g k) false) o.0 ∙ cond_both (same_tag g k) false false (λ b. b ≡ false) (λ d. refl) (λ d. refl), once_out g ks i a.1 o.1)
 
 pub order-out : {A : Type 0} (held new : List (Tag × A)) (gs : List Tag) (g : Tag) (i : ℕ) → ((q : Tag) → find same_tag q new ≡ cond (same_tag g q) None (find same_tag q held)) → StandsAt (same_tag g) gs i → IsOrder held gs → IsOrder new (remove gs i)
 order-out held new gs g i out a o = record {
   once = once_out g gs i a o.once;
-  there = λ q. ap is_some (out q) ∙ by (same_tag g q) q ∙ sym (among_out q g gs i a o.once);
+  there = λ q. ap is_some (out q) ∙ split_on (same_tag g q) (λ d. simp d) (λ d. simp d (o.there q)) ∙ sym (among_out q g gs i a o.once);
 }
-  where
-    by : (b : Bool) (q : Tag) → is_some (cond b None (find same_tag q held)) ≡ cond b false (is_among q gs)
-    by true q = refl
-    by false q = o.there q
 
 -- the place at which a tag stands
 pub stands-at : (g : Tag) (gs : List Tag) (i : ℕ) → position (same_tag g) gs ≡ Some i → StandsAt (same_tag g) gs i
@@ -76,19 +68,15 @@ stands-at g (k ∷ ks) i e = let p = position-Some (same_tag g) (k ∷ ks) i k e
     by (k ∷ ks) zero d h here below = here
     by (k ∷ ks) (suc i) d h here below = (below 0 (omega arith), by ks i d (omega (arith, h)) here (λ j b. below (suc j) (omega (arith, b))))
 
+none_there : {A : Type 0} (o : Option A) → is_some o ≡ false → o ≡ None
+none_there (Some x) h = absurd (true≢false h)
+none_there None h = refl
+
 pub no-place-of : {A : Type 0} (g : Tag) (xs : List (Tag × A)) → position (same_tag g) (keys_of xs) ≡ None → find same_tag g xs ≡ None
-no-place-of {A} g xs e = by (find same_tag g xs) (sym (some_index (same_tag g) xs) ∙ ap is_some e)
-  where
-    by : (o : Option A) → is_some o ≡ false → o ≡ None
-    by (Some x) h = absurd (true≢false h)
-    by None h = refl
+no-place-of g xs e = none_there (find same_tag g xs) (sym (some_index (same_tag g) xs) ∙ ap is_some e)
 
 pub no-place : {A : Type 0} (g : Tag) (xs : List (Tag × A)) → find same_tag g xs ≡ None → position (same_tag g) (keys_of xs) ≡ None
-no-place g xs e = by (position (same_tag g) (keys_of xs)) (some_index (same_tag g) xs ∙ ap is_some e)
-  where
-    by : (o : Option ℕ) → is_some o ≡ false → o ≡ None
-    by (Some i) h = absurd (true≢false h)
-    by None h = refl
+no-place g xs e = none_there (position (same_tag g) (keys_of xs)) (some_index (same_tag g) xs ∙ ap is_some e)
 
 pub none-removed : {A : Type 0} (g : Tag) (xs : List (Tag × A)) → find same_tag g xs ≡ None → remove_entry (same_tag g) xs ≡ xs
 none-removed g [] e = refl

@@ -1,6 +1,6 @@
 -- A place put into a sorted list before those that come after it, and one taken out.
 use Rattle.std.proofs.Common.{◌≡◌, ◌∙◌, ◌+◌, ◌<◌, ◌≤◌, ℕ, zero, suc, Bool, true, false, cond, not, ◌||◌, List, [], ◌∷◌, insert, remove, length, position, nat_lt, Some, None, slice_get, take, refl, sym, ap, subst, arith}
-use Rattle.std.proofs.lemmas.Bool.{true≢false}
+use Rattle.std.proofs.lemmas.Bool.{true≢false, cond_both, or_from, or_left, or_right}
 use Rattle.std.proofs.lemmas.List.Recursion.{is_position_or_len}
 use Rattle.std.proofs.lemmas.List.Sorted.{IsPermutation-insert, list_any-IsPermutation}
 use Rattle.std.proofs.lemmas.List.Sums.{prefix_len-le-length}
@@ -14,9 +14,8 @@ use Rattle.balise_rules.proofs.Cases.{unsome}
 use Rattle.balise_rules.proofs.Tests.{split_on}
 use Rattle.balise_index.specs.declared.link_place.LinkPlace.{LinkPlace}
 use Rattle.balise_index.specs.contracts.link_place.LinkPlaceOrd.TheImpl.Laws as place
-use Rattle.balise_index.specs.Places.{compare_place, is_place}
 use Rattle.balise_index.specs.LinkSet.{rank, stands, PutsIn}
-use Rattle.balise_index.specs.Places.{among}
+use Rattle.balise_index.specs.Places.{among, compare_place, is_place}
 use Rattle.balise_index.proofs.places.Equal.{place_one, places}
 use Rattle.balise_index.proofs.places.Sorted.{below}
 
@@ -25,24 +24,19 @@ Under w vs = AllByRecursion (λ v. compare_place w v ≡ Less) vs
 
 -- ---- the order
 
-reversed : (o p : Ordering) → p ≡ ordering_reverse o → is_le o ≡ false → p ≡ Less
-reversed Less p e n = absurd (true≢false n)
-reversed Equal p e n = absurd (true≢false n)
-reversed Greater p e n = e
+is_greater : (o : Ordering) → is_le o ≡ false → o ≡ Greater
+is_greater Less n = absurd (true≢false n)
+is_greater Equal n = absurd (true≢false n)
+is_greater Greater n = refl
 
 -- v comes before w
 after : (w v : LinkPlace) → is_le (compare_place w v) ≡ false → compare_place v w ≡ Less
-after w v n = reversed (compare_place w v) (compare_place v w) (place.total-law.antisymm v w) n
+after w v n = place.total-law.antisymm v w ∙ ap ordering_reverse (is_greater (compare_place w v) n)
 
 less : (o : Ordering) → is_le o ≡ true → is_eq o ≡ false → o ≡ Less
 less Less e n = refl
 less Equal e n = absurd (true≢false n)
 less Greater e n = absurd (true≢false (sym e))
-
-not_less : (o : Ordering) → is_le o ≡ false → is_eq o ≡ false
-not_less Less n = refl
-not_less Equal n = n
-not_less Greater n = refl
 
 under-all : (w v : LinkPlace) (vs : List LinkPlace) → compare_place w v ≡ Less → Under v vs → Under w vs
 under-all w v [] l u = tt
@@ -95,24 +89,14 @@ rank-above w z vs i n e s g = spot-above w z vs i n e s (after w z (not_le (comp
 
 under-insert : (x w : LinkPlace) (vs : List LinkPlace) → compare_place x w ≡ Less → Under x vs → Under x (insert vs (spot w vs) w)
 under-insert x w [] l u = (l, tt)
-under-insert x w (v ∷ vs) l u = by (is_le (compare_place w v)) (under-insert x w vs l u.1)
-  where
-    by : (c : Bool) → Under x (insert vs (spot w vs) w) → Under x (insert (v ∷ vs) (cond c 0 (suc (spot w vs))) w)
-    by true h = (l, u)
-    by false h = (u.0, h)
-
--- w isn't in the list, and so it is before the first place that isn't before it
-ahead : (w v : LinkPlace) → is_le (compare_place w v) ≡ true → stands w (Some v) ≡ false → compare_place w v ≡ Less
-ahead w v e n = less (compare_place w v) e n
+under-insert x w (v ∷ vs) l u = split_on (is_le (compare_place w v)) (λ e. simp e (l, u)) (λ e. simp e (u.0, under-insert x w vs l u.1))
 
 sorted-insert : (w : LinkPlace) (vs : List LinkPlace) → IsStrictlySortedBy compare_place vs → stands w (slice_get vs (spot w vs)) ≡ false → IsStrictlySortedBy compare_place (insert vs (spot w vs) w)
 unfolding IsStrictlySortedBy
 sorted-insert w [] s n = (tt, tt)
-sorted-insert w (v ∷ vs) s n = by (is_le (compare_place w v)) refl n (sorted-insert w vs s.1)
-  where
-    by : (c : Bool) → is_le (compare_place w v) ≡ c → stands w (slice_get (v ∷ vs) (cond c 0 (suc (spot w vs)))) ≡ false → (stands w (slice_get vs (spot w vs)) ≡ false → IsStrictlySortedBy compare_place (insert vs (spot w vs) w)) → IsStrictlySortedBy compare_place (insert (v ∷ vs) (cond c 0 (suc (spot w vs))) w)
-    by true e m h = let l = ahead w v e m in ((l, under-all w v vs l s.0), s)
-    by false e m h = (under-insert v w vs (after w v e) s.0, h m)
+sorted-insert w (v ∷ vs) s n = split_on (is_le (compare_place w v))
+    (λ e. let l = less (compare_place w v) e (simp e at n) in simp e ((l, under-all w v vs l s.0), s))
+    (λ e. simp e (under-insert v w vs (after w v e) s.0, sorted-insert w vs s.1 (simp e at n)))
 
 pub ordered-put : (w : LinkPlace) (vs : List LinkPlace) (i : ℕ) → i ≡ rank w vs → IsStrictlySortedBy compare_place vs → stands w (slice_get vs i) ≡ false → IsStrictlySortedBy compare_place (insert vs i w)
 ordered-put w vs i e s n =
@@ -132,18 +116,15 @@ puts-in w vs i v =
 
 there : (w : LinkPlace) (vs : List LinkPlace) (i : ℕ) → stands w (slice_get vs i) ≡ true → among w vs ≡ true
 there w [] i e = absurd (true≢false (sym e))
-there w (v ∷ vs) zero e = ap (λ b. b || among w vs) e
-there w (v ∷ vs) (suc i) e = ap (λ b. is_place w v || b) (there w vs i e) ∙ always (is_place w v)
-  where
-    always : (b : Bool) → (b || true) ≡ true
-    always true = refl
-    always false = refl
+there w (v ∷ vs) zero e = or_left (is_place w v) (among w vs) e
+there w (v ∷ vs) (suc i) e = or_right (is_place w v) (among w vs) (there w vs i e)
+
+-- what a list has already, or hasn't
+unchanged : (w : LinkPlace) (vs : List LinkPlace) (b : Bool) → among w vs ≡ b → PutsIn vs vs w b
+unchanged w vs b e v = cond_both (is_place w v) b (among v vs) (λ a. among v vs ≡ a) (λ d. ap (λ x. among x vs) (sym (place_one w v d)) ∙ e) (λ d. refl)
 
 pub puts-there : (w : LinkPlace) (vs : List LinkPlace) (i : ℕ) → stands w (slice_get vs i) ≡ true → PutsIn vs vs w true
-puts-there w vs i e v =
-    split_on (is_place w v)
-    (λ d. ap (λ x. among x vs) (sym (place_one w v d)) ∙ there w vs i e ∙ ap (λ b. cond b true (among v vs)) (sym d))
-    (λ d. ap (λ b. cond b true (among v vs)) (sym d))
+puts-there w vs i e = unchanged w vs true (there w vs i e)
 
 -- ---- one that was put in is there, so the list isn't empty
 
@@ -173,11 +154,7 @@ among-next p v (x ∷ xs) zero e = either (is_place v x) false ∙ ap (λ b. con
 among-next p v (x ∷ xs) (suc i) e = ap (λ b. is_place v x || b) (among-next p v xs i e) ∙ over (is_place v x) (is_place p v) (among v (take i xs))
   where
     over : (a c b : Bool) → (a || cond c true b) ≡ cond c true (a || b)
-    over a true b = always a
-      where
-        always : (z : Bool) → (z || true) ≡ true
-        always true = refl
-        always false = refl
+    over a true b = or_right a true refl
     over a false b = refl
 
 -- ---- taken out
@@ -207,25 +184,21 @@ takes-out w [] i s e v = absurd (true≢false (sym e))
 takes-out w (x ∷ xs) zero s e v =
     let same : w ≡ x = place_one w x e in
     split_on (is_place w v)
-    (λ d. ap (λ y. among y xs) (sym (place_one w v d) ∙ same) ∙ below x xs s.0 ∙ ap (λ b. cond b false (among v (x ∷ xs))) (sym d))
-    (λ d. let n : is_place v x ≡ false = ap (is_place v) (sym same) ∙ places.symm v w ∙ d in
-    ap (λ b. b || among v xs) (sym n) ∙ ap (λ b. cond b false (among v (x ∷ xs))) (sym d))
+    (λ d. simp d (ap (λ y. among y xs) (sym (place_one w v d) ∙ same) ∙ below x xs s.0))
+    (λ d. let n : is_place v x ≡ false = ap (is_place v) (sym same) ∙ places.symm v w ∙ d in simp (d, n))
 takes-out w (x ∷ xs) (suc i) s e v =
     let h = takes-out w xs i s.1 e v in
     split_on (is_place w v)
-    (λ d. let n : is_place v x ≡ false = ap (λ y. is_place y x) (sym (place_one w v d)) ∙ apart x w xs i s.0 e in
-    ap (λ b. b || among v (remove xs i)) n ∙ h ∙ ap (λ b. cond b false (among v xs)) d ∙ ap (λ b. cond b false (among v (x ∷ xs))) (sym d))
-    (λ d. ap (λ b. is_place v x || b) (h ∙ ap (λ b. cond b false (among v xs)) d) ∙ ap (λ b. cond b false (among v (x ∷ xs))) (sym d))
+    (λ d. let n : is_place v x ≡ false = ap (λ y. is_place y x) (sym (place_one w v d)) ∙ apart x w xs i s.0 e in simp (n, d) (simp d at h))
+    (λ d. simp (h, d))
 
 -- what doesn't stand at its rank isn't in the list
 lacks : (w : LinkPlace) (vs : List LinkPlace) → IsStrictlySortedBy compare_place vs → stands w (slice_get vs (spot w vs)) ≡ false → among w vs ≡ false
 unfolding IsStrictlySortedBy
 lacks w [] s n = refl
-lacks w (v ∷ vs) s n = by (is_le (compare_place w v)) refl n (lacks w vs s.1)
-  where
-    by : (c : Bool) → is_le (compare_place w v) ≡ c → stands w (slice_get (v ∷ vs) (cond c 0 (suc (spot w vs)))) ≡ false → (stands w (slice_get vs (spot w vs)) ≡ false → among w vs ≡ false) → among w (v ∷ vs) ≡ false
-    by true e m h = let l = ahead w v e m in below w (v ∷ vs) (l, under-all w v vs l s.0)
-    by false e m h = ap (λ b. b || among w vs) (not_less (compare_place w v) e) ∙ h m
+lacks w (v ∷ vs) s n = split_on (is_le (compare_place w v))
+    (λ e. let l = less (compare_place w v) e (simp e at n) in below w (v ∷ vs) (l, under-all w v vs l s.0))
+    (λ e. or_from (is_place w v) (among w vs) (ap is_eq (is_greater (compare_place w v) e)) (lacks w vs s.1 (simp e at n)))
 
 -- a place is in the list where it stands at its rank
 pub among-rank : (w : LinkPlace) (vs : List LinkPlace) (i : ℕ) → i ≡ rank w vs → IsStrictlySortedBy compare_place vs → stands w (slice_get vs i) ≡ among w vs
@@ -235,40 +208,25 @@ among-rank w vs i e s =
     (λ d. d ∙ sym (lacks w vs s (ap (λ j. stands w (slice_get vs j)) (sym (e ∙ spot-rank w vs)) ∙ d)))
 
 pub takes-none : (w : LinkPlace) (vs : List LinkPlace) (i : ℕ) → i ≡ rank w vs → IsStrictlySortedBy compare_place vs → stands w (slice_get vs i) ≡ false → PutsIn vs vs w false
-takes-none w vs i e s n v =
-    split_on (is_place w v)
-    (λ d. ap (λ x. among x vs) (sym (place_one w v d)) ∙ sym (among-rank w vs i e s) ∙ n ∙ ap (λ b. cond b false (among v vs)) (sym d))
-    (λ d. ap (λ b. cond b false (among v vs)) (sym d))
+takes-none w vs i e s n = unchanged w vs false (sym (among-rank w vs i e s) ∙ n)
 
 -- ---- what a search for the first place gives
 
 pub first-some : (w : LinkPlace) (vs : List LinkPlace) (i : ℕ) → Some i ≡ position (λ v. is_le (compare_place w v)) vs → i ≡ rank w vs
-first-some w vs i = by (nat_lt (rank w vs) (length vs))
-  where
-    by : (b : Bool) → Some i ≡ cond b (Some (rank w vs)) None → i ≡ rank w vs
-    by true e = unsome e
-    by false e = absurd cc
+first-some w vs i e = split_on (nat_lt (rank w vs) (length vs)) (λ d. unsome (simp d at e)) (λ d. absurd (let no = simp d at e in cc))
 
 pub first-none : (w : LinkPlace) (vs : List LinkPlace) → None ≡ position (λ v. is_le (compare_place w v)) vs → length vs ≡ rank w vs
-first-none w vs = by (nat_lt (rank w vs) (length vs)) refl
-  where
-    by : (b : Bool) → nat_lt (rank w vs) (length vs) ≡ b → None ≡ cond b (Some (rank w vs)) None → length vs ≡ rank w vs
-    by true l e = absurd (let no : None ≡ Some (rank w vs) = e in cc)
-    by false l e = let a = rank-within w vs in let b = ltb-false (rank w vs) (length vs) l in omega (arith, a, b)
+first-none w vs e = split_on (nat_lt (rank w vs) (length vs))
+    (λ d. absurd (let no = simp d at e in cc))
+    (λ d. let a = rank-within w vs in let b = ltb-false (rank w vs) (length vs) d in omega (arith, a, b))
 
 -- ---- one place by itself, taken out
 
 pub takes-one : (w x : LinkPlace) → is_place w x ≡ true → PutsIn (x ∷ []) [] w false
 takes-one w x e = takes-out w (x ∷ []) 0 (ordered-one x) e
 
--- what isn't in the list is out of it
-keeps : (w : LinkPlace) (vs : List LinkPlace) → among w vs ≡ false → PutsIn vs vs w false
-keeps w vs n v = split_on (is_place w v)
-    (λ d. ap (λ x. among x vs) (sym (place_one w v d)) ∙ n ∙ ap (λ b. cond b false (among v vs)) (sym d))
-    (λ d. ap (λ b. cond b false (among v vs)) (sym d))
-
 pub keeps-one : (w x : LinkPlace) → is_place w x ≡ false → PutsIn (x ∷ []) (x ∷ []) w false
-keeps-one w x e = keeps w (x ∷ []) (ap (λ b. b || false) e)
+keeps-one w x e = unchanged w (x ∷ []) false (simp e)
 
 -- ---- two places by themselves
 
@@ -280,7 +238,7 @@ pub ordered-above : (w x : LinkPlace) → compare_place w x ≡ Greater → IsSt
 ordered-above w x g = ordered-below x w (after w x (ap is_le g))
 
 pub keeps-two : (w x y : LinkPlace) → is_place w x ≡ false → is_place w y ≡ false → PutsIn (x ∷ y ∷ []) (x ∷ y ∷ []) w false
-keeps-two w x y d e = keeps w (x ∷ y ∷ []) (ap (λ b. b || (is_place w y || false)) d ∙ ap (λ b. b || false) e)
+keeps-two w x y d e = unchanged w (x ∷ y ∷ []) false (simp (d, e))
 
 -- ---- three places by themselves
 
@@ -297,4 +255,4 @@ unfolding IsStrictlySortedBy
 ordered-third w x y g s = let l = after w y (ap is_le g) in ((s.0.0, (place.total-law.trans x y w s.0.0 l, tt)), ((l, tt), (tt, tt)))
 
 pub keeps-three : (w x y z : LinkPlace) → is_place w x ≡ false → is_place w y ≡ false → is_place w z ≡ false → PutsIn (x ∷ y ∷ z ∷ []) (x ∷ y ∷ z ∷ []) w false
-keeps-three w x y z d e f = keeps w (x ∷ y ∷ z ∷ []) (ap (λ b. b || (is_place w y || (is_place w z || false))) d ∙ ap (λ b. b || (is_place w z || false)) e ∙ ap (λ b. b || false) f)
+keeps-three w x y z d e f = unchanged w (x ∷ y ∷ z ∷ []) false (simp (d, e, f))

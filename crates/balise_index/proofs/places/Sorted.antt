@@ -5,8 +5,7 @@ use Rattle.std.specs.declared.cmp.Ordering.TheVariants.{Less}
 use Rattle.std.specs.List.{AllByRecursion}
 use Rattle.std.specs.List.Sorted.{IsStrictlySortedBy}
 use Rattle.balise_index.specs.declared.link_place.LinkPlace.{LinkPlace}
-use Rattle.balise_index.specs.Places.{compare_place, is_place}
-use Rattle.balise_index.specs.Places.{among, Once}
+use Rattle.balise_index.specs.Places.{among, compare_place, is_place, Once}
 
 pub below : (w : LinkPlace) (ws : List LinkPlace) → AllByRecursion (λ u. compare_place w u ≡ Less) ws → among w ws ≡ false
 below w [] h = refl

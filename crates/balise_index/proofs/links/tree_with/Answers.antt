@@ -2,8 +2,7 @@ use Rattle.std.proofs.Common.{◌≡◌, ◌∙◌, ◌+◌, ℕ, suc, true, Som
 use Rattle.std.proofs.lemmas.List.{length-map, take_all}
 use Rattle.std.proofs.lemmas.Option.{slice_get-get_or, slice_get-map}
 use Rattle.balise_index.specs.NarrowPlace.{wide_place, wide_places}
-use Rattle.balise_index.specs.Places.{is_place}
-use Rattle.balise_index.specs.Places.{among}
+use Rattle.balise_index.specs.Places.{among, is_place}
 use Rattle.balise_index.proofs.places.Ranked.{among-next}
 use Rattle.balise_index.proofs.links.tree_with.Goals as goal
 

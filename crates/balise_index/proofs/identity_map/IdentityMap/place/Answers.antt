@@ -1,9 +1,10 @@
 use Rattle.std.proofs.Common.{◌≡◌, ◌∙◌, None, option_map, slice_get, sym, arith, subst}
+use Rattle.balise_rules.proofs.Cases.{found as by_option}
 use Rattle.balise_index.specs.Cells.{cell_of}
 use Rattle.balise_index.specs.Identities.{indexed}
 use Rattle.balise_index.specs.Narrow.{slots_of}
 use Rattle.balise_index.proofs.identities.Right.{right_there, nowhere}
-use Rattle.balise_index.proofs.identities.Slots.{place_end, by_option}
+use Rattle.balise_index.proofs.identities.Slots.{place_end}
 use Rattle.balise_index.proofs.identities.TwoLists.{length_slots}
 use Rattle.balise_index.proofs.identity_map.IdentityMap.place.Goals as goal
 

@@ -1,22 +1,24 @@
 use Rattle.std.proofs.Common.{◌≡◌, ◌∙◌, true, false, cond, [], ◌∷◌, refl, sym, ap}
-use Rattle.std.specs.Ordering.{is_eq}
 use Rattle.balise_index.specs.LinkSet.{places_held}
 use Rattle.balise_index.specs.NarrowPlace.{wide_place}
 use Rattle.balise_index.specs.Places.{Links, among, is_place}
+use Rattle.balise_index.proofs.places.Few.{told}
 use Rattle.balise_index.proofs.places.Ranked.{keeps-one, ordered-none, takes-one}
 use Rattle.balise_index.proofs.links.Links.remove.Goals as goal
-use Rattle.balise_index.proofs.links.Links.remove.Goals.{in-Few-1, in-Many-1, in-Empty-1}
+use Rattle.balise_index.proofs.links.Links.remove.Goals.{In-One, in-Few-1, in-Many-1, in-Empty-1}
 
 pub invariant_of-self-then-is_eq-3 : goal.invariant_of-self-then-is_eq-3
 invariant_of-self-then-is_eq-3 c = ordered-none [] refl
 
+-- the place that was held is all that was there
+old : (c : In-One) → c.args.self.now.keys ≡ wide_place c.in-One.held ∷ []
+old c = ap (λ l. l.keys) (sym c.self.view_is) ∙ ap (λ h. (places_held h).keys) c.in-One.is
+
 pub returns-then-is_eq : goal.returns-then-is_eq
 returns-then-is_eq c v =
     let w = c.args.place.now in
-    let x = wide_place c.in-One.held in
-    let old : c.args.self.now.keys ≡ x ∷ [] = ap (λ l. l.keys) (sym c.self.view_is) ∙ ap (λ h. (places_held h).keys) c.in-One.is in
-    let e : is_place w x ≡ true = ap (is_place w) (sym c.wide.ensures) ∙ ap is_eq (sym c.cmp.ensures) ∙ sym c.is_eq.ensures ∙ c.if-is_eq.true in
-    let put = takes-one w x e v ∙ ap (λ l. cond (is_place w v) false (among v l)) (sym old) in
+    let e : is_place w (wide_place c.in-One.held) ≡ true = told w c.wide.ensures c.cmp.ensures (sym c.is_eq.ensures ∙ c.if-is_eq.true) in
+    let put = takes-one w (wide_place c.in-One.held) e v ∙ ap (λ l. cond (is_place w v) false (among v l)) (sym (old (goal.at.returns-then-is_eq c).In-One)) in
     elim c.match-self-2.branch [
       | in-Few-1 w ↦ ap (λ l. among v l.keys) w.self-is ∙ put
       | in-Many-1 w ↦ ap (λ l. among v l.keys) w.self-is ∙ put
@@ -26,10 +28,8 @@ returns-then-is_eq c v =
 pub returns-else-is_eq : goal.returns-else-is_eq
 returns-else-is_eq c v =
     let w = c.args.place.now in
-    let x = wide_place c.in-One.held in
-    let old : c.args.self.now.keys ≡ x ∷ [] = ap (λ l. l.keys) (sym c.self.view_is) ∙ ap (λ h. (places_held h).keys) c.in-One.is in
-    let e : is_place w x ≡ false = ap (is_place w) (sym c.wide.ensures) ∙ ap is_eq (sym c.cmp.ensures) ∙ sym c.is_eq.ensures ∙ c.if-is_eq.false in
-    keeps-one w x e v ∙ ap (λ l. cond (is_place w v) false (among v l)) (sym old)
+    keeps-one w (wide_place c.in-One.held) (told w c.wide.ensures c.cmp.ensures (sym c.is_eq.ensures ∙ c.if-is_eq.false)) v
+    ∙ ap (λ l. cond (is_place w v) false (among v l)) (sym (old (goal.at.returns-else-is_eq c).In-One))
 
 pub returns-in-Many : goal.returns-in-Many
 returns-in-Many c v =

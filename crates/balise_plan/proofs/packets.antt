@@ -1,5 +1,5 @@
 -- What taking a packet out makes of a plan and of its indexes.
-use Rattle.std.proofs.Common.{◌≡◌, ◌⊎◌, inl, inr, ℕ, eqb, Option, Some, None, Ok, Err, refl, sym, ap, subst, ◌∙◌, true, false, cond, ◌&&◌, Result}
+use Rattle.std.proofs.Common.{◌≡◌, ◌⊎◌, inl, inr, ℕ, eqb, Option, Some, None, Ok, Err, sym, ap, subst, ◌∙◌, true, false, cond, ◌&&◌, Result, arith, [], ◌∷◌}
 use Rattle.std.specs.Map.{set_value}
 use Rattle.std.specs.Prelude.{is_none, option_map, option_and_then, unwrap_or}
 use Rattle.balise_rules.specs.declared.tag.Tag.{Tag}
@@ -8,13 +8,13 @@ use Rattle.balise_rules.specs.Tagged.{find, put_before, without, move}
 use Rattle.balise_rules.specs.Tags.{same_tag}
 use Rattle.balise_rules.specs.Packet.{Packet, IsSpelt}
 use Rattle.balise_rules.specs.Telegram.{Telegram, version_of}
-use Rattle.balise_rules.specs.Plan.{Group, telegram_at, country_of, IsSoundTelegram}
-use Rattle.balise_rules.specs.Doing.{refusal, when}
+use Rattle.balise_rules.specs.Plan.{Group, telegram_at, country_of}
+use Rattle.balise_rules.specs.Doing.{refusal, when, first_of}
 use Rattle.balise_rules.specs.Notes.{noted}
 use Rattle.balise_rules.specs.Edits.{telegram_after}
 use Rattle.balise_rules.specs.declared.tagged_edit.TaggedEdit.TheVariants.{DeletePacket, MovePacket}
 use Rattle.balise_rules.proofs.Tests.{tag_test, split_keys}
-use Rattle.balise_rules.proofs.Cases.{unsome}
+use Rattle.balise_rules.proofs.Cases.{unsome, found}
 use Rattle.balise_rules.proofs.Lists.{find-without, find-without_same}
 use Rattle.balise_telegram.specs.Faults.{refusal_of}
 use Rattle.balise_telegram.specs.Changes.{OrWants, InsertsOrWants}
@@ -22,13 +22,13 @@ use Rattle.balise_telegram.specs.Moving.{TakesOut, insert_refusal, Shifts, Shift
 use Rattle.balise_rules.specs.Names.{links_of}
 use Rattle.balise_index.specs.declared.link_place.LinkPlace.{LinkPlace}
 use Rattle.balise_index.specs.NameIndex.{held, IndexOf, Keeps}
-use Rattle.balise_plan.specs.GroupLinks.{links_from, ForgetsAll, listed, AddsAll, KeepsOthers}
+use Rattle.balise_plan.specs.GroupLinks.{links_from, listed, KeepsOthers, SetsAll}
 use Rattle.balise_plan.specs.Within.{Within, Passed, no_telegram}
 use Rattle.balise_plan.specs.Held.{IsHeld, Plan}
 use Rattle.balise_plan.proofs.telegrams.Replaced.{held-put, with_telegram, held-kept}
-use Rattle.balise_plan.proofs.telegrams.Answered.{Ill, well, ill, by-telegram, at-group, spoken}
+use Rattle.balise_plan.proofs.telegrams.Answered.{well, by-telegram, at-group, spoken, wanting}
 use Rattle.balise_plan.proofs.plans.Outcomes.{Outcome, Failed, to-groups}
-use Rattle.balise_plan.proofs.telegrams.Edits.{delete-at, delete-other, delete-refused, delete-lacking, here, put-refused, put-lacking, move-at, move-other, move-refused, move-lacking, before-refused, before-lacking}
+use Rattle.balise_plan.proofs.telegrams.Edits.{delete-at, delete-other, delete-refused, here, put-refused, move-at, move-other, move-refused, before-refused}
 use Rattle.balise_plan.proofs.telegrams.Sound.{packet-taken, fits-in, packet-put, Movable, movable, moved-after, moved-before, rebuilt, stands-other}
 use Rattle.balise_plan.proofs.naming.OfPacket.{forgotten, added, none-noted}
 use Rattle.balise_rules.specs.declared.identity.Id.{Id}
@@ -39,7 +39,7 @@ use Rattle.balise_plan.proofs.naming.GroupLists.{taken_back}
 use Rattle.balise_plan.specs.PutsIn.{PutsIn, no_telegram as no_telegram_for, passed, ShiftsIn}
 use Rattle.balise_index.specs.AtSpot.{put_in, spot_stands}
 use Rattle.balise_plan.specs.Spots.{put_refusal, shift_refusal, shifted}
-use Rattle.balise_plan.proofs.items.Inserted.{find-put_other, find-put_itself}
+use Rattle.balise_plan.proofs.items.Inserted.{put-between, between-other, between-itself}
 use Rattle.balise_rules.specs.Accepting.{Accepted, AcceptedAt, AcceptedIn}
 use Rattle.balise_rules.proofs.Moved.{find-move}
 use Rattle.balise_rules.proofs.Anchors.{find-move_same}
@@ -48,41 +48,29 @@ use Rattle.balise_index.specs.declared.spot.Spot.TheVariants.{After, Before}
 use Rattle.std.specs.BTreeSet as set
 use Rattle.balise_rules.specs.declared.refusal.Refusal.TheVariants as refusals
 use Rattle.balise_rules.specs.Plan as rules
-use Rattle.balise_telegram.specs.declared.fault.TelegramFault.TheVariants as faults
 
 module _ (plan : rules.Plan) (ids : IndexOf Tag) (names : IndexOf (set.BTreeSet LinkPlace)) (held_is : IsHeld ids names plan) (g : Tag) (t : ℕ) (p : Tag) (ys : Group) (here : find same_tag g plan ≡ Some ys) where
   -- no telegram stands there
   pub untold : None ≡ option_map country_of (find eqb t ys) → refusal (DeletePacket g t p) plan ≡ Some refusals.NoSuchTelegram
-  untold e = delete-lacking g t plan ys here p (at-group g t plan held_is.sound ys ys here None (none-of (find eqb t ys) e))
-    where
-      none-of : (o : Option Telegram) → None ≡ option_map country_of o → o ≡ None
-      none-of None h = refl
-      none-of (Some y) h = absurd cc
+  untold e = delete-refused g t plan ys here p None (at-group g t plan held_is.sound ys ys here None (let none : find eqb t ys ≡ None = grind arith in none))
 
   module _ (zs : Group) where
     pub untaken : (e : Refusal) → Within eqb t no_telegram (Passed (OrWants (TakesOut p))) ys (Err e) zs → Failed (DeletePacket g t p) plan (set_value (same_tag g) plan zs) e
     untaken e w =
-        ill g t plan held_is.sound ys zs here (OrWants (TakesOut p)) e w
-        (λ l. record { why = inr (delete-lacking g t plan ys here p l.none ∙ ap Some (sym l.fault)); is = l.is })
-        (λ l. by l l.call)
-      where
-        by : (l : Ill g t (OrWants (TakesOut p)) plan e (set_value (same_tag g) plan zs)) → ((l.cause ≡ faults.OutOfMemory) × (l.next ≡ l.old)) ⊎ TakesOut p l.old (Err l.cause) l.next → Failed (DeletePacket g t p) plan (set_value (same_tag g) plan zs) e
-        by l (inl q) = record { why = inl (l.fault ∙ ap refusal_of q.0); is = l.is q.1 }
-        by l (inr q) = record {
-          why = inr (delete-refused g t plan ys here p l.old l.stands ∙ ap (λ (o : Option Packet). when (is_none o) refusals.NoSuchPacket) q.0 ∙ ap Some (sym (l.fault ∙ ap refusal_of q.1)));
-          is = l.is q.2;
-        }
+        let r = wanting g t plan held_is.sound ys zs here (TakesOut p) (refusal (DeletePacket g t p) plan) e w (delete-refused g t plan ys here p None)
+        (λ y z f s q. (delete-refused g t plan ys here p (Some y) s ∙ ap (λ (o : Option Packet). first_of (when (is_none o) refusals.NoSuchPacket ∷ [])) q.0 ∙ ap (λ k. Some (refusal_of k)) (sym q.1), q.2)) in
+        record { why = r.0; is = r.1 }
 
     module _ (a : Packet × Option Tag) (w : Within eqb t no_telegram (Passed (OrWants (TakesOut p))) ys (Ok a) zs) (c : ℕ) (told : Some c ≡ option_map country_of (find eqb t ys)) where
       country-is : (y : Telegram) → telegram_at g t plan ≡ Some y → c ≡ country_of y
       country-is y e = unsome (told ∙ ap (option_map country_of) (sym (ap (option_and_then (find eqb t)) here) ∙ e))
 
-      pub taken : (x : Packet) → x ≡ a.0 → (after : IndexOf (set.BTreeSet LinkPlace)) → ForgetsAll (links_from g t p 0 (links_of c x)) names after →
+      pub taken : (x : Packet) → x ≡ a.0 → (after : IndexOf (set.BTreeSet LinkPlace)) → SetsAll false (links_from g t p 0 (links_of c x)) names after →
           Outcome (DeletePacket g t p) ids after plan (set_value (same_tag g) plan zs)
       taken x lent after f =
           let l = well g t plan held_is.sound ys zs here (OrWants (TakesOut p)) a w in
           let own = (noted (DeletePacket g t p) plan).own in
-          let ok : refusal (DeletePacket g t p) plan ≡ None = delete-refused g t plan ys here p l.old l.stands ∙ ap (λ (o : Option Packet). when (is_none o) refusals.NoSuchPacket) l.call.0 in
+          let ok : refusal (DeletePacket g t p) plan ≡ None = delete-refused g t plan ys here p (Some l.old) l.stands ∙ ap (λ (o : Option Packet). first_of (when (is_none o) refusals.NoSuchPacket ∷ [])) l.call.0 in
           let at : l.next ≡ telegram_after (0, DeletePacket g t p) own g t l.old = l.call.2 ∙ delete-at own g t p l.old in
           let gone : find same_tag p l.next.packets ≡ None = ap (λ (y : Telegram). find same_tag p y.packets) l.call.2 ∙ find-without_same same_tag p l.old.packets in
           record {
@@ -90,7 +78,7 @@ module _ (plan : rules.Plan) (ids : IndexOf Tag) (names : IndexOf (set.BTreeSet 
             is = l.is ∙ by-telegram (telegram_after (0, DeletePacket g t p) own) g t plan held_is.sound l.old l.next l.stands at (delete-other own g t p);
             held = subst (IsHeld ids after) (sym l.is) (held-put plan held_is.sound g t l.old l.next l.stands (packet-taken p (Ok a) l.old l.next l.call) ids names held_is p None gone
                 (λ r d. ap (λ (y : Telegram). find same_tag r y.packets) l.call.2 ∙ find-without tag_test r p d l.old.packets) after
-                (forgotten g t p plan held_is.sound l.old l.stands names after held_is.named a.0 l.call.0 (subst (λ (d : ℕ). ForgetsAll (links_from g t p 0 (links_of d a.0)) names after) (country-is l.old l.stands) (subst (λ (z : Packet). ForgetsAll (links_from g t p 0 (links_of c z)) names after) lent f))));
+                (forgotten g t p plan held_is.sound l.old l.stands names after held_is.named a.0 l.call.0 (subst (λ (d : ℕ). SetsAll false (links_from g t p 0 (links_of d a.0)) names after) (country-is l.old l.stands) (subst (λ (z : Packet). SetsAll false (links_from g t p 0 (links_of c z)) names after) lent f))));
           }
 
 -- ---- What putting a packet in makes of a plan and of its indexes
@@ -100,8 +88,7 @@ held-keeps ids names after plan h k = record { sound = h.sound; tags = h.tags; n
 
 -- what a refusal says
 refused-or : (o : Option Refusal) (r : Refusal) → r ≡ unwrap_or o refusals.OutOfMemory → (r ≡ refusals.OutOfMemory) ⊎ (o ≡ Some r)
-refused-or None r e = inl e
-refused-or (Some q) r e = inr (ap Some (sym e))
+refused-or o r e = grind arith
 
 -- A packet put in, and the indexes for what this makes.
 pub record PutOutcome (g : Tag) (t : ℕ) (s : Spot Tag) (p : Tag) (x : Packet) (ids : IndexOf Tag) (names : IndexOf (set.BTreeSet LinkPlace)) (plan new : rules.Plan) : Type 0 where
@@ -124,29 +111,20 @@ pub may-put : (g : Tag) (t : ℕ) (p : Tag) (x : Packet) {plan : rules.Plan} {n 
     ((y : Telegram) → telegram_at g t old.groups ≡ Some y → find same_tag p y.packets ≡ None) → ((y : Telegram) → telegram_at g t old.groups ≡ Some y → IsSpelt (version_of y) x) → MayPut g t p x plan
 may-put g t p x v fresh spelt = to-groups (MayPut g t p x) v (record { fresh = fresh; spelt = spelt })
 
-unpair : (e f : Refusal × Packet) → ◌≡◌ {A = Result Unit (Refusal × Packet)} (Err e) (Err f) → e ≡ f
-unpair e f q = cc
-
 module _ (plan : rules.Plan) (ids : IndexOf Tag) (names : IndexOf (set.BTreeSet LinkPlace)) (held_is : IsHeld ids names plan) (g : Tag) (t : ℕ) (s : Spot Tag) (p : Tag) (x : Packet) (ys : Group) (group : find same_tag g plan ≡ Some ys)
     (may : MayPut g t p x plan) where
   at : (o : Option Telegram) → find eqb t ys ≡ o → telegram_at g t plan ≡ o
   at o e = ap (option_and_then (find eqb t)) group ∙ e
 
   pub lacking : None ≡ option_map country_of (find eqb t ys) → put_refusal g t s x plan ≡ Some refusals.NoSuchTelegram
-  lacking e = put-lacking g t plan ys group s x (at None (none-of (find eqb t ys) e))
-    where
-      none-of : (o : Option Telegram) → None ≡ option_map country_of o → o ≡ None
-      none-of None h = refl
-      none-of (Some y) h = absurd cc
+  lacking e = put-refused g t plan ys group s x None (at None (let none : find eqb t ys ≡ None = grind arith in none))
 
   -- the telegram stands whose country was told
   module _ (c : ℕ) (told : Some c ≡ option_map country_of (find eqb t ys)) where
     there : (y : Telegram) × (telegram_at g t plan ≡ Some y) × (c ≡ country_of y)
-    there = by (find eqb t ys) refl told
-      where
-        by : (o : Option Telegram) → find eqb t ys ≡ o → Some c ≡ option_map country_of o → (y : Telegram) × (telegram_at g t plan ≡ Some y) × (c ≡ country_of y)
-        by None h e = absurd cc
-        by (Some y) h e = (y, at (Some y) h, unsome e)
+    there =
+        found (find eqb t ys) (λ n. absurd (let q : Some c ≡ None = told ∙ ap (option_map country_of) n in cc))
+        (λ y h. (y, at (Some y) h, unsome (told ∙ ap (option_map country_of) h)))
 
     -- none of its links is noted
     none-put : (q : Id) (w : LinkPlace) → listed q w (links_from g t p 0 (links_of c x)) ≡ true → held names q w ≡ false
@@ -154,58 +132,58 @@ module _ (plan : rules.Plan) (ids : IndexOf Tag) (names : IndexOf (set.BTreeSet 
         (none-noted g t p plan held_is.sound there.0 there.1 names names held_is.named x (may.fresh there.0 there.1) (may.spelt there.0 there.1).numbered)
 
     -- what was noted of them, in part or all, and forgotten again
-    pub kept-put : (a b : Packet) → a ≡ x → b ≡ x → (mid after : IndexOf (set.BTreeSet LinkPlace)) → KeepsOthers (links_from g t p 0 (links_of c a)) names mid → ForgetsAll (links_from g t p 0 (links_of c b)) mid after → Keeps names after
+    pub kept-put : (a b : Packet) → a ≡ x → b ≡ x → (mid after : IndexOf (set.BTreeSet LinkPlace)) → KeepsOthers (links_from g t p 0 (links_of c a)) names mid → SetsAll false (links_from g t p 0 (links_of c b)) mid after → Keeps names after
     kept-put a b d e mid after o f =
         taken_back (links_from g t p 0 (links_of c x)) names mid after none-put
         (subst (λ (z : Packet). KeepsOthers (links_from g t p 0 (links_of c z)) names mid) d o)
-        (subst (λ (z : Packet). ForgetsAll (links_from g t p 0 (links_of c z)) mid after) e f)
+        (subst (λ (z : Packet). SetsAll false (links_from g t p 0 (links_of c z)) mid after) e f)
 
     module _ (zs : Group) where
       pub put-failed : (e : Refusal × Packet) → Within eqb t (no_telegram_for x) (PutsIn s p x) ys (Err e) zs → PutFailed g t s x plan (set_value (same_tag g) plan zs) e
       put-failed e w =
           spoken g t plan held_is.sound ys zs group (no_telegram_for x) (PutsIn s p x) (Err e) w
-          (λ n r i. let q = unpair e (refusals.NoSuchTelegram, x) r in record { why = inr (put-lacking g t plan ys group s x n ∙ ap (λ z. Some z.0) (sym q)); back = ap (λ z. z.1) q; is = i })
+          (λ n r i. let q : e ≡ (refusals.NoSuchTelegram, x) = cc in record { why = inr (put-refused g t plan ys group s x None n ∙ ap (λ z. Some z.0) (sym q)); back = ap (λ z. z.1) q; is = i })
           (λ y z h c i j. by y z h c.answer c.call c.is j)
         where
           by : (y z : Telegram) → telegram_at g t plan ≡ Some y → (a : Result Unit (TelegramFault × Packet)) → InsertsOrWants (spot_stands s y.packets) x (put_in s (p, x) y.packets) y a z → Err e ≡ passed a → (z ≡ y → set_value (same_tag g) plan zs ≡ plan) → PutFailed g t s x plan (set_value (same_tag g) plan zs) e
           by y z h (Ok u) k i j = absurd cc
-          by y z h (Err f) (inl k) i j = let q = unpair e (refusal_of f.0, f.1) i in record { why = inl (ap (λ z. z.0) q ∙ ap refusal_of k.0); back = ap (λ z. z.1) q ∙ k.1; is = j k.2 }
+          by y z h (Err f) (inl k) i j = let q : e ≡ (refusal_of f.0, f.1) = cc in record { why = inl (ap (λ z. z.0) q ∙ ap refusal_of k.0); back = ap (λ z. z.1) q ∙ k.1; is = j k.2 }
           by y z h (Err f) (inr k) i j =
-              let q = unpair e (refusal_of f.0, f.1) i in
-              let o = refused-or (insert_refusal (spot_stands s y.packets) x y) e.0 (ap (λ z. z.0) q ∙ k.0) in
-              record { why = or o; back = ap (λ z. z.1) q ∙ k.1; is = j k.2 }
+              let q : e ≡ (refusal_of f.0, f.1) = cc in
+              record { why = or (refused-or (insert_refusal (spot_stands s y.packets) x y) e.0 (ap (λ z. z.0) q ∙ k.0)); back = ap (λ z. z.1) q ∙ k.1; is = j k.2 }
             where
               or : (e.0 ≡ refusals.OutOfMemory) ⊎ (insert_refusal (spot_stands s y.packets) x y ≡ Some e.0) → (e.0 ≡ refusals.OutOfMemory) ⊎ (put_refusal g t s x plan ≡ Some e.0)
               or (inl m) = inl m
-              or (inr m) = inr (put-refused g t plan ys group s x y h ∙ m)
+              or (inr m) = inr (put-refused g t plan ys group s x (Some y) h ∙ m)
 
-      pub put-done : (u : Unit) → Within eqb t (no_telegram_for x) (PutsIn s p x) ys (Ok u) zs → (lent : Packet) → lent ≡ x → (after : IndexOf (set.BTreeSet LinkPlace)) → AddsAll (links_from g t p 0 (links_of c lent)) names after →
+      pub put-done : (u : Unit) → Within eqb t (no_telegram_for x) (PutsIn s p x) ys (Ok u) zs → (lent : Packet) → lent ≡ x → (after : IndexOf (set.BTreeSet LinkPlace)) → SetsAll true (links_from g t p 0 (links_of c lent)) names after →
           PutOutcome g t s p x ids after plan (set_value (same_tag g) plan zs)
       put-done u w lent is_lent after notes =
           spoken g t plan held_is.sound ys zs group (no_telegram_for x) (PutsIn s p x) (Ok u) w
           (λ n r i. absurd cc)
           (λ y z h r i j. by y z h r r.answer r.call r.is i)
         where
-          adds : AddsAll (links_from g t p 0 (links_of c x)) names after
-          adds = subst (λ (z : Packet). AddsAll (links_from g t p 0 (links_of c z)) names after) is_lent notes
+          adds : SetsAll true (links_from g t p 0 (links_of c x)) names after
+          adds = subst (λ (z : Packet). SetsAll true (links_from g t p 0 (links_of c z)) names after) is_lent notes
 
           by : (y z : Telegram) → telegram_at g t plan ≡ Some y → PutsIn s p x y (Ok u) z → (a : Result Unit (TelegramFault × Packet)) → InsertsOrWants (spot_stands s y.packets) x (put_in s (p, x) y.packets) y a z → Ok u ≡ passed a → set_value (same_tag g) plan zs ≡ with_telegram g t z plan → PutOutcome g t s p x ids after plan (set_value (same_tag g) plan zs)
           by y z h r (Err f) k i j = absurd cc
           by y z h r (Ok v) k i j =
               let f = fits-in (spot_stands s y.packets) x y k.0 in
+              let inside = put-between s (p, x) y.packets f.0 in
               let absent = may.fresh y h in
               let word = may.spelt y h in
               let country : c ≡ country_of y = there.2 ∙ ap country_of (unsome (sym there.1 ∙ h)) in
               let body : (r : Tag) → find same_tag r z.packets ≡ find same_tag r (put_in s (p, x) y.packets) = λ r. ap (λ (b : Telegram). find same_tag r b.packets) k.1 in
               record {
-                accepted = put-refused g t plan ys group s x y h ∙ k.0;
+                accepted = put-refused g t plan ys group s x (Some y) h ∙ k.0;
                 is = j ∙ by-telegram (λ a b d. cond (same_tag g a && eqb t b) (with_packets d (put_in s (p, x) d.packets)) d) g t plan held_is.sound y z h
                     (k.1 ∙ ap (λ b. cond b (with_packets y (put_in s (p, x) y.packets)) y) (sym (here g t)))
                     (λ a b d n. ap (λ b. cond b (with_packets d (put_in s (p, x) d.packets)) d) n);
                 held = subst (IsHeld ids after) (sym j) (held-put plan held_is.sound g t y z h (packet-put s p x (Ok u) y z absent word r) ids names held_is p (Some x)
-                    (body p ∙ find-put_itself s (p, x) y.packets f.0 absent)
-                    (λ r d. body r ∙ find-put_other s (p, x) y.packets f.0 r d) after
-                    (added g t p plan held_is.sound y h names after held_is.named x absent word.numbered (subst (λ (d : ℕ). AddsAll (links_from g t p 0 (links_of d x)) names after) country adds)));
+                    (body p ∙ between-itself inside absent)
+                    (λ r d. body r ∙ between-other inside r d) after
+                    (added g t p plan held_is.sound y h names after held_is.named x absent word.numbered (subst (λ (d : ℕ). SetsAll true (links_from g t p 0 (links_of d x)) names after) country adds)));
               }
 
 -- ---- What moving a packet to a spot makes of a plan and of its indexes
@@ -215,11 +193,11 @@ module _ (plan : rules.Plan) (ids : IndexOf Tag) (names : IndexOf (set.BTreeSet 
 same-before : (p : Tag) (n : Option Tag) (y : Telegram) → Movable p n y → (r : Tag) → find same_tag r (moved_before p n y.packets) ≡ find same_tag r y.packets
 same-before p n y w r =
     let ps = y.packets in
-    let there = stands-other p n ps w.there w.other in
+    let b = put-between (Before n) (p, w.packet) (without same_tag p ps) (stands-other p n ps w.there w.other) in
     ap (find same_tag r) (rebuilt p n w.packet ps w.found)
     ∙ split_keys tag_test r p
-    (λ d q. ap (λ u. find same_tag u (put_before same_tag n (p, w.packet) (without same_tag p ps))) q ∙ find-put_itself (Before n) (p, w.packet) (without same_tag p ps) there (find-without_same same_tag p ps) ∙ sym (ap (λ u. find same_tag u ps) q ∙ w.found))
-    (λ d. find-put_other (Before n) (p, w.packet) (without same_tag p ps) there r d ∙ find-without tag_test r p d ps)
+    (λ d q. ap (λ u. find same_tag u (put_before same_tag n (p, w.packet) (without same_tag p ps))) q ∙ between-itself b (find-without_same same_tag p ps) ∙ sym (ap (λ u. find same_tag u ps) q ∙ w.found))
+    (λ d. between-other b r d ∙ find-without tag_test r p d ps)
 
 -- ---- in the plan
 
@@ -234,67 +212,38 @@ pub record ShiftFailed (g : Tag) (t : ℕ) (p : Tag) (s : Spot Tag) (plan new : 
   pub why : (r ≡ refusals.OutOfMemory) ⊎ (shift_refusal g t p s plan ≡ Some r)
   pub is : new ≡ plan
 
-module _ (plan : rules.Plan) (ids : IndexOf Tag) (names : IndexOf (set.BTreeSet LinkPlace)) (held_is : IsHeld ids names plan) (g : Tag) (t : ℕ) (p : Tag) (b : Option Tag) (ys zs : Group) (here : find same_tag g plan ≡ Some ys) where
-  unmoved_after : (e : Refusal) → Within eqb t no_telegram (Passed (OrWants (Shifts p b))) ys (Err e) zs → Failed (MovePacket g t p b) plan (set_value (same_tag g) plan zs) e
-  unmoved_after e w =
-      ill g t plan held_is.sound ys zs here (OrWants (Shifts p b)) e w
-      (λ l. record { why = inr (move-lacking g t plan ys here p b l.none ∙ ap Some (sym l.fault)); is = l.is })
-      (λ l. by l l.call)
-    where
-      by : (l : Ill g t (OrWants (Shifts p b)) plan e (set_value (same_tag g) plan zs)) → ((l.cause ≡ faults.OutOfMemory) × (l.next ≡ l.old)) ⊎ Shifts p b l.old (Err l.cause) l.next → Failed (MovePacket g t p b) plan (set_value (same_tag g) plan zs) e
-      by l (inl q) = record { why = inl (l.fault ∙ ap refusal_of q.0); is = l.is q.1 }
-      by l (inr q) = record { why = inr (move-refused g t plan ys here p b l.old l.stands ∙ q.0 ∙ ap Some (sym l.fault)); is = l.is q.1 }
+module _ (plan : rules.Plan) (ids : IndexOf Tag) (names : IndexOf (set.BTreeSet LinkPlace)) (held_is : IsHeld ids names plan) (g : Tag) (t : ℕ) (p : Tag) where
+  pub unmoved : (s : Spot Tag) (ys zs : Group) → find same_tag g plan ≡ Some ys → (e : Refusal) → Within eqb t no_telegram (Passed (OrWants (ShiftsIn s p))) ys (Err e) zs → ShiftFailed g t p s plan (set_value (same_tag g) plan zs) e
+  unmoved (After a) ys zs h e w =
+      let r = wanting g t plan held_is.sound ys zs h (Shifts p a) (shift_refusal g t p (After a) plan) e w (move-refused g t plan ys h p a None) (λ y z f s q. (move-refused g t plan ys h p a (Some y) s ∙ q.0, q.1)) in
+      record { why = r.0; is = r.1 }
+  unmoved (Before n) ys zs h e w =
+      let r = wanting g t plan held_is.sound ys zs h (ShiftsBefore p n) (shift_refusal g t p (Before n) plan) e w (before-refused g t plan ys h p n None) (λ y z f s q. (before-refused g t plan ys h p n (Some y) s ∙ q.0, q.1)) in
+      record { why = r.0; is = r.1 }
 
-  moved_after : (a : Option Tag) → Within eqb t no_telegram (Passed (OrWants (Shifts p b))) ys (Ok a) zs → Outcome (MovePacket g t p b) ids names plan (set_value (same_tag g) plan zs)
-  moved_after a w =
-      let l = well g t plan held_is.sound ys zs here (OrWants (Shifts p b)) a w in
+  pub moved : (s : Spot Tag) (ys zs : Group) → find same_tag g plan ≡ Some ys → (a : Option Tag) → Within eqb t no_telegram (Passed (OrWants (ShiftsIn s p))) ys (Ok a) zs → ShiftOutcome g t p s ids names plan (set_value (same_tag g) plan zs)
+  moved (After b) ys zs h a w =
+      let l = well g t plan held_is.sound ys zs h (OrWants (Shifts p b)) a w in
       let own = (noted (MovePacket g t p b) plan).own in
-      let ok : refusal (MovePacket g t p b) plan ≡ None = move-refused g t plan ys here p b l.old l.stands ∙ l.call.0 in
+      let ok : refusal (MovePacket g t p b) plan ≡ None = move-refused g t plan ys h p b (Some l.old) l.stands ∙ l.call.0 in
       let accepted : Accepted (MovePacket g t p b) plan = (refused_exactly (MovePacket g t p b) plan held_is.sound).0 ok in
       let inside : AcceptedIn (MovePacket g t p b) l.old = subst (AcceptedAt (MovePacket g t p b)) l.stands accepted.1 in
-      let at : l.next ≡ telegram_after (0, MovePacket g t p b) own g t l.old = l.call.2 ∙ move-at own g t p b l.old in
-      let same : (r : Tag) → find same_tag r l.next.packets ≡ find same_tag r l.old.packets = λ r.
-      ap (λ (y : Telegram). find same_tag r y.packets) l.call.2
-      ∙ split_keys tag_test r p
+      let same : (r : Tag) → find same_tag r (move same_tag p b l.old.packets) ≡ find same_tag r l.old.packets = λ r.
+      split_keys tag_test r p
       (λ d q. ap (λ u. find same_tag u (move same_tag p b l.old.packets)) q ∙ find-move_same p b inside.0.0 l.old.packets inside.0.1 inside.1 inside.2 ∙ sym (ap (λ u. find same_tag u l.old.packets) q ∙ inside.0.1))
       (λ d. find-move tag_test r p b d l.old.packets) in
       record {
         accepted = ok;
-        is = l.is ∙ by-telegram (telegram_after (0, MovePacket g t p b) own) g t plan held_is.sound l.old l.next l.stands at (move-other own g t p b);
-        held = subst (IsHeld ids names) (sym l.is) (held-kept plan held_is.sound g t l.old l.next l.stands (moved-after p b (Ok a) l.old l.next l.call) ids names held_is same);
+        is = l.is ∙ by-telegram (telegram_after (0, MovePacket g t p b) own) g t plan held_is.sound l.old l.next l.stands (l.call.2 ∙ move-at own g t p b l.old) (move-other own g t p b);
+        held = subst (IsHeld ids names) (sym l.is) (held-kept plan held_is.sound g t l.old l.next l.stands (moved-after p b (Ok a) l.old l.next l.call) ids names held_is (λ r. ap (λ (y : Telegram). find same_tag r y.packets) l.call.2 ∙ same r));
       }
-
-module _ (plan : rules.Plan) (ids : IndexOf Tag) (names : IndexOf (set.BTreeSet LinkPlace)) (held_is : IsHeld ids names plan) (g : Tag) (t : ℕ) (p : Tag) (n : Option Tag) (ys zs : Group) (here_is : find same_tag g plan ≡ Some ys) where
-  unmoved_before : (e : Refusal) → Within eqb t no_telegram (Passed (OrWants (ShiftsBefore p n))) ys (Err e) zs → ShiftFailed g t p (Before n) plan (set_value (same_tag g) plan zs) e
-  unmoved_before e w =
-      ill g t plan held_is.sound ys zs here_is (OrWants (ShiftsBefore p n)) e w
-      (λ l. record { why = inr (before-lacking g t plan ys here_is p n l.none ∙ ap Some (sym l.fault)); is = l.is })
-      (λ l. by l l.call)
-    where
-      by : (l : Ill g t (OrWants (ShiftsBefore p n)) plan e (set_value (same_tag g) plan zs)) → ((l.cause ≡ faults.OutOfMemory) × (l.next ≡ l.old)) ⊎ ShiftsBefore p n l.old (Err l.cause) l.next → ShiftFailed g t p (Before n) plan (set_value (same_tag g) plan zs) e
-      by l (inl q) = record { why = inl (l.fault ∙ ap refusal_of q.0); is = l.is q.1 }
-      by l (inr q) = record { why = inr (before-refused g t plan ys here_is p n l.old l.stands ∙ q.0 ∙ ap Some (sym l.fault)); is = l.is q.1 }
-
-  moved_before_it : (a : Option Tag) → Within eqb t no_telegram (Passed (OrWants (ShiftsBefore p n))) ys (Ok a) zs → ShiftOutcome g t p (Before n) ids names plan (set_value (same_tag g) plan zs)
-  moved_before_it a w =
-      let l = well g t plan held_is.sound ys zs here_is (OrWants (ShiftsBefore p n)) a w in
+  moved (Before n) ys zs h a w =
+      let l = well g t plan held_is.sound ys zs h (OrWants (ShiftsBefore p n)) a w in
       let y = l.old in
-      let m = movable p n y l.call.0 in
       record {
-        accepted = before-refused g t plan ys here_is p n y l.stands ∙ l.call.0;
+        accepted = before-refused g t plan ys h p n (Some y) l.stands ∙ l.call.0;
         is = l.is ∙ by-telegram (λ a b d. cond (same_tag g a && eqb t b) (with_packets d (moved_before p n d.packets)) d) g t plan held_is.sound y l.next l.stands
             (l.call.2 ∙ ap (λ b. cond b (with_packets y (moved_before p n y.packets)) y) (sym (here g t)))
             (λ a b d e. ap (λ b. cond b (with_packets d (moved_before p n d.packets)) d) e);
-        held = subst (IsHeld ids names) (sym l.is) (held-kept plan held_is.sound g t y l.next l.stands (moved-before p n (Ok a) y l.next l.call) ids names held_is (λ r. ap (λ (b : Telegram). find same_tag r b.packets) l.call.2 ∙ same-before p n y m r));
+        held = subst (IsHeld ids names) (sym l.is) (held-kept plan held_is.sound g t y l.next l.stands (moved-before p n (Ok a) y l.next l.call) ids names held_is (λ r. ap (λ (b : Telegram). find same_tag r b.packets) l.call.2 ∙ same-before p n y (movable p n y l.call.0) r));
       }
-
--- ---- either
-
-module _ (plan : rules.Plan) (ids : IndexOf Tag) (names : IndexOf (set.BTreeSet LinkPlace)) (held_is : IsHeld ids names plan) (g : Tag) (t : ℕ) (p : Tag) where
-  pub unmoved : (s : Spot Tag) (ys zs : Group) → find same_tag g plan ≡ Some ys → (e : Refusal) → Within eqb t no_telegram (Passed (OrWants (ShiftsIn s p))) ys (Err e) zs → ShiftFailed g t p s plan (set_value (same_tag g) plan zs) e
-  unmoved (After a) ys zs h e w = let r = unmoved_after plan ids names held_is g t p a ys zs h e w in record { why = r.why; is = r.is }
-  unmoved (Before n) ys zs h e w = unmoved_before plan ids names held_is g t p n ys zs h e w
-
-  pub moved : (s : Spot Tag) (ys zs : Group) → find same_tag g plan ≡ Some ys → (a : Option Tag) → Within eqb t no_telegram (Passed (OrWants (ShiftsIn s p))) ys (Ok a) zs → ShiftOutcome g t p s ids names plan (set_value (same_tag g) plan zs)
-  moved (After b) ys zs h a w = let r = moved_after plan ids names held_is g t p b ys zs h a w in record { accepted = r.accepted; is = r.is; held = r.held }
-  moved (Before n) ys zs h a w = moved_before_it plan ids names held_is g t p n ys zs h a w

@@ -29,14 +29,10 @@ abbrev pub listed : Id → LinkPlace → List (Id × LinkPlace) → Bool
 listed q w [] = false
 listed q w (l ∷ ls) = (is_id l.0 q && is_place l.1 w) || listed q w ls
 
--- those that are listed are in the index too
-abbrev pub AddsAll : List (Id × LinkPlace) → IndexOf (set.BTreeSet LinkPlace) → IndexOf (set.BTreeSet LinkPlace) → Type 0
-AddsAll ls old new = (q : Id) (w : LinkPlace) → held new q w ≡ (listed q w ls || held old q w)
+-- those that are listed are in the index or not, as b says, and all others as before
+abbrev pub SetsAll : Bool → List (Id × LinkPlace) → IndexOf (set.BTreeSet LinkPlace) → IndexOf (set.BTreeSet LinkPlace) → Type 0
+SetsAll b ls old new = (q : Id) (w : LinkPlace) → held new q w ≡ cond (listed q w ls) b (held old q w)
 
 -- those that aren't listed are in it as before
 abbrev pub KeepsOthers : List (Id × LinkPlace) → IndexOf (set.BTreeSet LinkPlace) → IndexOf (set.BTreeSet LinkPlace) → Type 0
 KeepsOthers ls old new = (q : Id) (w : LinkPlace) → listed q w ls ≡ false → held new q w ≡ held old q w
-
--- those that are listed are gone from it
-abbrev pub ForgetsAll : List (Id × LinkPlace) → IndexOf (set.BTreeSet LinkPlace) → IndexOf (set.BTreeSet LinkPlace) → Type 0
-ForgetsAll ls old new = (q : Id) (w : LinkPlace) → held new q w ≡ cond (listed q w ls) false (held old q w)

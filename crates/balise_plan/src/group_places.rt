@@ -1,7 +1,7 @@
 //! A group put into a plan's groups and indexes.
 
 ghost use Rattle.std.specs.Prelude.{◌≡◌, ◌≤◌, is_some, insert, length, option_map, IfErr, IfSome, None, OnOk};
-ghost use Rattle.balise_rules.specs.Plan.{group_named, identity_of, Group as GroupValue};
+ghost use Rattle.balise_rules.specs.Plan.{group_named, identity_of, Group as GroupValue, IsSoundGroup};
 ghost use Rattle.balise_rules.specs.Tagged.{find};
 ghost use Rattle.balise_rules.specs.Tags.{same_tag};
 ghost use Rattle.balise_plan.specs.Held.{IsHeld};
@@ -9,7 +9,7 @@ ghost use Rattle.balise_index.specs.NameIndex.{indexed, names_of, tags_of, IsUnc
 ghost use Rattle.balise_index.specs.AtSpot.{put_in, spot_stands};
 
 use crate::group::Group;
-use crate::links::group::{add_group, forget_group};
+use crate::links::group::{forget_group, set_group};
 use balise_index::{NameIndex, OrderedMap, Spot};
 use balise_rules::{Id, Refusal, Tag};
 use std::alloc::Global;
@@ -39,7 +39,7 @@ pub(crate) fn is_taken(index: &NameIndex, id: Id) -> bool
     index.tag(id).is_some()
 }
 
-/// Puts a group in at a place, under a tag that is new, and notes its identity and its links.
+/// Puts a group of this identity in at a place, under a tag that is new, and notes its identity and its links.
 ///
 /// Refused, and then all stays and the group is handed back: `GroupTwice` where a group has its identity; and as
 /// `OutOfMemory` where none has.
@@ -48,8 +48,11 @@ pub(crate) fn put_at(
     index: &mut NameIndex,
     i: usize,
     g: Tag,
+    own: Id,
     group: Group,
 ) -> Result<(), (Refusal, Group)>
+    requires own { own ≡ identity_of group }
+    requires sound { IsSoundGroup group }
     requires held { IsHeld (tags_of index.old) (names_of index.old) groups.old.entries }
     requires within { i ≤ length groups.old.entries }
     requires new { find same_tag g groups.old.entries ≡ None }
@@ -61,7 +64,6 @@ pub(crate) fn put_at(
     ensures held { IsHeld (tags_of index.new) (names_of index.new) groups.new.entries }
 {
     let alloc = groups.allocator();
-    let own = group.sound_identity();
     if let Err(refusal) = index.claim(own, g) {
         return Err((refusal, group));
     }
@@ -69,8 +71,8 @@ pub(crate) fn put_at(
         index.forget_tag(own);
         return Err((Refusal::OutOfMemory, group));
     }
-    if add_group(alloc, index, g, &group).is_err() {
-        forget_group(index, g, &group);
+    if set_group(alloc, index, g, &group, true).is_err() {
+        forget_group(alloc, index, g, &group);
         index.forget_tag(own);
         return Err((Refusal::OutOfMemory, group));
     }

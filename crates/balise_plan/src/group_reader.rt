@@ -1,12 +1,12 @@
 //! A group read telegram by telegram.
 
-ghost use Rattle.std.specs.Prelude.{◌≡◌, [], Bool, IfOk, List, length, Ok};
+ghost use Rattle.std.specs.Prelude.{◌≡◌, [], Bool, IfOk, List, MatchResult, length, Err, Ok};
 ghost use Rattle.balise_plan.specs.GroupReading.{group_of, ReadsOn};
-ghost use Rattle.balise_rules.specs.Plan.{read_group, IsSoundGroup};
+ghost use Rattle.balise_rules.specs.Plan.{identity_of, read_group, IsSoundGroup};
 
 use crate::group::{Group, Telegrams};
 use crate::one_or_more::OneOrMore;
-use balise_rules::Refusal;
+use balise_rules::{Id, Refusal};
 use balise_telegram::{Bits, Telegram};
 use std::alloc::Global;
 use std::marker::Model;
@@ -70,6 +70,20 @@ impl GroupReader {
         ensures group { result ≡ group_of self }
         ensures sound { IfOk result (λ g. IsSoundGroup g) }
         ensures read { IfOk result (λ g. (bs : List (List Bool)) × (read_group bs ≡ Ok g)) }
+    {
+        match self.identified() {
+            Ok((_, group)) => Ok(group),
+            Err(refusal) => Err(refusal),
+        }
+    }
+
+    // The group that `done` answers, and its identity.
+    #[inline(always)]
+    pub(crate) fn identified(self) -> Result<(Id, Group), Refusal>
+        ensures group { MatchResult result (λ r. group_of self ≡ Ok r.1) (λ e. group_of self ≡ Err e) }
+        ensures own { IfOk result (λ r. r.0 ≡ identity_of r.1) }
+        ensures sound { IfOk result (λ r. IsSoundGroup r.1) }
+        ensures read { IfOk result (λ r. (bs : List (List Bool)) × (read_group bs ≡ Ok r.1)) }
     {
         let GroupReader { telegrams } = self;
         Group::of_read(telegrams)

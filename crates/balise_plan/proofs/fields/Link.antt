@@ -1,16 +1,17 @@
 -- What setting the number of a link makes of a plan and of its indexes.
-use Rattle.std.proofs.Common.{◌≡◌, ◌<◌, ◌≤◌, ◌^◌, ℕ, Bool, true, false, cond, eqb, ◌&&◌, [], ◌∷◌, Option, Some, None, refl, sym, ap, subst, ◌∙◌}
+use Rattle.std.proofs.Common.{◌≡◌, ◌<◌, ◌≤◌, ◌^◌, ℕ, Bool, true, false, cond, eqb, ◌&&◌, [], ◌∷◌, Option, Some, None, refl, sym, ap, subst, ◌∙◌, arith}
 use Rattle.std.specs.Map.{set_value}
 use Rattle.std.specs.Prelude.{option_and_then, option_map, is_none, unwrap_or}
 use Rattle.std.specs.BTreeSet as set
 use Rattle.std.proofs.lemmas.Bool.{eqb-true, le-ltb, lt-ltb}
+use Rattle.std.proofs.lemmas.Iterator.Adapters.{option_map_id}
 use Rattle.balise_rules.specs.declared.tag.Tag.{Tag}
 use Rattle.balise_rules.specs.declared.identity.Id.{Id}
 use Rattle.balise_rules.specs.declared.refusal.Refusal.{Refusal}
 use Rattle.balise_rules.specs.declared.refusal.Refusal.TheVariants.{NoSuchPacket, NoSuchVariable, Steering, ValueTooWide}
 use Rattle.balise_rules.specs.declared.variable.Var.TheVariants.{NidBg, NidC}
 use Rattle.balise_rules.specs.Variables.{steers, width_of}
-use Rattle.balise_rules.specs.Tagged.{find, Distinct}
+use Rattle.balise_rules.specs.Tagged.{find}
 use Rattle.balise_rules.specs.Tags.{Key, same_tag, same_id, same_key}
 use Rattle.balise_rules.specs.Forms.{Numbered}
 use Rattle.balise_rules.specs.Packet.{Packet, field_of}
@@ -21,8 +22,8 @@ use Rattle.balise_rules.specs.Doing.{refusal, first_of, when, too_wide}
 use Rattle.balise_rules.specs.Names.{country_at, is_it, is_real}
 use Rattle.balise_rules.specs.Notes.{note_at, noted, set_note}
 use Rattle.balise_rules.specs.declared.tagged_edit.TaggedEdit.TheVariants.{SetVar}
-use Rattle.balise_rules.proofs.Tests.{split_on, test-sym, tag_test, key_test, nat_test}
-use Rattle.balise_rules.proofs.Cases.{found, unsome}
+use Rattle.balise_rules.proofs.Tests.{test-sym, tag_test, key_test, nat_test}
+use Rattle.balise_rules.proofs.Cases.{found, map_itself}
 use Rattle.balise_rules.proofs.Found.{group_sound}
 use Rattle.balise_rules.proofs.Lists.{find-each}
 use Rattle.balise_rules.proofs.Keys.{other_key}
@@ -37,32 +38,24 @@ use Rattle.balise_plan.specs.ElementIn.{ElementIn, NoElement, element_refusal, l
 use Rattle.balise_plan.specs.PacketLinks.{is_in}
 use Rattle.balise_plan.specs.Relinking.{AddsReal, ForgetsOther}
 use Rattle.balise_plan.specs.Walks.{changed, in_group}
-use Rattle.balise_plan.specs.Within.{with_item}
 use Rattle.balise_plan.specs.Held.{IsHeld}
-use Rattle.balise_plan.proofs.fields.Levels.{absent-is, set-is, stands-is}
+use Rattle.balise_plan.proofs.fields.Levels.{set-is}
 use Rattle.balise_plan.proofs.items.Places.{value-each}
-use Rattle.balise_plan.proofs.naming.Identities.{country-each, id_in_packet}
+use Rattle.balise_plan.proofs.naming.Identities.{country-each, id_in_packet, id-parts}
 use Rattle.balise_plan.proofs.naming.LinksAt.{Linking, linking, links-at}
 use Rattle.balise_plan.proofs.naming.OfPacket.{named-inside, numbered}
 use Rattle.balise_plan.proofs.naming.Relinked.{relinked}
-use Rattle.balise_plan.proofs.naming.Walking.{each-found, place}
+use Rattle.balise_plan.proofs.naming.Walking.{place}
 use Rattle.balise_plan.proofs.plans.Outcomes.{Outcome}
 use Rattle.balise_plan.proofs.telegrams.Answered.{at-group, written}
 use Rattle.balise_plan.proofs.telegrams.Replaced.{held-put, with_telegram}
 use Rattle.balise_plan.proofs.telegrams.Sound.{element-changed}
-use Rattle.balise_plan.proofs.turned.Plans.{map-id}
+use Rattle.balise_plan.proofs.telegrams.Edits.{set-refused}
 
 -- the number of an element that stands, and its country
 module _ (p : Tag) (k : ℕ) (y : Telegram) (from : Id) (l : Linking p k y from) where
-  abbrev the : ℕ → Id
-  the v = record { country = country_at (country_of y) k l.packet.fields; number = v }
-
   linked-number : (field_of NidBg k l.packet.fields ≡ Some from.number) × (from.country ≡ country_at (country_of y) k l.packet.fields)
-  linked-number =
-      found (field_of NidBg k l.packet.fields)
-      (λ f. absurd (let q = sym (ap (option_map the) f) ∙ l.names in cc))
-      (λ v f. let q : the v ≡ from = unsome (sym (ap (option_map the) f) ∙ l.names) in
-      (f ∙ ap (λ (i : Id). Some i.number) q, sym (ap (λ (i : Id). i.country) q)))
+  linked-number = let n = id-parts (country_at (country_of y) k l.packet.fields) from (field_of NidBg k l.packet.fields) l.names in (n.0, sym n.1)
 
 -- ---- the packet with the new number
 
@@ -77,12 +70,7 @@ module _ (k n : ℕ) (x : Packet) where
   new-number was e = find-each key_test change (NidBg, k) x.fields ∙ ap (option_map (change (NidBg, k))) e ∙ ap (λ b. Some (cond b n was)) (key_test.itself (NidBg, k))
 
   old-number : (j : ℕ) → eqb k j ≡ false → field_of NidBg j (with_packet_field NidBg k n x).fields ≡ field_of NidBg j x.fields
-  old-number j e =
-      find-each key_test change (NidBg, j) x.fields ∙ by (find same_key (NidBg, j) x.fields)
-    where
-      by : (o : Option ℕ) → option_map (change (NidBg, j)) o ≡ o
-      by None = refl
-      by (Some m) = simp e
+  old-number j e = find-each key_test change (NidBg, j) x.fields ∙ sym (map_itself (change (NidBg, j)) (λ m. ap (λ b. cond b n m) e) (field_of NidBg j x.fields))
 
   pub named-new : (c was : ℕ) (q : Id) → field_of NidBg k x.fields ≡ Some was → named_in_packet c q k (Some (with_packet_field NidBg k n x)) ≡ same_id (record { country = country_at c k x.fields; number = n }) q
   named-new c was q e = ap (λ d. is_it d q (field_of NidBg k (with_packet_field NidBg k n x).fields)) (same-countries c k) ∙ ap (is_it (country_at c k x.fields) q) (new-number was e)
@@ -91,11 +79,7 @@ module _ (k n : ℕ) (x : Packet) where
   named-old c j q e = ap (λ d. is_it d q (field_of NidBg j (with_packet_field NidBg k n x).fields)) (same-countries c j) ∙ ap (is_it (country_at c j x.fields) q) (old-number j e)
 
 parted : (a b d e : Bool) (x y z : Bool) → ((a && (b && d)) ≡ true → e ≡ true → x ≡ y) → ((a && (b && d)) ≡ true → e ≡ false → z ≡ y) → cond (a && (b && (d && e))) x z ≡ cond (a && (b && d)) y z
-parted true true true true x y z h k = h refl refl
-parted true true true false x y z h k = k refl refl
-parted true true false e x y z h k = refl
-parted true false d e x y z h k = refl
-parted false b d e x y z h k = refl
+parted a b d e x y z h k = grind arith
 
 -- ---- refusals, by the packet and by its field
 
@@ -138,8 +122,8 @@ module _ (plan : rules.Plan) (ids : IndexOf Tag) (names : IndexOf (set.BTreeSet 
   pub untold : (n : ℕ) (e : Refusal) → NoElement t p k ys e → refusal (SetVar g t p NidBg k n) plan ≡ Some e
   untold n e h =
       found (find eqb t ys)
-      (λ a. absent-is g t p NidBg k n plan ys here a ∙ sym (ap (element_refusal p k) a) ∙ h)
-      (λ y a. stands-is g t p NidBg k n plan ys here y a ∙ lacking k n p y e (numbered g t plan held_is.sound y (at-telegram y a) p) (sym (ap (element_refusal p k) a) ∙ h))
+      (λ a. set-refused g t plan ys here p NidBg k n None (at-group g t plan held_is.sound ys ys here None a) ∙ sym (ap (element_refusal p k) a) ∙ h)
+      (λ y a. set-refused g t plan ys here p NidBg k n (Some y) (at-telegram y a) ∙ lacking k n p y e (numbered g t plan held_is.sound y (at-telegram y a) p) (sym (ap (element_refusal p k) a) ∙ h))
 
   module _ (from : Id) (element : ElementIn t p k ys from) where
     abbrev y : Telegram
@@ -156,7 +140,7 @@ module _ (plan : rules.Plan) (ids : IndexOf Tag) (names : IndexOf (set.BTreeSet 
 
     -- by the number alone
     told : (n : ℕ) → refusal (SetVar g t p NidBg k n) plan ≡ by_field k n (Some from.number)
-    told n = stands-is g t p NidBg k n plan ys here y element.1 ∙ ap (by_packet k n) link.there ∙ ap (by_field k n) number
+    told n = set-refused g t plan ys here p NidBg k n (Some y) stands ∙ ap (by_packet k n) link.there ∙ ap (by_field k n) number
 
     pub wide-refused : (n : ℕ) → 2 ^ 14 ≤ n → refusal (SetVar g t p NidBg k n) plan ≡ Some ValueTooWide
     wide-refused n h = told n ∙ too-wide k n from.number h
@@ -188,7 +172,7 @@ module _ (plan : rules.Plan) (ids : IndexOf Tag) (names : IndexOf (set.BTreeSet 
       itself = body p ∙ ap (option_map (λ z. cond (same_tag p p) (with_packet_field NidBg k n z) z)) link.there ∙ ap (λ b. Some (cond b changed_packet link.packet)) (tag_test.itself p)
 
       other : (r : Tag) → same_tag r p ≡ false → find same_tag r next.packets ≡ find same_tag r y.packets
-      other r d = body r ∙ ap (λ b. option_map (λ z. cond b (with_packet_field NidBg k n z) z) (find same_tag r y.packets)) (test-sym tag_test p r ∙ d) ∙ map-id (find same_tag r y.packets)
+      other r d = body r ∙ ap (λ b. option_map (λ z. cond b (with_packet_field NidBg k n z) z) (find same_tag r y.packets)) (test-sym tag_test p r ∙ d) ∙ option_map_id (find same_tag r y.packets)
 
       module _ (mid after : IndexOf (set.BTreeSet LinkPlace)) (adds : AddsReal names mid to (place g t p k)) (forgets : ForgetsOther mid after to from (place g t p k)) where
         index : (q : Id) (w : LinkPlace) → held after q w ≡ cond (is_in g t p w) (is_real q && named_in_packet (country_of y) q w.element (Some changed_packet)) (named_at q w plan)
@@ -204,16 +188,11 @@ module _ (plan : rules.Plan) (ids : IndexOf Tag) (names : IndexOf (set.BTreeSet 
         -- set
         pub link-set : (zs : Group) → zs ≡ in_group t p (changed (Name n) k) ys → Outcome (SetVar g t p NidBg k n) ids after plan (set_value (same_tag g) plan zs)
         link-set zs e =
-            let w : set_value (same_tag g) plan zs ≡ with_telegram g t next plan = written g t plan held_is.sound ys zs here next (e ∙ at-one ys (group_sound plan held_is.sound g ys here).tags element.1) in
+            let f = with_changed p (with_packet_field NidBg k n) in
+            let set = λ (h : Telegram → Telegram) (q : next ≡ h y). value-each nat_test t h ys y next (group_sound plan held_is.sound g ys here).tags element.1 q in
+            let w : set_value (same_tag g) plan zs ≡ with_telegram g t next plan = written g t plan held_is.sound ys zs here next (e ∙ sym (set f refl) ∙ set (λ _. next) refl) in
             record {
               accepted = none-refused n fits;
               is = value-each tag_test g _ plan ys zs held_is.sound.tags here e ∙ set-is 0 (noted (SetVar g t p NidBg k n) plan).own g t p NidBg k n plan;
               held = subst (IsHeld ids after) (sym w) (held-put plan held_is.sound g t y next stands (element-changed p (Name n) k fits y next refl) ids names held_is p (Some changed_packet) itself other after index);
             }
-          where
-            at-one : (us : Group) → Distinct eqb us → find eqb t us ≡ Some y → in_group t p (changed (Name n) k) us ≡ with_item eqb t next us
-            at-one us d f =
-                each-found nat_test _ _ us d (λ u x a.
-                split_on (eqb t u)
-                (λ b. let q : x ≡ y = unsome (sym a ∙ ap (λ j. find eqb j us) (sym (nat_test.one t u b)) ∙ f) in simp b (ap (with_changed p (with_packet_field NidBg k n)) q))
-                (λ b. simp b))

@@ -1,8 +1,8 @@
 -- What setting a field that isn't a number of a link leaves of the indexes.
-use Rattle.std.proofs.Common.{◌≡◌, ℕ, Bool, true, false, cond, eqb, ◌&&◌, Some, None, Ok, Err, refl, sym, ap, subst, ◌∙◌}
+use Rattle.std.proofs.Common.{◌≡◌, ℕ, Bool, true, false, cond, eqb, ◌&&◌, Some, None, Ok, Err, refl, sym, ap, subst, ◌∙◌, arith}
 use Rattle.std.specs.Map.{set_value}
-use Rattle.std.proofs.lemmas.Map.Steps.{set_value_same}
 use Rattle.std.proofs.lemmas.Bool.{true≢false}
+use Rattle.std.proofs.lemmas.Iterator.Adapters.{option_map_id}
 use Rattle.balise_rules.specs.declared.tag.Tag.{Tag}
 use Rattle.balise_rules.specs.declared.identity.Id.{Id}
 use Rattle.balise_rules.specs.declared.refusal.Refusal.{Refusal}
@@ -11,7 +11,7 @@ use Rattle.balise_rules.specs.declared.variable.Var.TheVariants.{NidBg, NidC}
 use Rattle.balise_rules.specs.Variables.{steers}
 use Rattle.balise_rules.specs.Tagged.{find}
 use Rattle.balise_rules.specs.Tags.{Key, is_of, same_tag, same_var, same_key}
-use Rattle.balise_rules.specs.Plan.{Group, IsSound, country_of, identity_of, telegram_at}
+use Rattle.balise_rules.specs.Plan.{Group, IsSound, country_of}
 use Rattle.balise_rules.specs.Names.{is_real, country_at}
 use Rattle.balise_rules.specs.Packet.{Packet}
 use Rattle.balise_rules.specs.Accepting.{Accepted}
@@ -25,27 +25,22 @@ use Rattle.balise_edit_laws.proofs.SoundKept.{groups_kept, sound_parts}
 use Rattle.balise_index.specs.declared.link_place.LinkPlace.{LinkPlace}
 use Rattle.balise_plan.specs.Held.{IsHeld}
 use Rattle.balise_plan.proofs.plans.Outcomes.{Outcome, Refused}
-use Rattle.balise_plan.proofs.fields.Levels.{InGroup, left, set_plan}
 use Rattle.balise_plan.proofs.renumbering.Plans.{telegram-each}
-use Rattle.balise_plan.proofs.turned.Plans.{tags-kept, map-id}
+use Rattle.balise_plan.proofs.turned.Plans.{tags-kept}
 use Rattle.balise_plan.proofs.naming.Identities.{id_at, is_the, named-is, id-after}
 use Rattle.balise_index.specs.NameIndex.{IndexOf}
 use Rattle.balise_rules.specs.Telegram.{Telegram}
-use Rattle.balise_telegram.specs.Setting.{SetsHead}
+use Rattle.balise_telegram.specs.Setting.{SetsHead, SetsField}
 use Rattle.balise_plan.specs.Within.{Within, Passed, no_telegram}
 use Rattle.balise_plan.proofs.telegrams.Replaced.{held-kept}
 use Rattle.balise_plan.proofs.telegrams.Sound.{head-set}
 use Rattle.balise_plan.proofs.telegrams.Answered.{well, ill, by-telegram}
-use Rattle.balise_plan.proofs.telegrams.Edits.{head-at, head-other, head-refused, head-lacking}
+use Rattle.balise_plan.proofs.telegrams.Edits.{head-at, head-other, head-refused, set-refused, set-at, set-other}
 use Rattle.std.specs.BTreeSet as set
 use Rattle.balise_rules.specs.Plan as rules
-use Rattle.balise_plan.proofs.fields.Levels as placing
 
 off : (a b c d : Bool) → d ≡ false → (a && (b && (c && d))) ≡ false
-off true true true d e = e
-off true true false d e = refl
-off true false c d e = refl
-off false b c d e = refl
+off a b c d e = grind arith
 
 module _ (plan : rules.Plan) (ids : IndexOf Tag) (names : IndexOf (set.BTreeSet LinkPlace)) (held_is : IsHeld ids names plan) (g : Tag) (t : ℕ) (p : Tag) (v : Var) (k n : ℕ) (own : Id) (ok : refusal (SetVar g t p v k n) plan ≡ None) (apart : same_var v NidBg ≡ false) where
   accepted : Accepted (SetVar g t p v k n) plan
@@ -70,7 +65,7 @@ module _ (plan : rules.Plan) (ids : IndexOf Tag) (names : IndexOf (set.BTreeSet 
       (λ y m. refl)
       (λ y q x key m e. ap (λ b. cond b n m) (off (same_tag g w.group) (eqb t w.telegram) (same_tag p q) (same_key (v, k) key) (not_country key e)))
       (λ y q x j m. ap (λ b. one (country_of y) j x (cond b n m)) (off (same_tag g w.group) (eqb t w.telegram) (same_tag p q) (same_key (v, k) (NidBg, j)) (ap (λ b. b && eqb k j) apart)))
-      ∙ map-id (id_at w plan)
+      ∙ option_map_id (id_at w plan)
     where
       one : ℕ → ℕ → Packet → ℕ → Id
       one c j x m = record { country = country_at c j x.fields; number = m }
@@ -83,16 +78,19 @@ module _ (plan : rules.Plan) (ids : IndexOf Tag) (names : IndexOf (set.BTreeSet 
   }
 
 module _ (plan : rules.Plan) (ids : IndexOf Tag) (names : IndexOf (set.BTreeSet LinkPlace)) (held_is : IsHeld ids names plan) (g : Tag) (t : ℕ) (p : Tag) (v : Var) (k n : ℕ) (ys zs : Group) (here : find same_tag g plan ≡ Some ys) where
-  pub not-set : (e : Refusal) → InGroup t p v k n ys (Err e) zs → Refused (SetVar g t p v k n) plan (set_value (same_tag g) plan zs) e
+  pub not-set : (e : Refusal) → Within eqb t no_telegram (Passed (SetsField p v k n)) ys (Err e) zs → Refused (SetVar g t p v k n) plan (set_value (same_tag g) plan zs) e
   not-set e w =
-      let l = left g t p v k n plan held_is.sound ys zs here e w in
-      record { refused = l.0; is = ap (set_value (same_tag g) plan) l.1 ∙ set_value_same (same_tag g) plan ys here }
+      ill g t plan held_is.sound ys zs here (SetsField p v k n) e w
+      (λ l. record { refused = set-refused g t plan ys here p v k n None l.none ∙ ap Some (sym l.fault); is = l.is })
+      (λ l. record { refused = set-refused g t plan ys here p v k n (Some l.old) l.stands ∙ l.call.0 ∙ ap Some (sym l.fault); is = l.is l.call.1 })
 
-  pub is-set : same_var v NidBg ≡ false → (was : ℕ) → InGroup t p v k n ys (Ok was) zs → Outcome (SetVar g t p v k n) ids names plan (set_value (same_tag g) plan zs)
+  pub is-set : same_var v NidBg ≡ false → (was : ℕ) → Within eqb t no_telegram (Passed (SetsField p v k n)) ys (Ok was) zs → Outcome (SetVar g t p v k n) ids names plan (set_value (same_tag g) plan zs)
   is-set apart was w =
       let own = (noted (SetVar g t p v k n) plan).own in
-      let ok = (placing.set g t p v k n plan held_is.sound ys zs here was w).0 in
-      let e = set_plan g t p v k n plan held_is.sound ys zs here was w own in
+      let l = well g t plan held_is.sound ys zs here (SetsField p v k n) was w in
+      let ok = set-refused g t plan ys here p v k n (Some l.old) l.stands ∙ l.call.0 in
+      let e : set_value (same_tag g) plan zs ≡ effect (0, SetVar g t p v k n) own plan =
+      l.is ∙ by-telegram (telegram_after (0, SetVar g t p v k n) own) g t plan held_is.sound l.old l.next l.stands (l.call.2 ∙ set-at own g t p v k n l.old) (set-other own g t p v k n) in
       record { accepted = ok; is = e; held = subst (IsHeld ids names) (sym e) (set_held plan ids names held_is g t p v k n own ok apart) }
 
 -- ---- What setting a field of a header makes of a plan and of its indexes
@@ -101,14 +99,14 @@ module _ (plan : rules.Plan) (ids : IndexOf Tag) (names : IndexOf (set.BTreeSet 
   pub refused : (e : Refusal) → Within eqb t no_telegram (Passed (SetsHead v n)) ys (Err e) zs → Refused (SetHead g t v n) plan (set_value (same_tag g) plan zs) e
   refused e w =
       ill g t plan held_is.sound ys zs here (SetsHead v n) e w
-      (λ l. record { refused = head-lacking g t plan ys here v n l.none ∙ ap Some (sym l.fault); is = l.is })
-      (λ l. record { refused = head-refused g t plan ys here v n l.old l.stands ∙ l.call.0 ∙ ap Some (sym l.fault); is = l.is l.call.1 })
+      (λ l. record { refused = head-refused g t plan ys here v n None l.none ∙ ap Some (sym l.fault); is = l.is })
+      (λ l. record { refused = head-refused g t plan ys here v n (Some l.old) l.stands ∙ l.call.0 ∙ ap Some (sym l.fault); is = l.is l.call.1 })
 
   pub answered : (was : ℕ) → Within eqb t no_telegram (Passed (SetsHead v n)) ys (Ok was) zs → Outcome (SetHead g t v n) ids names plan (set_value (same_tag g) plan zs)
   answered was w =
       let l = well g t plan held_is.sound ys zs here (SetsHead v n) was w in
       let own = (noted (SetHead g t v n) plan).own in
-      let ok : refusal (SetHead g t v n) plan ≡ None = head-refused g t plan ys here v n l.old l.stands ∙ l.call.0 in
+      let ok : refusal (SetHead g t v n) plan ≡ None = head-refused g t plan ys here v n (Some l.old) l.stands ∙ l.call.0 in
       let at : l.next ≡ telegram_after (0, SetHead g t v n) own g t l.old = l.call.2 ∙ head-at own g t v n l.old in
       record {
         accepted = ok;

@@ -2,6 +2,7 @@
 use Rattle.std.proofs.Common.{◌≡◌, ◌∙◌, ℕ, zero, suc, ◌+◌, ◌<◌, ◌≤◌, Bool, false, List, [], ◌∷◌, Some, None, length, insert, take, slice_get, refl, sym, ap, subst, arith, length-take}
 use Rattle.std.specs.BTreeSet as set
 use Rattle.std.proofs.lemmas.List.{take_all}
+use Rattle.std.proofs.lemmas.Option.{slice_get_cases}
 use Rattle.balise_rules.specs.declared.tag.Tag.{Tag}
 use Rattle.balise_rules.specs.Tagged.{find, Distinct}
 use Rattle.balise_rules.specs.Tags.{same_tag, same_id}
@@ -42,9 +43,6 @@ pub record Copied (plan : Plan) (i : ℕ) (ids : IndexOf Tag) (names : IndexOf (
   pub first : groups ≡ take i plan
   pub held : IsHeld ids names groups
 
-abbrev nobody : {V : Type 0} → IndexOf V
-nobody i = None
-
 -- the next group may be put in at the end
 pub record IsNext (plan : Plan) (i : ℕ) (g : Tag) (ys : Group) (groups : Plan) : Type 0 where
   pub within : i ≤ length groups
@@ -61,9 +59,7 @@ is-next plan i g ys zs ids names groups s c l e same = subst (IsNext plan i g zs
 }))
 
 pub no-more : {A : Type 0} (xs : List A) (i : ℕ) → slice_get xs i ≡ None → length xs ≤ i
-no-more [] i e = omega arith
-no-more (y ∷ ys) zero e = absurd cc
-no-more (y ∷ ys) (suc i) e = omega (arith, no-more ys i e)
+no-more xs i e = grind (arith, slice_get_cases)
 
 pub all-copied : (plan : Plan) (i : ℕ) (ids : IndexOf Tag) (names : IndexOf (set.BTreeSet LinkPlace)) (groups : Plan) → Copied plan i ids names groups → length plan ≤ i → groups ≡ plan
 all-copied plan i ids names groups c l = c.first ∙ take_all i plan l

@@ -1,5 +1,5 @@
 -- What taking a group out makes of a plan and of its indexes.
-use Rattle.std.proofs.Common.{◌≡◌, Bool, true, false, cond, eqb, ◌&&◌, Option, Some, None, refl, sym, ap, subst, ◌∙◌}
+use Rattle.std.proofs.Common.{◌≡◌, Bool, false, cond, eqb, ◌&&◌, Option, Some, None, sym, ap, subst, ◌∙◌, arith, true}
 use Rattle.std.specs.Prelude.{option_and_then, is_none}
 use Rattle.std.specs.Option.{option_map}
 use Rattle.std.specs.BTreeSet as set
@@ -9,7 +9,7 @@ use Rattle.balise_rules.specs.declared.tag.Tag.{Tag}
 use Rattle.balise_rules.specs.declared.identity.Id.{Id}
 use Rattle.balise_rules.specs.Tagged.{find, behind, without}
 use Rattle.balise_rules.specs.Tags.{same_tag, same_id}
-use Rattle.balise_rules.specs.Plan.{Group, IsSound, IsSoundGroup, identity_of, group_named, telegram_at}
+use Rattle.balise_rules.specs.Plan.{Group, IsSound, IsSoundGroup, identity_of}
 use Rattle.balise_rules.specs.Plan as rules
 use Rattle.balise_rules.specs.Names.{is_real}
 use Rattle.balise_rules.specs.Doing.{when}
@@ -22,19 +22,19 @@ use Rattle.balise_rules.proofs.Lists.{find-without, find-without_same}
 use Rattle.balise_rules.proofs.Distincts.{distinct-without}
 use Rattle.balise_rules.proofs.AllItems.{all-without}
 use Rattle.balise_rules.proofs.Found.{group_sound}
-use Rattle.balise_edit_laws.proofs.Naming.{no_group_from, no_group_to}
+use Rattle.balise_edit_laws.proofs.Naming.{no_group_to}
 use Rattle.balise_edit_laws.proofs.Identities.{differ_apart, apart_differ, apart_without}
 use Rattle.balise_index.specs.declared.link_place.LinkPlace.{LinkPlace}
 use Rattle.balise_index.specs.NameIndex.{held, indexed, IndexOf}
 use Rattle.balise_index.specs.Identities.{is_id}
 use Rattle.balise_plan.specs.Links.{named_at, named_in_telegram}
-use Rattle.balise_plan.specs.GroupLinks.{links_in_group, ForgetsAll}
+use Rattle.balise_plan.specs.GroupLinks.{links_in_group, SetsAll}
 use Rattle.balise_plan.specs.Held.{IsHeld, tag_named}
 use Rattle.balise_plan.proofs.plans.Outcomes.{Outcome}
 use Rattle.balise_index.proofs.identities.Equal.{id_is}
 use Rattle.balise_plan.proofs.naming.OfGroup.{listed-names}
-use Rattle.balise_plan.proofs.naming.Identities.{tag-named, named-found}
 use Rattle.balise_plan.proofs.items.KeyPlaces.{removed-without}
+use Rattle.balise_plan.proofs.turned.Plans.{tags-same}
 
 -- the tag of an identity that no group has
 pub no-tag : (i : Id) (plan : rules.Plan) → IsSound plan → ((g : Tag) (ys : Group) → find same_tag g plan ≡ Some ys → same_id (identity_of ys) i ≡ false) → tag_named i plan ≡ None
@@ -68,42 +68,31 @@ module _ (plan : rules.Plan) (ids : IndexOf Tag) (names : IndexOf (set.BTreeSet 
       split_keys id_test (identity_of ys) q
       (λ a k. simp a (no-tag q rest (dropped-sound g plan held_is.sound) (λ h zs e.
       let w = was h zs e in ap (same_id (identity_of zs)) (sym k) ∙ differ_apart plan held_is.sound.identities h g zs ys w.0 here w.1)))
-      (λ a. simp a (by (group_named q plan) refl a))
-    where
-      by : (o : Option (Tag × Group)) → group_named q plan ≡ o → same_id (identity_of ys) q ≡ false → tag_named q rest ≡ tag_named q plan
-      by None e a = no-tag q rest (dropped-sound g plan held_is.sound) (λ h zs f. no_group_from q plan e h zs (was h zs f).0) ∙ sym (ap (option_map (λ (y : Tag × Group). y.0)) e)
-      by (Some y) e a =
-          let h = named-found q plan held_is.sound.tags y e in
-          let d : same_tag y.0 g ≡ false = split_keys tag_test y.0 g
-          (λ d k. absurd (let w : y.1 ≡ ys = unsome (sym h.0 ∙ ap (λ u. find same_tag u plan) k ∙ here) in true≢false (sym h.1 ∙ ap (λ u. same_id (identity_of u) q) w ∙ a))) (λ d. d) in
-          tag-named q rest (dropped-sound g plan held_is.sound) y.0 y.1 (find-without tag_test y.0 g d plan ∙ h.0) h.1
-          ∙ sym (ap (option_map (λ (y : Tag × Group). y.0)) e)
+      (λ a. simp a (tags-same plan rest held_is.sound (dropped-sound g plan held_is.sound) q
+      (λ h zs e m.
+      let d : same_tag h g ≡ false = split_keys tag_test h g
+      (λ d k. absurd (let w : zs ≡ ys = unsome (sym e ∙ ap (λ u. find same_tag u plan) k ∙ here) in true≢false (sym m ∙ ap (λ u. same_id (identity_of u) q) w ∙ a))) (λ d. d) in
+      (zs, find-without tag_test h g d plan ∙ e, m))
+      (λ h zs e m. (zs, (was h zs e).0, m))))
 
-  names-dropped : (after : IndexOf (set.BTreeSet LinkPlace)) → ForgetsAll (links_in_group g ys) names after → (q : Id) (w : LinkPlace) → held after q w ≡ named_at q w rest
+  names-dropped : (after : IndexOf (set.BTreeSet LinkPlace)) → SetsAll false (links_in_group g ys) names after → (q : Id) (w : LinkPlace) → held after q w ≡ named_at q w rest
   names-dropped after f q w =
       f q w ∙ ap (λ b. cond b false (held names q w)) (listed-names g ys group-is q w) ∙ ap (cond (is_real q && (same_tag g w.group && there)) false) (held_is.named q w)
-      ∙ split_keys tag_test w.group g
-      (λ d k. ap (λ b. cond (is_real q && (b && there)) false (named_at q w plan)) (test-sym tag_test g w.group ∙ d)
-      ∙ ap (cond (is_real q && there) false) (ap (λ o. is_real q && named_in_telegram q w (option_and_then (find eqb w.telegram) o)) (ap (λ u. find same_tag u plan) k ∙ here))
-      ∙ none (is_real q) there
-      ∙ ap (λ o. is_real q && named_in_telegram q w (option_and_then (find eqb w.telegram) o)) (sym (ap (λ u. find same_tag u rest) k ∙ find-without_same same_tag g plan)))
-      (λ d. ap (λ b. cond (is_real q && (b && there)) false (named_at q w plan)) (test-sym tag_test g w.group ∙ d)
-      ∙ ap (λ b. cond b false (named_at q w plan)) (no (is_real q))
-      ∙ ap (λ o. is_real q && named_in_telegram q w (option_and_then (find eqb w.telegram) o)) (sym (find-without tag_test w.group g d plan)))
+      ∙ taken (is_real q) (same_tag g w.group) there (named_at q w plan) (named_at q w rest)
+      (λ d. ap named (ap (λ u. find same_tag u plan) (sym (tag_test.one g w.group d)) ∙ here))
+      (λ d. ap named (ap (λ u. find same_tag u rest) (sym (tag_test.one g w.group d)) ∙ find-without_same same_tag g plan))
+      (λ d. ap named (find-without tag_test w.group g (test-sym tag_test w.group g ∙ d) plan))
     where
       there : Bool
       there = named_in_telegram q w (find eqb w.telegram ys)
 
-      none : (r b : Bool) → cond (r && b) false (r && b) ≡ (r && false)
-      none true true = refl
-      none true false = refl
-      none false b = refl
+      named : Option Group → Bool
+      named o = is_real q && named_in_telegram q w (option_and_then (find eqb w.telegram) o)
 
-      no : (r : Bool) → (r && false) ≡ false
-      no true = refl
-      no false = refl
+      taken : (r s x old new : Bool) → (s ≡ true → old ≡ (r && x)) → (s ≡ true → new ≡ (r && false)) → (s ≡ false → new ≡ old) → cond (r && (s && x)) false old ≡ new
+      taken r s x old new h k l = grind arith
 
-  module _ (after : IndexOf (set.BTreeSet LinkPlace)) (forgets : ForgetsAll (links_in_group g ys) names after) (i : Id) (is_own : i ≡ identity_of ys) (left : IndexOf Tag) (out : (q : Id) → indexed left q ≡ cond (is_id i q) None (indexed ids q)) where
+  module _ (after : IndexOf (set.BTreeSet LinkPlace)) (forgets : SetsAll false (links_in_group g ys) names after) (i : Id) (is_own : i ≡ identity_of ys) (left : IndexOf Tag) (out : (q : Id) → indexed left q ≡ cond (is_id i q) None (indexed ids q)) where
     -- the group is taken out of the plan and of both indexes
     pub dropped : Outcome (DropGroup g) left after plan (remove_entry (same_tag g) plan)
     dropped =

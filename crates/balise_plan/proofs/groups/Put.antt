@@ -1,10 +1,10 @@
 -- What putting a group in makes of a plan and of its indexes.
-use Rattle.std.proofs.Common.{◌≡◌, ℕ, Bool, true, false, cond, eqb, ◌&&◌, ◌||◌, Option, Some, None, insert, take, drop, refl, sym, ap, ◌∙◌}
+use Rattle.std.proofs.Common.{◌≡◌, ℕ, Bool, true, false, cond, eqb, ◌&&◌, ◌||◌, Option, Some, None, insert, take, drop, refl, sym, ap, ◌∙◌, arith}
 use Rattle.std.specs.Prelude.{option_and_then}
-use Rattle.std.specs.Option.{option_map}
 use Rattle.std.specs.BTreeSet as set
 use Rattle.std.proofs.lemmas.Bool.{true≢false}
 use Rattle.std.proofs.lemmas.List.{take-append-drop}
+use Rattle.std.proofs.Math.Bool.{and-false}
 use Rattle.balise_rules.specs.declared.tag.Tag.{Tag}
 use Rattle.balise_rules.specs.declared.identity.Id.{Id}
 use Rattle.balise_rules.specs.Tagged.{find}
@@ -20,17 +20,14 @@ use Rattle.balise_index.specs.declared.link_place.LinkPlace.{LinkPlace}
 use Rattle.balise_index.specs.NameIndex.{held, indexed, IndexOf}
 use Rattle.balise_index.specs.Identities.{is_id}
 use Rattle.balise_plan.specs.Links.{named_at, named_in_telegram}
-use Rattle.balise_plan.specs.GroupLinks.{listed, links_in_group, AddsAll}
+use Rattle.balise_plan.specs.GroupLinks.{listed, links_in_group, SetsAll}
 use Rattle.balise_plan.specs.Held.{IsHeld, tag_named}
 use Rattle.balise_index.proofs.identities.Equal.{id_is}
-use Rattle.balise_plan.proofs.groups.Dropped.{no-tag}
+use Rattle.balise_plan.proofs.naming.GroupLists.{noted_or}
 use Rattle.balise_plan.proofs.naming.OfGroup.{listed-names}
-use Rattle.balise_plan.proofs.naming.Identities.{tag-named, named-found}
+use Rattle.balise_plan.proofs.naming.Identities.{tag-named}
 use Rattle.balise_plan.proofs.items.Inserted.{Between, between-other, between-itself, between-distinct, between-all}
-
-and-none : (b : Bool) → (b && false) ≡ false
-and-none true = refl
-and-none false = refl
+use Rattle.balise_plan.proofs.turned.Plans.{tags-same}
 
 insert-between : (z : Tag × Group) (xs : rules.Plan) (i : ℕ) → Between z xs (insert xs i z)
 insert-between z xs i = record { left = take i xs; right = drop i xs; before = sym (take-append-drop i xs); after = refl }
@@ -43,7 +40,7 @@ module _ (plan : rules.Plan) (ids : IndexOf Tag) (names : IndexOf (set.BTreeSet 
   pub none-noted : (q : Id) (w : LinkPlace) → listed q w (links_in_group g ys) ≡ true → held names q w ≡ false
   none-noted q w e =
       let h = parts3 (is_real q) (same_tag g w.group) (named_in_telegram q w (find eqb w.telegram ys)) (sym (listed-names g ys good q w) ∙ e) in
-      held_is.named q w ∙ ap (named w q) (ap (λ u. find same_tag u plan) (sym (tag_test.one g w.group h.1)) ∙ absent) ∙ and-none (is_real q)
+      held_is.named q w ∙ ap (named w q) (ap (λ u. find same_tag u plan) (sym (tag_test.one g w.group h.1)) ∙ absent) ∙ and-false (is_real q)
 
   module _ (free : group_named (identity_of ys) plan ≡ None) (new : rules.Plan) (b : Between (g, ys) plan new) where
     itself : find same_tag g new ≡ Some ys
@@ -75,40 +72,27 @@ module _ (plan : rules.Plan) (ids : IndexOf Tag) (names : IndexOf (set.BTreeSet 
     tags-put q =
         split_on (same_id (identity_of ys) q)
         (λ a. simp a (tag-named q new put-sound g ys itself a))
-        (λ a. simp a (by (group_named q plan) refl a))
-      where
-        by : (o : Option (Tag × Group)) → group_named q plan ≡ o → same_id (identity_of ys) q ≡ false → tag_named q new ≡ tag_named q plan
-        by None e a =
-            no-tag q new put-sound (λ h zs f. was h zs f (λ p u. ap (λ x. same_id (identity_of x) q) (sym u) ∙ a) (λ d u. no_group_from q plan e h zs u))
-            ∙ sym (ap (option_map (λ (y : Tag × Group). y.0)) e)
-        by (Some y) e a =
-            let h = named-found q plan held_is.sound.tags y e in
-            let d : same_tag y.0 g ≡ false = split_keys tag_test y.0 g
-            (λ d k. absurd (let w : None ≡ Some y.1 = sym absent ∙ ap (λ u. find same_tag u plan) (sym k) ∙ h.0 in cc)) (λ d. d) in
-            tag-named q new put-sound y.0 y.1 (between-other b y.0 d ∙ h.0) h.1
-            ∙ sym (ap (option_map (λ (y : Tag × Group). y.0)) e)
+        (λ a. simp a (tags-same plan new held_is.sound put-sound q
+        (λ h zs e m.
+        let d : same_tag h g ≡ false = split_keys tag_test h g (λ d k. absurd (let w : None ≡ Some zs = sym absent ∙ ap (λ u. find same_tag u plan) (sym k) ∙ e in cc)) (λ d. d) in
+        (zs, between-other b h d ∙ e, m))
+        (λ h zs e m. was h zs e (λ p u. absurd (true≢false (sym m ∙ ap (λ x. same_id (identity_of x) q) (sym u) ∙ a))) (λ d u. (zs, u, m)))))
 
-    names-put : (after : IndexOf (set.BTreeSet LinkPlace)) → AddsAll (links_in_group g ys) names after → (q : Id) (w : LinkPlace) → held after q w ≡ named_at q w new
+    names-put : (after : IndexOf (set.BTreeSet LinkPlace)) → SetsAll true (links_in_group g ys) names after → (q : Id) (w : LinkPlace) → held after q w ≡ named_at q w new
     names-put after f q w =
-        f q w ∙ ap (λ x. x || held names q w) (listed-names g ys good q w) ∙ ap (λ x. (is_real q && (same_tag g w.group && there)) || x) (held_is.named q w)
-        ∙ split_keys tag_test w.group g
-        (λ d k. ap (λ x. (is_real q && (x && there)) || named_at q w plan) (test-sym tag_test g w.group ∙ d)
-        ∙ ap (λ o. (is_real q && there) || named w q o) (ap (λ u. find same_tag u plan) k ∙ absent)
-        ∙ either (is_real q) there
-        ∙ ap (named w q) (sym (ap (λ u. find same_tag u new) k ∙ itself)))
-        (λ d. ap (λ x. (is_real q && (x && there)) || named_at q w plan) (test-sym tag_test g w.group ∙ d)
-        ∙ ap (λ x. x || named_at q w plan) (and-none (is_real q))
-        ∙ ap (named w q) (sym (between-other b w.group d)))
+        noted_or (links_in_group g ys) names after f q w ∙ ap (λ x. x || held names q w) (listed-names g ys good q w) ∙ ap (λ x. (is_real q && (same_tag g w.group && there)) || x) (held_is.named q w)
+        ∙ joined (is_real q) (same_tag g w.group) there (named_at q w plan) (named_at q w new)
+        (λ d. ap (named w q) (ap (λ u. find same_tag u plan) (sym (tag_test.one g w.group d)) ∙ absent))
+        (λ d. ap (named w q) (ap (λ u. find same_tag u new) (sym (tag_test.one g w.group d)) ∙ itself))
+        (λ d. ap (named w q) (between-other b w.group (test-sym tag_test w.group g ∙ d)))
       where
         there : Bool
         there = named_in_telegram q w (find eqb w.telegram ys)
 
-        either : (r x : Bool) → ((r && x) || (r && false)) ≡ (r && x)
-        either true true = refl
-        either true false = refl
-        either false x = refl
+        joined : (r s x old new : Bool) → (s ≡ true → old ≡ (r && false)) → (s ≡ true → new ≡ (r && x)) → (s ≡ false → new ≡ old) → ((r && (s && x)) || old) ≡ new
+        joined r s x old new h k l = grind arith
 
-  module _ (free : group_named (identity_of ys) plan ≡ None) (after : IndexOf (set.BTreeSet LinkPlace)) (adds : AddsAll (links_in_group g ys) names after) (i : Id) (is_own : i ≡ identity_of ys) (left : IndexOf Tag) (put : (q : Id) → indexed left q ≡ cond (is_id i q) (Some g) (indexed ids q)) where
+  module _ (free : group_named (identity_of ys) plan ≡ None) (after : IndexOf (set.BTreeSet LinkPlace)) (adds : SetsAll true (links_in_group g ys) names after) (i : Id) (is_own : i ≡ identity_of ys) (left : IndexOf Tag) (put : (q : Id) → indexed left q ≡ cond (is_id i q) (Some g) (indexed ids q)) where
     pub held-inserted : (n : ℕ) → IsHeld left after (insert plan n (g, ys))
     held-inserted n =
         let new = insert plan n (g, ys) in

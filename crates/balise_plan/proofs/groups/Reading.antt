@@ -1,12 +1,12 @@
 -- Reading the telegrams of a group one after another.
 -- From the definition: what was read stands before what is read of the rest.
-use Rattle.std.proofs.Common.{◌≡◌, ◌∙◌, ℕ, suc, ◌+◌, ◌-◌, ◌≤◌, ◌<◌, ◌≢◌, Bool, true, false, cond, not, eqb, ◌&&◌, ◌||◌, List, [], ◌∷◌, ◌++◌, length, Result, Ok, Err, IfOk, IfErr, refl, sym, ap, subst, append_assoc, length-append, arith}
+use Rattle.std.proofs.Common.{◌≡◌, ◌∙◌, ℕ, suc, ◌+◌, ◌-◌, ◌≤◌, ◌<◌, ◌≢◌, Bool, true, false, cond, eqb, ◌&&◌, ◌||◌, List, [], ◌∷◌, ◌++◌, length, Result, Ok, Err, IfOk, IfErr, refl, sym, ap, subst, append_assoc, length-append, arith}
 use Rattle.std.specs.Prelude.{nat_lt, nat_le}
 use Rattle.std.specs.List.{enumerate_from}
-use Rattle.std.proofs.lemmas.Bool.{ne_eqb, or_parts, leb-false, ltb-false, ltb-true, lt-leb}
+use Rattle.std.proofs.lemmas.Bool.{ne_eqb, leb-false}
 use Rattle.std.proofs.lemmas.List.{append-nil}
 use Rattle.balise_rules.specs.declared.refusal.Refusal.{Refusal}
-use Rattle.balise_rules.specs.declared.refusal.Refusal.TheVariants.{GroupSize, HeaderDisagrees, NumberReserved, OutOfMemory}
+use Rattle.balise_rules.specs.declared.refusal.Refusal.TheVariants.{GroupSize, OutOfMemory}
 use Rattle.balise_rules.specs.Telegram.{Telegram, read_telegram}
 use Rattle.balise_rules.proofs.Cases.{unok}
 use Rattle.balise_rules.specs.Refusals.{and_then}
@@ -30,7 +30,7 @@ pub record Reading (all : List (List Bool)) (read : Group) (rest : List (List Bo
 
 pub begins : (all rest : List (List Bool)) (ys : Group) → rest ≡ all → ys ≡ [] → length all ≤ 8 → 1 ≤ length all → Reading all ys rest
 begins all rest ys e n few some = record {
-  so_far = by (read_telegrams 0 all) ∙ ap (λ (l : List (List Bool)). behind [] (read_telegrams 0 l)) (sym e) ∙ ap (λ (l : Group). behind l (read_telegrams (length l) rest)) (sym n);
+  so_far = rw (n, e) (by (read_telegrams 0 all));
   counted = omega (arith, ap length e, ap length n);
   in_order = ([], n);
   few = few;
@@ -38,8 +38,7 @@ begins all rest ys e n few some = record {
 }
   where
     by : (r : Result Group Refusal) → r ≡ behind [] r
-    by (Err x) = refl
-    by (Ok ys) = refl
+    by r = grind arith
 
 -- one telegram more
 pub reads_on : (all : List (List Bool)) (read new : Group) (rest more : List (List Bool)) (b : List Bool) (y : Telegram) → Reading all read rest → rest ≡ b ∷ more → read_telegram b ≡ Ok y → new ≡ read ++ (length read, y) ∷ [] → Reading all new more
@@ -48,8 +47,7 @@ reads_on all read new rest more b y r e t n =
     let tag = length read in
     let size : length new ≡ suc tag = ap length n ∙ length-append read ((tag, y) ∷ []) ∙ (let one : tag + 1 ≡ suc tag = omega arith in one) in
     record {
-      so_far = r.so_far ∙ ap (λ (l : List (List Bool)). behind read (read_telegrams tag l)) e ∙ ap (λ (x : Result Telegram Refusal). behind read (with_telegrams tag x (read_telegrams (suc tag) more))) t
-          ∙ by (read_telegrams (suc tag) more) ∙ ap (λ (k : ℕ). behind (read ++ (tag, y) ∷ []) (read_telegrams k more)) (sym size) ∙ ap (λ (l : Group). behind l (read_telegrams (length new) more)) (sym n);
+      so_far = r.so_far ∙ rw (e, t, size, n) (by (read_telegrams (suc tag) more));
       counted = omega (arith, r.counted, ap length e, size);
       in_order = subst AreInOrder (sym n) (push-in_order read y r.in_order);
       few = r.few;
@@ -62,16 +60,7 @@ reads_on all read new rest more b y r e t n =
 
 -- one to eight, as the code tests it
 out : (k : ℕ) → (nat_lt k 1 || nat_lt 8 k) ≡ true → (nat_le 1 k && nat_le k 8) ≡ false
-out k h = by (nat_lt k 1) (nat_lt 8 k) refl refl h
-  where
-    right : (b : Bool) → (b && false) ≡ false
-    right true = refl
-    right false = refl
-
-    by : (a b : Bool) → nat_lt k 1 ≡ a → nat_lt 8 k ≡ b → (a || b) ≡ true → (nat_le 1 k && nat_le k 8) ≡ false
-    by true b p q h = ap (λ (c : Bool). c && nat_le k 8) (lt-leb 1 k (ltb-true k 1 p))
-    by false true p q h = ap (λ (c : Bool). nat_le 1 k && c) (lt-leb k 8 (ltb-true 8 k q)) ∙ right (nat_le 1 k)
-    by false false p q h = absurd cc
+out k h = grind arith
 
 sized : (all : List (List Bool)) → length all ≤ 8 → 1 ≤ length all → read_group all ≡ checked_group (read_telegrams 0 all)
 unfolding read_group
@@ -81,15 +70,12 @@ sized all few some =
 
 pub wrong_size : (all : List (List Bool)) (n : ℕ) → n ≡ length all → (nat_lt n 1 || nat_lt 8 n) ≡ true → read_group all ≡ Err GroupSize
 unfolding read_group
-wrong_size all n e h = by n e h
-  where
-    by : (k : ℕ) → k ≡ length all → (nat_lt k 1 || nat_lt 8 k) ≡ true → cond (nat_le 1 (length all) && nat_le (length all) 8) (checked_group (read_telegrams 0 all)) (Err GroupSize) ≡ Err GroupSize
-    by k e h =
-        let a : (nat_le 1 (length all) && nat_le (length all) 8) ≡ false = ap (λ (m : ℕ). nat_le 1 m && nat_le m 8) (sym e) ∙ out k h in
-        ap (λ (b : Bool). cond b (checked_group (read_telegrams 0 all)) (Err GroupSize)) a
+wrong_size all n e h =
+    let a = out (length all) (ap (λ (m : ℕ). nat_lt m 1 || nat_lt 8 m) (sym e) ∙ h) in
+    ap (λ (b : Bool). cond b (checked_group (read_telegrams 0 all)) (Err GroupSize)) a
 
 inside : (k : ℕ) → (nat_lt k 1 || nat_lt 8 k) ≡ false → (1 ≤ k) × (k ≤ 8)
-inside k h = let p = or_parts (nat_lt k 1) (nat_lt 8 k) h in (ltb-false k 1 p.0, ltb-false 8 k p.1)
+inside k h = grind arith
 
 pub right_size : (all : List (List Bool)) (n : ℕ) → n ≡ length all → (nat_lt n 1 || nat_lt 8 n) ≡ false → (1 ≤ length all) × (length all ≤ 8)
 right_size all n e h = let i = inside n h in (omega (arith, e, i.0), omega (arith, e, i.1))
@@ -97,14 +83,12 @@ right_size all n e h = let i = inside n h in (omega (arith, e, i.0), omega (arit
 -- a telegram that isn't read
 pub fails : (all : List (List Bool)) (read : Group) (rest more : List (List Bool)) (b : List Bool) (r : Refusal) → Reading all read rest → rest ≡ b ∷ more → read_telegram b ≡ Err r → read_group all ≡ Err r
 unfolding read_telegrams
-fails all read rest more b r g e t =
-    let tag = length read in
-    sized all g.few g.some ∙ ap checked_group (g.so_far ∙ ap (λ (l : List (List Bool)). behind read (read_telegrams tag l)) e ∙ ap (λ (x : Result Telegram Refusal). behind read (with_telegrams tag x (read_telegrams (suc tag) more))) t)
+fails all read rest more b r g e t = let f : read_telegrams 0 all ≡ Err r = g.so_far ∙ rw (e, t) refl in sized all g.few g.some ∙ ap checked_group f
 
 -- all are read
 read_to_end : (all : List (List Bool)) (read : Group) (rest : List (List Bool)) → Reading all read rest → rest ≡ [] → read_telegrams 0 all ≡ Ok read
 unfolding read_telegrams
-read_to_end all read rest g e = g.so_far ∙ ap (λ (l : List (List Bool)). behind read (read_telegrams (length read) l)) e ∙ ap Ok (append-nil read)
+read_to_end all read rest g e = g.so_far ∙ rw e (ap Ok (append-nil read))
 
 -- they are those of a group that was read
 pub were_read : (all : List (List Bool)) (read : Group) (rest : List (List Bool)) → Reading all read rest → rest ≡ [] → WereRead read
@@ -118,59 +102,40 @@ some_group (y ∷ ys) h = refl
 pub read_so : (all : List (List Bool)) (read : Group) (rest : List (List Bool)) → Reading all read rest → rest ≡ [] → read_group all ≡ group_of read
 read_so all read rest g e = sized all g.few g.some ∙ ap checked_group (read_to_end all read rest g e) ∙ sym (some_group read (omega (arith, g.some, g.counted, ap length e)))
 
--- what is answered is what is read
-pub so_answered : (all : List (List Bool)) (r : Result Group Refusal) (x : Result Group Refusal) → r ≡ x → read_group all ≡ x → IfOk r (λ g. read_group all ≡ Ok g)
-so_answered all (Ok g) x e h = h ∙ sym e
-so_answered all (Err f) x e h = tt
-
-pub so_refused : (all : List (List Bool)) (r : Result Group Refusal) (x : Result Group Refusal) → r ≡ x → read_group all ≡ x → IfErr r (λ f. f ≢ OutOfMemory → read_group all ≡ Err f)
-so_refused all (Ok g) x e h = tt
-so_refused all (Err f) x e h = λ _. h ∙ sym e
-
 -- Telegrams that were read, without the bits.
 
--- as many as there were
-same_step : (n : ℕ) (bs : List (List Bool)) (ys : Group) → ((zs : Group) → read_telegrams (suc n) bs ≡ Ok zs → length zs ≡ length bs) → (r : Result Telegram Refusal) (s : Result Group Refusal) →
-    read_telegrams (suc n) bs ≡ s → with_telegrams n r s ≡ Ok ys → length ys ≡ suc (length bs)
-same_step n bs ys again (Err x) s q h = absurd cc
-same_step n bs ys again (Ok z) (Err x) q h = absurd cc
-same_step n bs ys again (Ok z) (Ok zs) q h = ap length (sym (unok h)) ∙ ap suc (again zs q)
+-- what was read of one telegram and of those after it
+parts : (n : ℕ) (ys : Group) (r : Result Telegram Refusal) (s : Result Group Refusal) → with_telegrams n r s ≡ Ok ys → (z : Telegram) × (zs : Group) × (r ≡ Ok z) × (s ≡ Ok zs) × (ys ≡ (n, z) ∷ zs)
+parts n ys (Ok z) (Ok zs) h = (z, zs, refl, refl, sym (unok h))
+parts n ys (Ok z) (Err x) h = absurd cc
+parts n ys (Err x) s h = absurd cc
 
+-- as many as there were
 same_length : (n : ℕ) (bs : List (List Bool)) (ys : Group) → read_telegrams n bs ≡ Ok ys → length ys ≡ length bs
 unfolding read_telegrams
 same_length n [] ys h = ap length (sym (unok h))
-same_length n (b ∷ bs) ys h = same_step n bs ys (λ zs q. same_length (suc n) bs zs q) (read_telegram b) (read_telegrams (suc n) bs) refl h
+same_length n (b ∷ bs) ys h = let w = parts n ys _ _ h in ap length w.4 ∙ ap suc (same_length (suc n) bs w.1 w.3)
 
 -- one more after them
-last_step : (n : ℕ) (c b : List Bool) (bs : List (List Bool)) (ys : Group) (y : Telegram) → ((zs : Group) → read_telegrams (suc n) bs ≡ Ok zs → read_telegrams (suc n) (bs ++ b ∷ []) ≡ Ok (zs ++ (suc n + length zs, y) ∷ [])) →
-    (r : Result Telegram Refusal) (s : Result Group Refusal) → read_telegram c ≡ r → read_telegrams (suc n) bs ≡ s → with_telegrams n r s ≡ Ok ys →
-    with_telegrams n (read_telegram c) (read_telegrams (suc n) (bs ++ b ∷ [])) ≡ Ok (ys ++ (n + length ys, y) ∷ [])
-last_step n c b bs ys y again (Err x) s p q h = absurd cc
-last_step n c b bs ys y again (Ok z) (Err x) p q h = absurd cc
-last_step n c b bs ys y again (Ok z) (Ok zs) p q h =
-    let next : suc n + length zs ≡ n + length ((n, z) ∷ zs) = omega arith in
-    ap (λ (r : Result Telegram Refusal). with_telegrams n r (read_telegrams (suc n) (bs ++ b ∷ []))) p ∙ ap (with_telegrams n (Ok z)) (again zs q)
-    ∙ ap (λ (k : ℕ). Ok ((n, z) ∷ (zs ++ (k, y) ∷ []))) next ∙ ap (λ (l : Group). Ok (l ++ (n + length l, y) ∷ [])) (unok h)
-
 read_last : (n : ℕ) (bs : List (List Bool)) (ys : Group) (b : List Bool) (y : Telegram) → read_telegrams n bs ≡ Ok ys → read_telegram b ≡ Ok y → read_telegrams n (bs ++ b ∷ []) ≡ Ok (ys ++ (n + length ys, y) ∷ [])
 unfolding read_telegrams
 read_last n [] ys b y h t =
     let none : n ≡ n + length ys = omega (arith, ap length (unok h)) in
     ap (λ (r : Result Telegram Refusal). with_telegrams n r (Ok [])) t ∙ ap (λ (k : ℕ). Ok ((k, y) ∷ [])) none ∙ ap (λ (l : Group). Ok (l ++ (n + length ys, y) ∷ [])) (unok h)
-read_last n (c ∷ bs) ys b y h t = last_step n c b bs ys y (λ zs q. read_last (suc n) bs zs b y q t) (read_telegram c) (read_telegrams (suc n) bs) refl refl h
+read_last n (c ∷ bs) ys b y h t =
+    let w = parts n ys _ _ h in
+    let next : suc n + length w.1 ≡ n + suc (length w.1) = omega arith in
+    rw (w.2, read_last (suc n) bs w.1 b y w.3 t) (ap (λ (k : ℕ). Ok ((n, w.0) ∷ (w.1 ++ (k, y) ∷ []))) next ∙ ap (λ (l : Group). Ok (l ++ (n + length l, y) ∷ [])) (sym w.4))
 
 -- each stands at the place that is its tag
-in_order_step : (n : ℕ) (ys : Group) → (r : Result Telegram Refusal) (s : Result Group Refusal) → ((zs : Group) → s ≡ Ok zs → (ts : List Telegram) × (zs ≡ enumerate_from (n + 1) ts)) → with_telegrams n r s ≡ Ok ys → (ts : List Telegram) × (ys ≡ enumerate_from n ts)
-in_order_step n ys (Err x) s again h = absurd cc
-in_order_step n ys (Ok z) (Err x) again h = absurd cc
-in_order_step n ys (Ok z) (Ok zs) again h = let rest = again zs refl in (z ∷ rest.0, sym (unok h) ∙ ap (λ (l : Group). (n, z) ∷ l) rest.1)
-
 in_order_from : (n : ℕ) (bs : List (List Bool)) (ys : Group) → read_telegrams n bs ≡ Ok ys → (ts : List Telegram) × (ys ≡ enumerate_from n ts)
 unfolding read_telegrams
 in_order_from n [] ys h = ([], sym (unok h))
 in_order_from n (b ∷ bs) ys h =
+    let w = parts n ys _ _ h in
     let next : suc n ≡ n + 1 = omega arith in
-    in_order_step n ys (read_telegram b) (read_telegrams (suc n) bs) (λ zs q. in_order_from (n + 1) bs zs (ap (λ (k : ℕ). read_telegrams k bs) (sym next) ∙ q)) h
+    let rest = in_order_from (n + 1) bs w.1 (ap (λ (k : ℕ). read_telegrams k bs) (sym next) ∙ w.3) in
+    (w.0 ∷ rest.0, w.4 ∙ ap (λ (l : Group). (n, w.0) ∷ l) rest.1)
 
 pub in_order_read : (ys : Group) → WereRead ys → AreInOrder ys
 in_order_read ys w = in_order_from 0 w.0 ys w.2
@@ -192,9 +157,7 @@ stands ys n w some h i s =
     let other : eqb (identity_of ys).number reserved ≡ false = ne_eqb (identity_of ys).number reserved (λ k. s (i ∙ k)) in
     let size = same_length 0 w.0 ys w.2 in (
       w.0,
-      sized w.0 w.1 (omega (arith, size, some)) ∙ ap checked_group w.2
-          ∙ ap (λ (b : Bool). cond (not b) (Err HeaderDisagrees) (cond (eqb (identity_of ys).number reserved) (Err NumberReserved) (Ok ys))) h
-          ∙ ap (λ (b : Bool). cond b (Err NumberReserved) (Ok ys)) other,
+      sized w.0 w.1 (omega (arith, size, some)) ∙ ap checked_group w.2 ∙ rw (h, other) refl,
     )
 
 pub read_sound : (ys : Group) → ((bs : List (List Bool)) × (read_group bs ≡ Ok ys)) → GroupRead ys

@@ -1,5 +1,5 @@
 -- A group stays sound: one telegram replaced, each given another number, or all turned.
-use Rattle.std.proofs.Common.{◌≡◌, ◌≢◌, ◌<◌, ◌^◌, ◌-◌, ℕ, suc, false, cond, eqb, [], ◌∷◌, length, Some, position, slice_set, get_or, refl, sym, ap, subst, ◌∙◌, arith}
+use Rattle.std.proofs.Common.{◌≡◌, ◌≢◌, ◌<◌, ◌^◌, ◌-◌, ℕ, suc, false, cond, eqb, [], ◌∷◌, length, Some, slice_set, refl, sym, ap, subst, ◌∙◌, arith}
 use Rattle.std.proofs.lemmas.Bool.{lt-ltb}
 use Rattle.std.proofs.lemmas.List.Elements.{All-cons, All-nil}
 use borrow.Author.Tests.{ltb-true}
@@ -29,10 +29,10 @@ use Rattle.balise_plan.specs.declared.links.change.Change.TheVariants.{Flip, Nam
 use Rattle.balise_plan.specs.Links.{named_at, named_in_packet, named_in_telegram}
 use Rattle.balise_plan.specs.Walks.{FitsTotals, turned_group, turned_in, with_number, renumbered_heads}
 use Rattle.balise_plan.proofs.renumbering.Fields.{renumber-is}
-use Rattle.balise_plan.proofs.items.Places.{at-lookup, at-position, set-each}
 use Rattle.balise_plan.proofs.telegrams.Sound.{Replaces}
 use Rattle.balise_plan.proofs.turned.Fields.{turn-is}
 use Rattle.balise_plan.proofs.naming.Walking.{all-flip, all-id, all-name, all-same, all_fields, among_after}
+use Rattle.balise_plan.proofs.items.OneChanged.{Standing, each_at, found_at}
 
 -- each telegram changed where it stands
 pub each-kept : (ys : Group) → IsSoundGroup ys → (h : ℕ → Telegram → Telegram) → ((t : ℕ) (y : Telegram) → find eqb t ys ≡ Some y → Replaces y (h t y)) → GroupKept (identity_of ys) (each h ys)
@@ -46,13 +46,12 @@ each-kept ys s h k =
     (sound_each i i last h 0 ys s.telegrams s.tags (λ t y m f w. k t y f i last m w))
 
 -- one telegram replaced, as the code does it at its place
-pub sound_at : (t : ℕ) (xs : Group) → IsSoundGroup xs → (i : ℕ) → Some i ≡ position (λ q. eqb t q.0) xs → (d : ℕ × Telegram) → d ≡ get_or xs i d → (z : Telegram) → Replaces d.1 z → IsSoundGroup (slice_set xs i (d.0, z))
-sound_at t xs s i e d q z r =
-    let a = at-position (eqb t) xs i (sym e) in
-    let here : find eqb t xs ≡ Some d.1 = at-lookup (eqb t) xs i d a ∙ ap (λ w. Some w.1) (sym q) in
-    subst IsSoundGroup (sym (set-each nat_test t (λ _. z) xs i d z s.tags a q refl))
-    (each-kept xs s (λ u y. cond (eqb t u) z y) (λ u y f j last m w. split_on (eqb t u)
-    (λ b. let k : y ≡ d.1 = unsome (sym f ∙ ap (λ v. find eqb v xs) (sym (nat_test.one t u b)) ∙ here) in
+pub sound_at : {t : ℕ} {xs old : Group} {y : Telegram} (p : Standing eqb t xs old y) → IsSoundGroup xs → (z : Telegram) → Replaces y z → IsSoundGroup (slice_set xs p.place (p.key, z))
+sound_at {t = t} {xs = xs} {y = y} p s z r =
+    let inside : Standing eqb t xs xs y = record { view = refl; place = p.place; key = p.key; found = p.found; is = p.is } in
+    subst IsSoundGroup (sym (each_at nat_test inside s.tags (λ _. z) z refl))
+    (each-kept xs s (λ u x. cond (eqb t u) z x) (λ u x f j last m w. split_on (eqb t u)
+    (λ b. let k : x ≡ y = unsome (sym f ∙ ap (λ v. find eqb v xs) (sym (nat_test.one t u b)) ∙ found_at nat_test inside) in
     simp b (r j last m (subst (λ v. IsSoundTelegram j last m v) k w)))
     (λ b. simp b w))).sound
 

@@ -2,6 +2,7 @@
 use Rattle.std.proofs.Common.{◌≡◌, ◌+◌, true, false, All, List, [], ◌∷◌, ◌++◌, Some, None, refl, sym, ap, subst, ◌∙◌, arith}
 use Rattle.std.proofs.lemmas.Bool.{true≢false}
 use Rattle.std.proofs.lemmas.List.Elements.{All-head, All-tail, All-cons}
+use Rattle.std.proofs.lemmas.List.{append-nil}
 use Rattle.balise_rules.specs.declared.tag.Tag.{Tag}
 use Rattle.balise_rules.specs.Tagged.{find, Distinct, put_behind, put_in_front, stands}
 use Rattle.balise_rules.specs.Tags.{same_tag}
@@ -22,10 +23,6 @@ pub record Between {A : Type 0} (z : Tag × A) (xs ys : List (Tag × A)) : Type 
 further : {A : Type 0} {z : Tag × A} {xs ys : List (Tag × A)} (x : Tag × A) → Between z xs ys → Between z (x ∷ xs) (x ∷ ys)
 further x b = record { left = x ∷ b.left; right = b.right; before = ap (λ l. x ∷ l) b.before; after = ap (λ l. x ∷ l) b.after }
 
-with-end : {A : Type 0} (xs : List A) → xs ≡ xs ++ []
-with-end [] = refl
-with-end (x ∷ xs) = ap (λ l. x ∷ l) (with-end xs)
-
 behind : {A : Type 0} (k : Tag) (z : Tag × A) (xs : List (Tag × A)) → stands same_tag (Some k) xs ≡ true → Between z xs (put_behind same_tag k z xs)
 behind k z [] h = absurd (true≢false (sym h))
 behind k z (x ∷ xs) h =
@@ -43,7 +40,7 @@ in-front k z (x ∷ xs) h =
 pub put-between : {A : Type 0} (s : Spot Tag) (z : Tag × A) (xs : List (Tag × A)) → spot_stands s xs ≡ true → Between z xs (put_in s z xs)
 put-between (After None) z xs h = record { left = []; right = xs; before = refl; after = refl }
 put-between (After (Some k)) z xs h = behind k z xs h
-put-between (Before None) z xs h = record { left = xs; right = []; before = with-end xs; after = refl }
+put-between (Before None) z xs h = record { left = xs; right = []; before = sym (append-nil xs); after = refl }
 put-between (Before (Some k)) z xs h = in-front k z xs h
 
 -- ---- by the parts
@@ -91,21 +88,5 @@ module _ {A : Type 0} {z : Tag × A} {xs ys : List (Tag × A)} (b : Between z xs
   pub between-all : (P : A → Type 0) → P z.1 → All (λ y. P y.1) xs → All (λ y. P y.1) ys
   between-all P h a = subst (All (λ y. P y.1)) (sym b.after) (all P z b.left b.right h (subst (All (λ y. P y.1)) b.before a))
 
--- ---- of the list
-
-module _ {A : Type 0} (s : Spot Tag) (z : Tag × A) (xs : List (Tag × A)) (there : spot_stands s xs ≡ true) where
-  pub find-put_other : (r : Tag) → same_tag r z.0 ≡ false → find same_tag r (put_in s z xs) ≡ find same_tag r xs
-  find-put_other = between-other (put-between s z xs there)
-
-  module _ (absent : find same_tag z.0 xs ≡ None) where
-    pub find-put_itself : find same_tag z.0 (put_in s z xs) ≡ Some z.1
-    find-put_itself = between-itself (put-between s z xs there) absent
-
-    pub distinct-put_in : Distinct same_tag xs → Distinct same_tag (put_in s z xs)
-    distinct-put_in = between-distinct (put-between s z xs there) absent
-
-  pub all-put_in : (P : A → Type 0) → P z.1 → All (λ y. P y.1) xs → All (λ y. P y.1) (put_in s z xs)
-  all-put_in = between-all (put-between s z xs there)
-
-pub used-put_in : (s : Spot Tag) (z : Tag × Packet) (xs : List (Tag × Packet)) → spot_stands s xs ≡ true → used (put_in s z xs) ≡ used xs + width z.1
-used-put_in s z xs there = let b = put-between s z xs there in ap used b.after ∙ more z b.left b.right ∙ ap (λ l. used l + width z.1) (sym b.before)
+pub between-used : {z : Tag × Packet} {xs ys : List (Tag × Packet)} → Between z xs ys → used ys ≡ used xs + width z.1
+between-used {z = z} b = ap used b.after ∙ more z b.left b.right ∙ ap (λ l. used l + width z.1) (sym b.before)

@@ -1,8 +1,7 @@
 -- Places of keys in a tagged list, as a map answers them: what is taken out there, and what stands after it.
-use Rattle.std.proofs.Common.{◌≡◌, ℕ, zero, suc, ◌+◌, ◌<◌, Bool, true, false, List, [], ◌∷◌, ◌++◌, Option, Some, None, length, position, insert, option_map, slice_get, get_or, refl, sym, ◌∙◌, ap, arith}
+use Rattle.std.proofs.Common.{◌≡◌, ℕ, zero, suc, ◌+◌, Bool, List, [], ◌∷◌, Option, Some, None, position, insert, option_map, slice_get, refl, sym, ◌∙◌, ap, arith, ◌⊎◌, inl, inr}
 use Rattle.std.specs.Map.{keys_of, remove_entry}
-use Rattle.std.specs.Option.{IfSome}
-use Rattle.std.proofs.lemmas.List.Quantifiers.{position-Some}
+use Rattle.std.specs.Option.{IfSome, is_some}
 use Rattle.balise_rules.specs.Tagged.{find, first, behind, without, put_behind, put_in_front, Distinct}
 use Rattle.balise_rules.proofs.Tests.{IsTest, split_on}
 use Rattle.balise_rules.proofs.Lists.{without-absent}
@@ -10,19 +9,17 @@ use Rattle.balise_rules.specs.declared.tag.Tag.{Tag}
 use Rattle.balise_rules.specs.Tags.{same_tag}
 use Rattle.balise_index.specs.declared.spot.Spot.{Spot}
 use Rattle.balise_index.specs.declared.spot.Spot.TheVariants.{After, Before}
-use Rattle.balise_index.specs.AtSpot.{put_in}
-use Rattle.balise_plan.proofs.items.Places.{At}
+use Rattle.balise_index.specs.AtSpot.{put_in, spot_stands}
+use Rattle.balise_index.proofs.order.Entries.{some_index}
+use Rattle.balise_plan.proofs.items.Places.{At, at-position}
 
-first-key : {K A : Type 0} (test : K → Bool) (xs : List (K × A)) (i : ℕ) (d : K) → i < length (keys_of xs) → test (get_or (keys_of xs) i d) ≡ true
-    → ((k : ℕ) → k < i → test (get_or (keys_of xs) k d) ≡ false) → At test xs i
-first-key test [] i d h here below = absurd (omega (arith, h))
-first-key test (e ∷ es) zero d h here below = here
-first-key test (e ∷ es) (suc i) d h here below = (below 0 (omega arith), first-key test es i d (omega (arith, h)) here (λ k b. below (suc k) (omega (arith, b))))
+same-place : {K A : Type 0} (test : K → Bool) (xs : List (K × A)) → position test (keys_of xs) ≡ position (λ p. test p.0) xs
+same-place test [] = refl
+same-place test (x ∷ xs) = let h = same-place test xs in grind arith
 
 -- the place of a key
 pub at-key : {K A : Type 0} (test : K → Bool) (xs : List (K × A)) (i : ℕ) → position test (keys_of xs) ≡ Some i → At test xs i
-at-key test [] i e = cc
-at-key test (x ∷ xs) i e = let p = position-Some test (keys_of (x ∷ xs)) i x.0 e in first-key test (x ∷ xs) i x.0 p.0 p.1 p.2
+at-key test xs i e = at-position test xs i (sym (same-place test xs) ∙ e)
 
 -- without the item at its place, the next neighbour stands there
 pub behind-place : {K A : Type 0} (same : K → K → Bool) (k : K) (xs : List (K × A)) (i : ℕ) → At (same k) xs i → option_map (λ (p : K × A). p.0) (slice_get (remove_entry (same k) xs) i) ≡ behind same k xs
@@ -56,10 +53,6 @@ before-place same k z [] i a = absurd a
 before-place same k z (y ∷ ys) zero a = simp a
 before-place same k z (y ∷ ys) (suc i) a = let n = a.0 in simp n (ap (λ l. y ∷ l) (before-place same k z ys i a.1))
 
-pub end-place : {A : Type 0} (z : A) (xs : List A) → insert xs (length xs) z ≡ xs ++ z ∷ []
-end-place z [] = refl
-end-place z (y ∷ ys) = ap (λ l. y ∷ l) (end-place z ys)
-
 -- ---- the place that a spot names
 
 pub found-after : {A : Type 0} (tag : Tag) (xs : List (Tag × A)) (s : Spot Tag) (i : ℕ) → s ≡ After (Some tag) → position (same_tag tag) (keys_of xs) ≡ Some i → (z : Tag × A) → insert xs (i + 1) z ≡ put_in s z xs
@@ -70,3 +63,7 @@ found-after tag xs s i e p z =
 pub found-before : {A : Type 0} (tag : Tag) (xs : List (Tag × A)) (s : Spot Tag) (o : Option ℕ) → s ≡ Before (Some tag) → o ≡ position (same_tag tag) (keys_of xs) → IfSome o (λ i. (z : Tag × A) → insert xs i z ≡ put_in s z xs)
 found-before tag xs s None e p = tt
 found-before tag xs s (Some i) e p = λ z. before-place same_tag tag z xs i (at-key (same_tag tag) xs i (sym p)) ∙ sym (ap (λ r. put_in r z xs) e)
+
+pub place-stands : {A : Type 0} (tag : Tag) (xs : List (Tag × A)) (s : Spot Tag) (o : Option ℕ) → (s ≡ After (Some tag)) ⊎ (s ≡ Before (Some tag)) → o ≡ position (same_tag tag) (keys_of xs) → is_some o ≡ spot_stands s xs
+place-stands tag xs s o (inl e) p = ap is_some p ∙ some_index (same_tag tag) xs ∙ sym (ap (λ r. spot_stands r xs) e)
+place-stands tag xs s o (inr e) p = ap is_some p ∙ some_index (same_tag tag) xs ∙ sym (ap (λ r. spot_stands r xs) e)

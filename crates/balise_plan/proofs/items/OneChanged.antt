@@ -1,39 +1,40 @@
 -- A change of one item, as the code makes it at its place in a list or under its key in a map.
-use Rattle.std.proofs.Common.{◌≡◌, ℕ, Bool, cond, List, Some, None, position, refl, sym, ◌∙◌, ap, subst, slice_set, get_or, zero, suc, ◌<◌, [], ◌∷◌, length, arith}
-use Rattle.std.specs.Map.{set_value}
+use Rattle.std.proofs.Common.{◌≡◌, ℕ, Bool, cond, List, Some, None, position, refl, sym, ◌∙◌, ap, slice_set, get_or, zero, suc, ◌<◌, [], ◌∷◌, length, arith}
 use Rattle.balise_rules.specs.Tagged.{find, each, Distinct}
 use Rattle.balise_rules.proofs.Tests.{IsTest}
+use Rattle.balise_rules.proofs.Each.{each-absent}
 use Rattle.balise_telegram.proofs.Turning.{each_to}
 use Rattle.balise_plan.specs.Within.{Within, Absent, Changed}
-use Rattle.balise_plan.proofs.items.Places.{absent-each, at-position, none-position, at-lookup, set-each, value-each}
+use Rattle.balise_plan.proofs.items.Places.{at-position, none-position, at-lookup, set-each}
 
-module _ {K X B : Type 0} {same : K → K → Bool} (t : IsTest same) (k : K) (none : B) (R : X → B → X → Type 0) where
-  pub at_none : (xs old : List (K × X)) → xs ≡ old → None ≡ position (λ q. same k q.0) xs → Within same k none R old none old
-  at_none xs old v e = Absent (ap (find same k) (sym v) ∙ none-position (same k) xs (sym e)) refl refl
+-- the item x of a key stands at a place, where the code found it
+pub record Standing {K X : Type 0} (same : K → K → Bool) (k : K) (xs old : List (K × X)) (x : X) : Type 0 where
+  pub view : xs ≡ old
+  pub place : ℕ
+  pub key : K
+  pub found : Some place ≡ position (λ q. same k q.0) xs
+  pub is : (key, x) ≡ get_or xs place (key, x)
 
-  pub at_place : (xs old : List (K × X)) → xs ≡ old → Distinct same xs → (i : ℕ) → Some i ≡ position (λ q. same k q.0) xs → (d : K × X) → d ≡ get_or xs i d → (r : B) → (y : X) → R d.1 r y → Within same k none R old r (slice_set xs i (d.0, y))
-  at_place xs old v u i e d q r y c =
-      let a = at-position (same k) xs i (sym e) in
-      subst (λ o. Within same k none R o r (slice_set xs i (d.0, y))) v
-      (Changed d.1 y (at-lookup (same k) xs i d a ∙ ap (λ z. Some z.1) (sym q)) c (set-each t k (λ _. y) xs i d y u a q refl))
+module _ {K X : Type 0} {same : K → K → Bool} (t : IsTest same) {k : K} {xs old : List (K × X)} {x : X} (s : Standing same k xs old x) where
+  pub found_at : find same k old ≡ Some x
+  found_at = ap (find same k) (sym s.view) ∙ at-lookup (same k) xs s.place (s.key, x) (at-position (same k) xs s.place (sym s.found)) ∙ ap (λ z. Some z.1) (sym s.is)
 
-  pub at_key : (xs old : List (K × X)) → xs ≡ old → Distinct same xs → (x : X) → find same k xs ≡ Some x → (r : B) → (y : X) → R x r y → Within same k none R old r (set_value (same k) xs y)
-  at_key xs old v u x h r y c =
-      subst (λ o. Within same k none R o r (set_value (same k) xs y)) v
-      (Changed x y h c (value-each t k (λ _. y) xs x y u h refl))
+  pub each_at : Distinct same xs → (f : X → X) (y : X) → y ≡ f x → slice_set xs s.place (s.key, y) ≡ each (λ q z. cond (same k q) (f z) z) old
+  each_at u f y w = set-each t k f xs s.place (s.key, x) y u (at-position (same k) xs s.place (sym s.found)) s.is w ∙ ap (each (λ q z. cond (same k q) (f z) z)) s.view
 
-pub absent_at : {K X : Type 0} {same : K → K → Bool} (t : IsTest same) (k : K) (f : X → X) (xs old : List (K × X)) → xs ≡ old → None ≡ position (λ q. same k q.0) xs → each (λ q x. cond (same k q) (f x) x) old ≡ old
-absent_at {same = same} t k f xs old v e = absent-each same k f old (ap (find same k) (sym v) ∙ none-position (same k) xs (sym e))
+  pub at_place : {B : Type 0} → Distinct same xs → (none : B) (R : X → B → X → Type 0) (r : B) (y : X) → R x r y → Within same k none R old r (slice_set xs s.place (s.key, y))
+  at_place u none R r y c = Changed x y found_at c (each_at u (λ _. y) y refl)
 
-pub each_at : {K X : Type 0} {same : K → K → Bool} (t : IsTest same) (k : K) (f : X → X) (xs old : List (K × X)) → xs ≡ old → Distinct same xs → (i : ℕ) → Some i ≡ position (λ q. same k q.0) xs → (d : K × X) → d ≡ get_or xs i d → (y : X) → y ≡ f d.1 → slice_set xs i (d.0, y) ≡ each (λ q x. cond (same k q) (f x) x) old
-each_at {same = same} t k f xs old v u i e d q y w = set-each t k f xs i d y u (at-position (same k) xs i (sym e)) q w ∙ ap (each (λ p x. cond (same k p) (f x) x)) v
+-- no item of the key stands in the list
+module _ {K X : Type 0} (same : K → K → Bool) (k : K) (xs old : List (K × X)) (v : xs ≡ old) (e : None ≡ position (λ q. same k q.0) xs) where
+  pub found_none : find same k old ≡ None
+  found_none = ap (find same k) (sym v) ∙ none-position (same k) xs (sym e)
 
--- what is found, by its place
-pub found_none : {K X : Type 0} (same : K → K → Bool) (k : K) (xs old : List (K × X)) → xs ≡ old → None ≡ position (λ q. same k q.0) xs → find same k old ≡ None
-found_none same k xs old v e = ap (find same k) (sym v) ∙ none-position (same k) xs (sym e)
+  pub at_none : {B : Type 0} (none : B) (R : X → B → X → Type 0) → Within same k none R old none old
+  at_none none R = Absent found_none refl refl
 
-pub found_at : {K X : Type 0} (same : K → K → Bool) (k : K) (xs old : List (K × X)) → xs ≡ old → (i : ℕ) → Some i ≡ position (λ q. same k q.0) xs → (d : K × X) → d ≡ get_or xs i d → find same k old ≡ Some d.1
-found_at same k xs old v i e d q = ap (find same k) (sym v) ∙ at-lookup (same k) xs i d (at-position (same k) xs i (sym e)) ∙ ap (λ z. Some z.1) (sym q)
+  pub absent_at : (f : X → X) → each (λ q x. cond (same k q) (f x) x) old ≡ old
+  absent_at f = each-absent same k f old found_none
 
 -- ---- A list changed item by item
 

@@ -1,8 +1,7 @@
 -- Items under their places, in this order or in reverse.
-use Rattle.std.proofs.Common.{◌≡◌, ◌∙◌, ◌++◌, ◌+◌, ◌-◌, ◌<◌, ◌≤◌, ℕ, zero, suc, Bool, true, false, cond, eqb, List, [], ◌∷◌, Some, None, length, get_or, position, slice_get, slice_set, refl, sym, ap, arith, zero-add}
-use Rattle.std.specs.Prelude.{nat_lt}
+use Rattle.std.proofs.Common.{◌≡◌, ◌∙◌, ◌++◌, ◌+◌, ◌-◌, ◌<◌, ◌≤◌, ℕ, zero, suc, Bool, true, false, eqb, List, [], ◌∷◌, Some, None, length, get_or, position, slice_get, slice_set, refl, sym, ap, arith, zero-add}
 use Rattle.std.specs.List.{enumerate_from}
-use Rattle.std.proofs.lemmas.Bool.{ne_eqb, le-ltb, lt-ltb}
+use Rattle.std.proofs.lemmas.Bool.{ne_eqb}
 use Rattle.std.proofs.lemmas.List.{length-reverse, get_or-reverse, same_lists, get_or-set_same, get_or-set_other, length-set}
 use Rattle.std.proofs.lemmas.List.FromFn.{length-enumerate_from, get_or-enumerate_from}
 use Rattle.std.proofs.lemmas.List.Sums.{position_or_len_is}
@@ -29,15 +28,10 @@ place-other n back t k h l o = ne_eqb t (turned n back k) (λ e. o (sym (place-b
 
 -- the first place that passes
 position-at : {X : Type 0} (p : X → Bool) (xs : List X) (i : ℕ) (d : X) → i < length xs → ((k : ℕ) → k < i → p (get_or xs k d) ≡ false) → p (get_or xs i d) ≡ true → position p xs ≡ Some i
-position-at p xs i d h below here =
-    ap (λ m. cond (nat_lt m (length xs)) (Some m) None) (position_or_len_is p xs i d (omega arith) below (λ _. here))
-    ∙ ap (λ b. cond b (Some i) None) (lt-ltb i (length xs) h)
+position-at p xs i d h below here = let e = position_or_len_is p xs i d (omega arith) below (λ _. here) in grind arith
 
 position-none : {X : Type 0} (p : X → Bool) (xs : List X) (d : X) → ((k : ℕ) → k < length xs → p (get_or xs k d) ≡ false) → position p xs ≡ None
-position-none p xs d none =
-    let n = length xs in
-    ap (λ m. cond (nat_lt m n) (Some m) None) (position_or_len_is p xs n d (omega arith) none (λ l. absurd (omega (arith, l))))
-    ∙ ap (λ b. cond b (Some n) None) (le-ltb n n (omega arith))
+position-none p xs d none = let e = position_or_len_is p xs (length xs) d (omega arith) none (λ l. absurd (omega (arith, l))) in grind arith
 
 module _ {T : Type 0} where
   pub length-tagged : (xs : List T) (back : Bool) → length (tagged xs back) ≡ length xs
@@ -96,26 +90,23 @@ module _ {T : Type 0} where
   tag-tagged : (xs : List T) (back : Bool) (i : ℕ) (y : T) → i < length xs → tag_at (tagged xs back) i ≡ turned (length xs) back i
   tag-tagged xs back i y h = tag_is (tagged xs back) i (0, y) (omega (arith, h, length-tagged xs back)) ∙ ap (λ (q : ℕ × T). q.0) (at-tagged xs back i (0, y) h)
 
+  at-set : (xs : List T) (back : Bool) (p k : ℕ) (y : T) (d : ℕ × T) → k < length xs → get_or (tagged (slice_set xs p y) back) k d ≡ (turned (length xs) back k, get_or (slice_set xs p y) (turned (length xs) back k) d.1)
+  at-set xs back p k y d l =
+      let e = length-set xs p y in
+      at-tagged (slice_set xs p y) back k d (omega (arith, l, e)) ∙ ap {B = ℕ × T} (λ m. (turned m back k, get_or (slice_set xs p y) (turned m back k) d.1)) e
+
   set-at : (xs : List T) (back : Bool) (i : ℕ) (y : T) → i < length xs → (k : ℕ) (d : ℕ × T) → k < length xs
       → get_or (tagged (slice_set xs (turned (length xs) back i) y) back) k d ≡ get_or (slice_set (tagged xs back) i (tag_at (tagged xs back) i, y)) k d
   set-at xs back i y h k d l =
-      let n = length xs in
+      let p = turned (length xs) back i in
       let all = tagged xs back in
-      let item : ℕ × T = (tag_at all i, y) in
-      let there : get_or (tagged (slice_set xs (turned n back i) y) back) k d ≡ (turned n back k, get_or (slice_set xs (turned n back i) y) (turned n back k) d.1) =
-      at-tagged (slice_set xs (turned n back i) y) back k d (omega (arith, l, length-set xs (turned n back i) y))
-      ∙ ap {B = ℕ × T} (λ m. (turned m back k, get_or (slice_set xs (turned n back i) y) (turned m back k) d.1)) (length-set xs (turned n back i) y) in
       split_on (eqb i k)
-      (λ e. let same : i ≡ k = nat_test.one i k e in
-      there ∙ ap {B = ℕ × T} (λ m. (turned n back m, get_or (slice_set xs (turned n back i) y) (turned n back m) d.1)) (sym same)
-      ∙ ap {B = ℕ × T} (λ x. (turned n back i, x)) (get_or-set_same xs (turned n back i) y d.1 (place-within n back i h))
-      ∙ ap {B = ℕ × T} (λ m. (m, y)) (sym (tag-tagged xs back i y h))
-      ∙ sym (get_or-set_same all i item d (omega (arith, h, length-tagged xs back)))
-      ∙ ap (λ m. get_or (slice_set all i item) m d) same)
+      (λ e. rw (← nat_test.one i k e) (at-set xs back p i y d h
+      ∙ rw (get_or-set_same xs p y d.1 (place-within (length xs) back i h), get_or-set_same all i (tag_at all i, y) d (omega (arith, h, length-tagged xs back)), tag-tagged xs back i y h) refl))
       (λ e. let other : k ≡ i → ⊥ = λ q. absurd (let r = sym (nat_test.itself k) ∙ ap (λ m. eqb m k) q ∙ e in cc) in
-      there
-      ∙ ap {B = ℕ × T} (λ x. (turned n back k, x)) (get_or-set_other xs (turned n back i) (turned n back k) y d.1 (λ q. other (sym (place-back n back k l) ∙ ap (turned n back) q ∙ place-back n back i h)))
-      ∙ sym (at-tagged xs back k d l) ∙ sym (get_or-set_other all i k item d other))
+      at-set xs back p k y d l
+      ∙ ap {B = ℕ × T} (λ x. (turned (length xs) back k, x)) (get_or-set_other xs p (turned (length xs) back k) y d.1 (λ q. other (sym (place-back (length xs) back k l) ∙ ap (turned (length xs) back) q ∙ place-back (length xs) back i h)))
+      ∙ sym (at-tagged xs back k d l) ∙ sym (get_or-set_other all i k (tag_at all i, y) d other))
 
   set-tagged : (xs : List T) (back : Bool) (i : ℕ) (y : T) → i < length xs → tagged (slice_set xs (turned (length xs) back i) y) back ≡ item_set (tagged xs back) i y
   set-tagged xs back i y h =

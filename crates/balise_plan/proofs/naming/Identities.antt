@@ -1,6 +1,6 @@
 -- The identity that the element at a place names, and what edits of fields make of it.
 use Rattle.std.proofs.Common.{◌≡◌, ℕ, Bool, true, false, ◌&&◌, [], ◌∷◌, Option, Some, None, refl, sym, ap, subst, ◌∙◌}
-use Rattle.std.specs.Prelude.{option_and_then}
+use Rattle.std.specs.Prelude.{option_and_then, unwrap_or}
 use Rattle.std.specs.Option.{option_map}
 use Rattle.std.proofs.lemmas.Bool.{true≢false}
 use Rattle.balise_rules.specs.declared.tag.Tag.{Tag}
@@ -50,6 +50,15 @@ in-telegram w q (Some y) = in-packet (country_of y) w.element q (find same_tag w
 pub named-is : (q : Id) (w : LinkPlace) (plan : Plan) → named_at q w plan ≡ (is_real q && is_the q (id_at w plan))
 named-is q w plan = ap (λ b. is_real q && b) (in-telegram w q (telegram_at w.group w.telegram plan))
 
+pub the-one : (q : Id) (o : Option Id) → is_the q o ≡ true → o ≡ Some q
+the-one q None e = absurd cc
+the-one q (Some j) e = ap Some (id_test.one j q e)
+
+-- what an identity says of its number and its country
+pub id-parts : (c : ℕ) (i : Id) (o : Option ℕ) → option_map (λ (v : ℕ). let j : Id = record { country = c; number = v } in j) o ≡ Some i → (o ≡ Some i.number) × (c ≡ i.country)
+id-parts c i None e = absurd cc
+id-parts c i (Some v) e = (ap (λ (j : Id). Some j.number) (unsome e), ap (λ (j : Id). j.country) (unsome e))
+
 -- ---- countries stay
 
 pub country-each : (h : Key → ℕ → ℕ) → ((key : Key) (v : ℕ) → is_of NidC key ≡ true → h key v ≡ v) → (c k : ℕ) (fs : Fields) → country_at c k (each h fs) ≡ country_at c k fs
@@ -60,11 +69,11 @@ country-each h s c k (y ∷ ys) =
     (λ e. split_on (same_key (NidBg, k) y.0) (λ d. simp (e, d)) (λ d. simp (e, d) (country-each h s c k ys)))
 
 value-each : (h : Key → ℕ → ℕ) → ((v : ℕ) → h (NidC, 0) v ≡ v) → (fs : Fields) → value NidC 0 (each h fs) ≡ value NidC 0 fs
-value-each h s fs = by (find same_key (NidC, 0) fs) refl
+value-each h s fs = ap (λ o. unwrap_or o 0) (find-each key_test h (NidC, 0) fs) ∙ by (find same_key (NidC, 0) fs)
   where
-    by : (o : Option ℕ) → find same_key (NidC, 0) fs ≡ o → value NidC 0 (each h fs) ≡ value NidC 0 fs
-    by None e = let a : find same_key (NidC, 0) (each h fs) ≡ None = find-each key_test h (NidC, 0) fs ∙ ap (option_map (h (NidC, 0))) e in simp (a, e)
-    by (Some v) e = let a : find same_key (NidC, 0) (each h fs) ≡ Some (h (NidC, 0) v) = find-each key_test h (NidC, 0) fs ∙ ap (option_map (h (NidC, 0))) e in let b = s v in simp (a, e, b)
+    by : (o : Option ℕ) → unwrap_or (option_map (h (NidC, 0)) o) 0 ≡ unwrap_or o 0
+    by None = refl
+    by (Some v) = s v
 
 -- ---- an edit of fields
 
@@ -72,14 +81,11 @@ value-each h s fs = by (find same_key (NidC, 0) fs) refl
 link-after : (h : Key → ℕ → ℕ) (r : Id → Id) (c k : ℕ) (x : Packet) → ((key : Key) (v : ℕ) → is_of NidC key ≡ true → h key v ≡ v)
     → ((v : ℕ) → record { country = country_at c k x.fields; number = h (NidBg, k) v } ≡ r (record { country = country_at c k x.fields; number = v }))
     → id_in_packet c k (record { fields = each h x.fields; rest = x.rest }) ≡ option_map r (id_in_packet c k x)
-link-after h r c k x s e = by (field_of NidBg k x.fields) refl
+link-after h r c k x s e = rw (country-each h s c k x.fields, find-each key_test h (NidBg, k) x.fields) (by (field_of NidBg k x.fields))
   where
-    same : country_at c k (each h x.fields) ≡ country_at c k x.fields
-    same = country-each h s c k x.fields
-
-    by : (o : Option ℕ) → field_of NidBg k x.fields ≡ o → id_in_packet c k (record { fields = each h x.fields; rest = x.rest }) ≡ option_map r (id_in_packet c k x)
-    by None n = let a : field_of NidBg k (each h x.fields) ≡ None = find-each key_test h (NidBg, k) x.fields ∙ ap (option_map (h (NidBg, k))) n in simp (a, n)
-    by (Some v) n = let a : field_of NidBg k (each h x.fields) ≡ Some (h (NidBg, k) v) = find-each key_test h (NidBg, k) x.fields ∙ ap (option_map (h (NidBg, k))) n in let b = e v in simp (a, n, same) (ap Some b)
+    by : (o : Option ℕ) → option_map (λ v. record { country = country_at c k x.fields; number = v }) (option_map (h (NidBg, k)) o) ≡ option_map r (option_map (λ v. record { country = country_at c k x.fields; number = v }) o)
+    by None = refl
+    by (Some v) = ap Some (e v)
 
 -- what an edit of fields makes of the element at a place
 pub id-after : (w : LinkPlace) (r : Id → Id) (hh : Telegram → Key → ℕ → ℕ) (hf : Telegram → Tag → Packet → Key → ℕ → ℕ) (plan new : Plan) →
@@ -88,24 +94,18 @@ pub id-after : (w : LinkPlace) (r : Id → Id) (hh : Telegram → Key → ℕ �
     ((y : Telegram) (p : Tag) (x : Packet) (key : Key) (v : ℕ) → is_of NidC key ≡ true → hf y p x key v ≡ v) →
     ((y : Telegram) (p : Tag) (x : Packet) (k v : ℕ) → record { country = country_at (country_of y) k x.fields; number = hf y p x (NidBg, k) v } ≡ r (record { country = country_at (country_of y) k x.fields; number = v })) →
     id_at w new ≡ option_map r (id_at w plan)
-id-after w r hh hf plan new e sh sf link = by (telegram_at w.group w.telegram plan) refl
+id-after w r hh hf plan new e sh sf link = ap (option_and_then (id_in_telegram w)) e ∙ by (telegram_at w.group w.telegram plan)
   where
     after : Telegram → Telegram
     after y = record { head = each (hh y) y.head; packets = each (λ p x. record { fields = each (hf y p x) x.fields; rest = x.rest }) y.packets; padding = y.padding }
 
-    inner : (y : Telegram) (o : Option Packet) → find same_tag w.packet y.packets ≡ o → id_in_telegram w (after y) ≡ option_map r (id_in_telegram w y)
-    inner y None n = let a : find same_tag w.packet (after y).packets ≡ None = find-each tag_test _ w.packet y.packets ∙ ap (option_map _) n in simp (a, n)
-    inner y (Some x) n =
-        let a = find-each tag_test (λ p x. record { fields = each (hf y p x) x.fields; rest = x.rest }) w.packet y.packets ∙ ap (option_map _) n in
-        let c : country_of (after y) ≡ country_of y = value-each (hh y) (sh y) y.head in
-        ap (option_and_then (id_in_packet (country_of (after y)) w.element)) a
-        ∙ ap (λ d. id_in_packet d w.element (record { fields = each (hf y w.packet x) x.fields; rest = x.rest })) c
-        ∙ link-after (hf y w.packet x) r (country_of y) w.element x (sf y w.packet x) (link y w.packet x w.element)
-        ∙ ap (λ o. option_map r (option_and_then (id_in_packet (country_of y) w.element) o)) (sym n)
+    inner : (y : Telegram) (o : Option Packet) → option_and_then (id_in_packet (country_of y) w.element) (option_map (λ x. record { fields = each (hf y w.packet x) x.fields; rest = x.rest }) o) ≡ option_map r (option_and_then (id_in_packet (country_of y) w.element) o)
+    inner y None = refl
+    inner y (Some x) = link-after (hf y w.packet x) r (country_of y) w.element x (sf y w.packet x) (link y w.packet x w.element)
 
-    by : (o : Option Telegram) → telegram_at w.group w.telegram plan ≡ o → id_at w new ≡ option_map r (id_at w plan)
-    by None n = let a = e ∙ ap (option_map after) n in ap (option_and_then (id_in_telegram w)) a ∙ ap (λ o. option_map r (option_and_then (id_in_telegram w) o)) (sym n)
-    by (Some y) n = let a = e ∙ ap (option_map after) n in ap (option_and_then (id_in_telegram w)) a ∙ inner y (find same_tag w.packet y.packets) refl ∙ ap (λ o. option_map r (option_and_then (id_in_telegram w) o)) (sym n)
+    by : (o : Option Telegram) → option_and_then (id_in_telegram w) (option_map after o) ≡ option_map r (option_and_then (id_in_telegram w) o)
+    by None = refl
+    by (Some y) = rw (value-each (hh y) (sh y) y.head, find-each tag_test _ w.packet y.packets) (inner y (find same_tag w.packet y.packets))
 
 -- ---- the group of an identity
 

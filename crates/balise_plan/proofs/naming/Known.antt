@@ -1,27 +1,25 @@
 -- The index of names tells whether the plan names an identity.
-use Rattle.std.proofs.Common.{◌≡◌, ◌<◌, ℕ, true, false, ◌&&◌, List, [], ◌∷◌, length, Option, Some, None, refl, sym, ap, ◌∙◌, arith}
+use Rattle.std.proofs.Common.{◌≡◌, ◌<◌, true, false, ◌&&◌, List, [], ◌∷◌, length, Option, Some, None, refl, sym, ap, ◌∙◌, arith}
 use Rattle.std.specs.Option.{IfSome, is_some}
 use Rattle.std.specs.BTreeSet as set
 use Rattle.std.proofs.lemmas.Bool.{true≢false, and_parts}
+use Rattle.std.proofs.lemmas.Option.{option_and_then_some}
 use Rattle.balise_rules.specs.declared.identity.Id.{Id}
 use Rattle.balise_rules.specs.declared.variable.Var.TheVariants.{NidBg}
 use Rattle.balise_rules.specs.Tagged.{find}
 use Rattle.balise_rules.specs.Tags.{same_tag}
-use Rattle.balise_rules.specs.Packet.{Packet, field_of}
-use Rattle.balise_rules.specs.Telegram.{Telegram}
+use Rattle.balise_rules.specs.Packet.{field_of}
 use Rattle.balise_rules.specs.Plan.{Plan, IsSound, country_of, telegram_at}
 use Rattle.balise_rules.specs.Names.{Names, is_named, is_real, is_it, calls, country_at}
 use Rattle.balise_rules.proofs.Tests.{split_on, id_test}
 use Rattle.balise_edit_laws.proofs.Naming.{no_name_from, no_name_to}
 use Rattle.balise_index.specs.declared.link_place.LinkPlace.{LinkPlace}
 use Rattle.balise_index.specs.NameIndex.{held, in_links, indexed, AreFull, IndexOf}
-use Rattle.balise_index.specs.Places.{compare_place, is_place}
+use Rattle.balise_index.specs.Places.{compare_place}
 use Rattle.balise_plan.specs.Links.{named_at, named_in_telegram, named_in_packet}
 use Rattle.balise_plan.proofs.naming.Walking.{place}
 use Rattle.balise_index.proofs.places.Equal.{places}
-
-place_itself : (w : LinkPlace) → is_place w w ≡ true
-place_itself w = places.refl w
+use Rattle.balise_plan.proofs.naming.Identities.{is_the, id_at, named-is, id_in_telegram, id_in_packet, the-one, id-parts}
 
 -- a name is a place that names
 pub named-place : (i : Id) (plan : Plan) (w : LinkPlace) → Names i w.group w.telegram w.packet w.element plan → named_at i w plan ≡ true
@@ -31,21 +29,12 @@ named-place i plan w n =
 
 -- and the other way round
 pub place-names : (i : Id) (plan : Plan) (w : LinkPlace) → named_at i w plan ≡ true → Names i w.group w.telegram w.packet w.element plan
-place-names i plan w e = let h = and_parts (is_real i) _ e in in-telegram h.0 (telegram_at w.group w.telegram plan) refl h.1
-  where
-    in-packet : is_real i ≡ true → (y : Telegram) → telegram_at w.group w.telegram plan ≡ Some y → (x : Packet) → find same_tag w.packet y.packets ≡ Some x → (o : Option ℕ) → field_of NidBg w.element x.fields ≡ o → is_it (country_at (country_of y) w.element x.fields) i o ≡ true → Names i w.group w.telegram w.packet w.element plan
-    in-packet r y s x h None f c = absurd (true≢false (sym c))
-    in-packet r y s x h (Some v) f c =
-        let q = id_test.one (record { country = country_at (country_of y) w.element x.fields; number = v }) i c in
-        record { telegram = y; stands = s; packet = x; has_packet = h; number = f ∙ ap (λ (j : Id). Some j.number) q; country = ap (λ (j : Id). j.country) q; real = r }
-
-    in-packets : is_real i ≡ true → (y : Telegram) → telegram_at w.group w.telegram plan ≡ Some y → (o : Option Packet) → find same_tag w.packet y.packets ≡ o → named_in_packet (country_of y) i w.element o ≡ true → Names i w.group w.telegram w.packet w.element plan
-    in-packets r y s None h c = absurd (true≢false (sym c))
-    in-packets r y s (Some x) h c = in-packet r y s x h (field_of NidBg w.element x.fields) refl c
-
-    in-telegram : is_real i ≡ true → (o : Option Telegram) → telegram_at w.group w.telegram plan ≡ o → named_in_telegram i w o ≡ true → Names i w.group w.telegram w.packet w.element plan
-    in-telegram r None s c = absurd (true≢false (sym c))
-    in-telegram r (Some y) s c = in-packets r y s (find same_tag w.packet y.packets) refl c
+place-names i plan w e =
+    let h = and_parts (is_real i) (is_the i (id_at w plan)) (sym (named-is i w plan) ∙ e) in
+    option_and_then_some (id_in_telegram w) (telegram_at w.group w.telegram plan) i (the-one i (id_at w plan) h.1) (λ y s f.
+    option_and_then_some (id_in_packet (country_of y) w.element) (find same_tag w.packet y.packets) i f (λ x p g.
+    let n = id-parts (country_at (country_of y) w.element x.fields) i (field_of NidBg w.element x.fields) g in
+    record { telegram = y; stands = s; packet = x; has_packet = p; number = n.0; country = n.1; real = h.0 }))
 
 module _ (names : IndexOf (set.BTreeSet LinkPlace)) (plan : Plan) (sound : IsSound plan) (index : (q : Id) (w : LinkPlace) → held names q w ≡ named_at q w plan) where
   pub untold : (i : Id) → indexed names i ≡ None → is_named i plan ≡ false
@@ -57,7 +46,7 @@ module _ (names : IndexOf (set.BTreeSet LinkPlace)) (plan : Plan) (sound : IsSou
       some : (s : set.BTreeSet LinkPlace) → indexed names i ≡ Some s → (ks : List LinkPlace) → s.keys ≡ ks → 0 < length ks → is_named i plan ≡ true
       some s h [] k l = absurd (omega (arith, l))
       some s h (w ∷ ws) k l =
-          let c : set.contains compare_place s w ≡ true = ap (λ zs. set.contains compare_place (record { keys = zs }) w) k ∙ (let p = place_itself w in simp p) in
+          let c : set.contains compare_place s w ≡ true = ap (λ zs. set.contains compare_place (record { keys = zs }) w) k ∙ (let p = places.refl w in simp p) in
           let n : named_at i w plan ≡ true = sym (index i w) ∙ ap (λ o. in_links o w) h ∙ c in
           split_on (is_named i plan) (λ y. y) (λ y. absurd (no_name_from i plan y w.group w.telegram w.packet w.element (place-names i plan w n)))
 

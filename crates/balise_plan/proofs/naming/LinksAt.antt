@@ -21,8 +21,7 @@ use Rattle.balise_plan.proofs.naming.Identities.{id_in_packet}
 
 links-from : (c : ℕ) (fs : Fields) (seen from : Fields) → NumberedFrom seen from → (j i : ℕ) → i ≡ count_of NidBg seen + j →
     slice_get (links_among c fs from) j ≡ option_map (λ v. record { country = country_at c i fs; number = v }) (find same_key (NidBg, i) from)
-links-from c fs seen [] u zero i e = refl
-links-from c fs seen [] u (suc j) i e = refl
+links-from c fs seen [] u j i e = refl
 links-from c fs seen (f ∷ from) u zero i e =
     split_on (is_of NidBg f.0)
     (λ o.

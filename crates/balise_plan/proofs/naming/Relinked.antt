@@ -2,6 +2,7 @@
 use Rattle.std.proofs.Common.{◌≡◌, ℕ, Bool, true, false, not, cond, ◌&&◌, Some, refl, sym, ap, ◌∙◌}
 use Rattle.std.specs.Prelude.{option_and_then}
 use Rattle.std.specs.BTreeSet as set
+use Rattle.std.proofs.Math.Bool.{and-false, and-true}
 use Rattle.std.proofs.lemmas.Bool.{true≢false}
 use Rattle.balise_rules.specs.declared.tag.Tag.{Tag}
 use Rattle.balise_rules.specs.declared.identity.Id.{Id}
@@ -47,19 +48,8 @@ swapped false false false false r h i j = refl
 
 -- with the test of the place
 elsewhere : (a b s c d : Bool) (o : Bool) → cond (a && (b && false)) false (cond (s && (c && false)) true o) ≡ o
-elsewhere true true true true d o = refl
-elsewhere true true true false d o = refl
-elsewhere true true false c d o = refl
-elsewhere true false true true d o = refl
-elsewhere true false true false d o = refl
-elsewhere true false false c d o = refl
-elsewhere false b true true d o = refl
-elsewhere false b true false d o = refl
-elsewhere false b false c d o = refl
-
-right : (b : Bool) → (b && true) ≡ b
-right true = refl
-right false = refl
+elsewhere a b true c d o = simp and-false
+elsewhere a b false c d o = simp and-false
 
 module _ (g : Tag) (t : ℕ) (p : Tag) (k : ℕ) (plan : Plan) (sound : IsSound plan) (y : Telegram) (stands : telegram_at g t plan ≡ Some y) (names : IndexOf (set.BTreeSet LinkPlace)) (index : (q : Id) (w : LinkPlace) → held names q w ≡ named_at q w plan) (from : Id) (link : Linking p k y from) where
   here : (r : Id) → held names r (place g t p k) ≡ (is_real r && same_id from r)
@@ -78,8 +68,8 @@ module _ (g : Tag) (t : ℕ) (p : Tag) (k : ℕ) (plan : Plan) (sound : IsSound 
       where
         by : (b : Bool) → is_place (place g t p k) v ≡ b → cond (a && (is_id i r && b)) false (cond (c && (is_id j r && b)) true (held names r v)) ≡ cond b x z
         by true e =
-            ap (λ b. cond (a && b) false (cond (c && (is_id j r && true)) true (held names r v))) (right (is_id i r))
-            ∙ ap (λ b. cond (a && is_id i r) false (cond (c && b) true (held names r v))) (right (is_id j r))
+            ap (λ b. cond (a && b) false (cond (c && (is_id j r && true)) true (held names r v))) (and-true (is_id i r))
+            ∙ ap (λ b. cond (a && is_id i r) false (cond (c && b) true (held names r v))) (and-true (is_id j r))
             ∙ ap (λ b. cond (a && is_id i r) false (cond (c && is_id j r) true b)) (ap (held names r) (sym (place_one (place g t p k) v e)) ∙ here r)
             ∙ m e
         by false e = elsewhere a (is_id i r) c (is_id j r) false (held names r v) ∙ n e

@@ -1,22 +1,21 @@
 -- Changes of elements at places, one after another, as one change of each field.
-use Rattle.std.proofs.Common.{◌≡◌, ◌-◌, ℕ, Bool, true, false, cond, eqb, ◌&&◌, ◌||◌, List, [], ◌∷◌, Option, Some, None, refl, sym, ap, subst, ◌∙◌}
-use Rattle.std.specs.Option.{option_map}
-use Rattle.std.proofs.lemmas.Bool.{true≢false}
+use Rattle.std.proofs.Common.{◌≡◌, ◌-◌, ℕ, Bool, true, false, cond, eqb, ◌&&◌, ◌||◌, List, [], ◌∷◌, Some, refl, sym, ap, subst, ◌∙◌, arith}
 use Rattle.balise_rules.specs.declared.tag.Tag.{Tag}
 use Rattle.balise_rules.specs.declared.variable.Var.{Var}
 use Rattle.balise_rules.specs.declared.variable.Var.TheVariants.{NidBg, QLinkorientation}
 use Rattle.balise_rules.specs.Tagged.{find, each, Distinct}
-use Rattle.balise_rules.specs.Tags.{Key, is_of, same_tag, same_var, same_key}
+use Rattle.balise_rules.specs.Tags.{Key, is_of, same_tag, same_key, same_var}
 use Rattle.balise_index.specs.Places.{is_place, among, Once}
 use Rattle.balise_index.proofs.places.Equal.{place_one, place_is}
 use Rattle.balise_rules.specs.Forms.{Fields}
 use Rattle.balise_rules.specs.Packet.{Packet, value, field_of}
 use Rattle.balise_rules.specs.Telegram.{Telegram}
 use Rattle.balise_rules.specs.Plan.{Group, Plan}
-use Rattle.balise_rules.proofs.Tests.{IsTest, split_on, flip_yes, flip_no, tag_test, nat_test, key_test}
+use Rattle.balise_rules.proofs.Tests.{IsTest, split_on, tag_test, nat_test, key_test, test-sym}
 use Rattle.balise_rules.proofs.Distincts.{distinct-each}
 use Rattle.balise_rules.proofs.Lists.{find-each}
-use Rattle.balise_rules.proofs.Cases.{unsome}
+use Rattle.balise_rules.proofs.Cases.{some_is}
+use Rattle.balise_rules.proofs.Each.{found_later, each-id}
 use Rattle.balise_index.specs.declared.link_place.LinkPlace.{LinkPlace}
 use Rattle.balise_plan.specs.declared.links.change.Change.{Change}
 use Rattle.balise_plan.specs.declared.links.change.Change.TheVariants.{Name, Flip}
@@ -26,10 +25,6 @@ pub distinct-change : (c : Change) (w : LinkPlace) (plan : Plan) → Distinct sa
 distinct-change c w plan u = distinct-each tag_test _ plan u
 
 -- ---- lists
-
-pub each-id : {K A : Type 0} (xs : List (K × A)) → each (λ k a. a) xs ≡ xs
-each-id [] = refl
-each-id (y ∷ ys) = ap (λ l. y ∷ l) (each-id ys)
 
 pub each-each : {K A : Type 0} (f g : K → A → A) (xs : List (K × A)) → each f (each g xs) ≡ each (λ k a. f k (g k a)) xs
 each-each f g [] = refl
@@ -45,13 +40,7 @@ each-found t f g [] u h = refl
 each-found {K} {A} {same = same} t f g (y ∷ ys) u h =
     let i = t.itself y.0 in
     ap (λ a. (y.0, a) ∷ each f ys) (h y.0 y.1 (simp i))
-    ∙ ap (λ l. (y.0, g y.0 y.1) ∷ l) (each-found t f g ys u.1 (λ k a e. h k a (later k a e)))
-  where
-    later : (k : K) (a : A) → find same k ys ≡ Some a → find same k (y ∷ ys) ≡ Some a
-    later k a e =
-        split_on (same k y.0)
-        (λ d. absurd (let n : find same k ys ≡ None = ap (λ r. find same r ys) (t.one k y.0 d) ∙ u.0 in let z : Some a ≡ None = sym e ∙ n in cc))
-        (λ d. simp d e)
+    ∙ ap (λ l. (y.0, g y.0 y.1) ∷ l) (each-found t f g ys u.1 (λ k a e. h k a (found_later t y ys u.0 k a e)))
 
 pub cond-each : {K A : Type 0} (b : Bool) (f : K → A → A) (xs : List (K × A)) → cond b (each f xs) xs ≡ each (λ k a. cond b (f k a) a) xs
 cond-each true f xs = refl
@@ -141,14 +130,15 @@ cond-packet : (b : Bool) (h : Key → ℕ → ℕ) (x : Packet) → cond b (pack
 cond-packet true h x = refl
 cond-packet false h x = ap (λ (fs : Fields). record { fields = fs; rest = x.rest }) (sym (each-id x.fields))
 
-cond-telegram : (b : Bool) (h : Tag → Packet → Packet) (y : Telegram) → cond b (parts y.head y.padding (each h y.packets)) y ≡ parts y.head y.padding (each (λ p x. cond b (h p x) x) y.packets)
+pub cond-telegram : (b : Bool) (h : Tag → Packet → Packet) (y : Telegram) → cond b (parts y.head y.padding (each h y.packets)) y ≡ parts y.head y.padding (each (λ p x. cond b (h p x) x) y.packets)
 cond-telegram true h y = refl
 cond-telegram false h y = ap (parts y.head y.padding) (sym (each-id y.packets))
 
+pub and-cond : {A : Type 0} (a b : Bool) (x y : A) → cond a (cond b x y) y ≡ cond (a && b) x y
+and-cond a b x y = grind arith
+
 three : {A : Type 0} (a b c : Bool) (x y : A) → cond a (cond b (cond c x y) y) y ≡ cond (a && (b && c)) x y
-three true true c x y = refl
-three true false c x y = refl
-three false b c x y = refl
+three a b c x y = grind arith
 
 pub change-fields : (c : Change) (w : LinkPlace) (plan : Plan) → Keyed plan → change_at c w plan ≡ all_fields (once c w) plan
 change-fields c w plan u =
@@ -162,11 +152,7 @@ change-fields c w plan u =
 -- ---- keys stay
 
 pub found-each : {K A P : Type 0} {same : K → K → Bool} → IsTest same → (f : K → A → A) (k : K) (y : A) (xs : List (K × A)) → find same k (each f xs) ≡ Some y → ((x : A) → find same k xs ≡ Some x → y ≡ f k x → P) → P
-found-each {K} {A} {P} {same = same} t f k y xs e g = by (find same k xs) refl
-  where
-    by : (o : Option A) → find same k xs ≡ o → P
-    by None n = absurd (let z : Some y ≡ None = sym e ∙ find-each t f k xs ∙ ap (option_map (f k)) n in cc)
-    by (Some x) n = g x n (let z : Some y ≡ Some (f k x) = sym e ∙ find-each t f k xs ∙ ap (option_map (f k)) n in unsome z)
+found-each {same = same} t f k y xs e g = some_is (find same k xs) (f k) y (sym (find-each t f k xs) ∙ e) g
 
 pub keyed-all : (h : Hit) (plan : Plan) → Keyed plan → Keyed (all_fields h plan)
 keyed-all h plan u = record {
@@ -196,53 +182,27 @@ abbrev pub among_after : Change → List LinkPlace → Hit
 among_after (Name n) ws g t p key v = cond (is_of NidBg key && among (place g t p key.1) ws) n v
 among_after Flip ws g t p key v = cond (is_of QLinkorientation key && among (place g t p key.1) ws) (1 - v) v
 
-swapped : {K : Type 0} {same : K → K → Bool} → IsTest same → (a b : K) → same a b ≡ same b a
-swapped {same = same} t a b = split_on (same a b) (λ e. e ∙ sym (flip_yes t a b e)) (λ e. e ∙ sym (flip_no t a b e))
-
-shuffle : (a b c d e : Bool) → ((a && (b && c)) && (d && e)) ≡ (d && (a && (b && (c && e))))
-shuffle true true true true e = refl
-shuffle true true true false e = refl
-shuffle true true false true e = refl
-shuffle true true false false e = refl
-shuffle true false c true e = refl
-shuffle true false c false e = refl
-shuffle false b c true e = refl
-shuffle false b c false e = refl
+joined : (a b c d e : Bool) {f g h i place : Bool} → a ≡ f → b ≡ g → c ≡ h → e ≡ i → place ≡ (f && (g && (h && i))) → ((a && (b && c)) && (d && e)) ≡ (d && place)
+joined a b c d e p q r s t = grind arith
 
 here_is : (g : Tag) (t : ℕ) (p : Tag) (var : Var) (key : Key) (w : LinkPlace) → (in_packet w g t p && same_key (var, w.element) key) ≡ (is_of var key && is_place (place g t p key.1) w)
 here_is g t p var key w =
-    shuffle (same_tag w.group g) (eqb w.telegram t) (same_tag w.packet p) (same_var var key.0) (eqb w.element key.1)
-    ∙ ap (λ a. same_var var key.0 && (a && (eqb w.telegram t && (same_tag w.packet p && eqb w.element key.1)))) (swapped tag_test w.group g)
-    ∙ ap (λ a. same_var var key.0 && (same_tag g w.group && (a && (same_tag w.packet p && eqb w.element key.1)))) (swapped nat_test w.telegram t)
-    ∙ ap (λ a. same_var var key.0 && (same_tag g w.group && (eqb t w.telegram && (a && eqb w.element key.1)))) (swapped tag_test w.packet p)
-    ∙ ap (λ a. same_var var key.0 && (same_tag g w.group && (eqb t w.telegram && (same_tag p w.packet && a)))) (swapped nat_test w.element key.1)
-    ∙ ap (λ a. same_var var key.0 && a) (sym (place_is (place g t p key.1) w))
-
-two : (a b : Bool) (n v : ℕ) → cond a (cond b n v) v ≡ cond (a && b) n v
-two true b n v = refl
-two false b n v = refl
+    joined _ _ _ (same_var var key.0) _ (test-sym tag_test w.group g) (test-sym nat_test w.telegram t) (test-sym tag_test w.packet p) (test-sym nat_test w.element key.1) (place_is (place g t p key.1) w)
 
 once_name : (n : ℕ) (w : LinkPlace) (g : Tag) (t : ℕ) (p : Tag) (key : Key) (v : ℕ) → once (Name n) w g t p key v ≡ cond (is_of NidBg key && is_place (place g t p key.1) w) n v
-once_name n w g t p key v = two (in_packet w g t p) (same_key (NidBg, w.element) key) n v ∙ ap (λ b. cond b n v) (here_is g t p NidBg key w)
+once_name n w g t p key v = and-cond (in_packet w g t p) (same_key (NidBg, w.element) key) n v ∙ ap (λ b. cond b n v) (here_is g t p NidBg key w)
 
 once_flip : (w : LinkPlace) (g : Tag) (t : ℕ) (p : Tag) (key : Key) (v : ℕ) → once Flip w g t p key v ≡ cond (is_of QLinkorientation key && is_place (place g t p key.1) w) (1 - v) v
-once_flip w g t p key v = two (in_packet w g t p) (same_key (QLinkorientation, w.element) key) (1 - v) v ∙ ap (λ b. cond b (1 - v) v) (here_is g t p QLinkorientation key w)
+once_flip w g t p key v = and-cond (in_packet w g t p) (same_key (QLinkorientation, w.element) key) (1 - v) v ∙ ap (λ b. cond b (1 - v) v) (here_is g t p QLinkorientation key w)
 
 either_name : (a b c : Bool) (n v : ℕ) → cond (a && c) n (cond (a && b) n v) ≡ cond (a && (b || c)) n v
-either_name true true true n v = refl
-either_name true true false n v = refl
-either_name true false c n v = refl
-either_name false b c n v = refl
+either_name a b c n v = grind arith
 
 either_flip : (a b c : Bool) (v : ℕ) → (b ≡ true → c ≡ false) → cond (a && c) (1 - cond (a && b) (1 - v) v) (cond (a && b) (1 - v) v) ≡ cond (a && (b || c)) (1 - v) v
-either_flip true true true v h = absurd (true≢false (h refl))
-either_flip true true false v h = refl
-either_flip true false c v h = refl
-either_flip false b c v h = refl
+either_flip a b c v h = grind arith
 
 none : (a : Bool) (n v : ℕ) → v ≡ cond (a && false) n v
-none true n v = refl
-none false n v = refl
+none a n v = grind arith
 
 pub all-name : (n : ℕ) (ws : List LinkPlace) (g : Tag) (t : ℕ) (p : Tag) (key : Key) (v : ℕ) → all_once (Name n) ws g t p key v ≡ among_after (Name n) ws g t p key v
 all-name n [] g t p key v = none (is_of NidBg key) n v

@@ -9,15 +9,14 @@ use Rattle.balise_plan.specs.GroupReading.{PushesGroup}
 use Rattle.balise_index.specs.declared.link_place.LinkPlace.{LinkPlace}
 use Rattle.balise_plan.specs.Held.{IsKept, IsBased, IsHeld}
 use Rattle.balise_plan.specs.Spots.{Pushes}
-use Rattle.balise_plan.proofs.items.KeyPlaces.{end-place}
 use Rattle.balise_index.specs.NameIndex.{IndexOf}
 use Rattle.std.proofs.lemmas.Bool.{ne_eqb}
+use Rattle.std.proofs.lemmas.List.Edits.{insert_end}
 use Rattle.balise_rules.specs.Tagged.{find}
 use Rattle.balise_rules.specs.Tags.{same_tag}
 use Rattle.std.specs.BTreeSet as set
 use Rattle.balise_plan.specs.Held as held
 
--- a change is counted
 -- where the tags of the groups are the same
 pub with_tags : {ids new : IndexOf Tag} {names : IndexOf (set.BTreeSet LinkPlace)} {groups : Plan} → new ≡ ids → IsHeld ids names groups → IsHeld new names groups
 with_tags {names = names} {groups = groups} e h = subst (λ t. IsHeld t names groups) (sym e) h
@@ -55,7 +54,7 @@ based-more n m (y ∷ rest) ys b e = (b.0, based-more (suc n) m rest ys b.1 (ome
 pub kept-more : {ids left : IndexOf Tag} {names after : IndexOf (set.BTreeSet LinkPlace)} {plan groups : Plan} {changes : ℕ} → IsKept ids names plan changes → (ys : Group) (n : ℕ) → n ≡ length plan → groups ≡ insert plan n (Base n, ys) → IsHeld left after groups → IsKept left after groups changes
 kept-more {plan = plan} {groups = groups} k ys n q e h = record {
   held = h;
-  based = λ z. subst (IsBased 0) (sym (e ∙ ap (λ m. insert plan m (Base n, ys)) q ∙ end-place (Base n, ys) plan)) (let at : 0 + length plan ≡ n = omega (arith, q) in based-more 0 n plan ys (k.based z) at);
+  based = λ z. subst (IsBased 0) (sym (e ∙ ap (λ m. insert plan m (Base n, ys)) q ∙ insert_end plan (Base n, ys))) (let at : 0 + length plan ≡ n = omega (arith, q) in based-more 0 n plan ys (k.based z) at);
 }
 
 -- ---- all groups

@@ -1,10 +1,11 @@
 -- What renumbering a group makes of a plan and of its indexes.
-use Rattle.std.proofs.Common.{◌≡◌, ◌≢◌, ◌<◌, ◌≤◌, ℕ, Bool, true, false, cond, eqb, not, ◌&&◌, ◌||◌, [], ◌∷◌, Option, Some, None, refl, sym, ap, subst, ◌∙◌, arith}
+use Rattle.std.proofs.Common.{◌≡◌, ◌≢◌, ◌<◌, ◌≤◌, ℕ, Bool, true, false, cond, eqb, not, ◌&&◌, ◌||◌, [], ◌∷◌, Option, Some, None, refl, sym, ap, subst, ◌∙◌}
 use Rattle.std.specs.Prelude.{IsTrue, is_none, nat_lt}
 use Rattle.std.specs.Option.{option_map, is_some}
 use Rattle.std.specs.BTreeSet as set
-use Rattle.std.proofs.lemmas.Bool.{true≢false, ne_eqb, or_parts}
-use borrow.Author.Tests.{lt-ltb, ltb-true}
+use Rattle.std.proofs.Math.Bool.{and-false}
+use Rattle.std.proofs.lemmas.Bool.{true≢false, le-ltb, ne_eqb, or_parts}
+use borrow.Author.Tests.{lt-ltb}
 use Rattle.balise_rules.specs.declared.tag.Tag.{Tag}
 use Rattle.balise_rules.specs.declared.identity.Id.{Id}
 use Rattle.balise_rules.specs.declared.variable.Var.{Var}
@@ -26,6 +27,7 @@ use Rattle.balise_rules.specs.Edits.{effect, field_after, telegram_after, head_a
 use Rattle.balise_rules.specs.declared.tagged_edit.TaggedEdit.TheVariants.{Renumber}
 use Rattle.balise_rules.proofs.Tests.{split_on, split_keys, tag_test, nat_test, var_test, id_test, flip_no}
 use Rattle.balise_rules.proofs.Lists.{find-each}
+use Rattle.balise_rules.proofs.Accepted.{isnt}
 use Rattle.balise_rules.proofs.Cases.{unsome}
 use Rattle.balise_rules.proofs.Found.{group_sound}
 use Rattle.balise_edit_laws.proofs.Naming.{no_group_from, no_group_to, no_name_from}
@@ -61,10 +63,7 @@ telegram-each Y g t plan = by (find same_tag g plan) refl
 
 pub wide : (g : Tag) (n : ℕ) (plan : rules.Plan) (ys : Group) → find same_tag g plan ≡ Some ys → 16384 ≤ n → refusal (Renumber g n) plan ≡ Some ValueTooWide
 unfolding width_of
-wide g n plan ys e l = let f : nat_lt n 16384 ≡ false = not-less n 16384 l in simp (e, f)
-  where
-    not-less : (a b : ℕ) → b ≤ a → nat_lt a b ≡ false
-    not-less a b l = split_on (nat_lt a b) (λ t. absurd (let z = ltb-true a b t in omega (arith, z, l))) (λ f. f)
+wide g n plan ys e l = let f : nat_lt n 16384 ≡ false = le-ltb n 16384 l in simp (e, f)
 
 pub is_reserved : (g : Tag) (n : ℕ) (plan : rules.Plan) (ys : Group) → find same_tag g plan ≡ Some ys → n ≡ 16383 → refusal (Renumber g n) plan ≡ Some NumberReserved
 unfolding width_of
@@ -177,23 +176,9 @@ module _ (plan : rules.Plan) (sound : IsSound plan) (g0 : Tag) (ys0 : Group) (n 
           gone : (is_real to && is_the to (id_at w plan)) ≡ false
           gone = sym (named-is to w plan) ∙ sym (index to w) ∙ ap (λ o. in_links o w) empty
 
-          false-right : (b : Bool) → false ≡ (b && false)
-          false-right true = refl
-          false-right false = refl
-
-          false-left : (a b c : Bool) → cond a (b && false) (cond c false (a && false)) ≡ false
-          false-left true true c = refl
-          false-left true false c = refl
-          false-left false b true = refl
-          false-left false b false = refl
-
           either : (a b c d : Bool) → cond a (b && false) (cond c false (d && false)) ≡ (d && false)
-          either true true c true = refl
-          either true true c false = refl
-          either true false c true = refl
-          either true false c false = refl
-          either false b true true = refl
-          either false b true false = refl
+          either true b c d = simp and-false
+          either false b true d = simp and-false
           either false b false d = refl
 
           each-id : (o : Option Id) → (is_real to && is_the to o) ≡ false → cond (same_id to q) (is_real from && is_the from o) (cond (same_id from q) false (is_real q && is_the q o)) ≡ (is_real q && is_the q (option_map (λ j. cond (same_id j from) to j) o))
@@ -208,8 +193,8 @@ module _ (plan : rules.Plan) (sound : IsSound plan) (g0 : Tag) (ys0 : Group) (n 
               (λ d. let jq : same_id j q ≡ false = ap (same_id j) (sym k) ∙ nz in simp (a, d, r, rq, jq)))
               (λ a. split_keys id_test from q
               (λ b k. split_on (same_id j from)
-              (λ d. simp (a, b, d) (false-right (is_real q)))
-              (λ d. let jq : same_id j q ≡ false = ap (same_id j) (sym k) ∙ d in simp (a, b, d, jq) (false-right (is_real q))))
+              (λ d. simp (a, b, d) (sym (and-false (is_real q))))
+              (λ d. let jq : same_id j q ≡ false = ap (same_id j) (sym k) ∙ d in simp (a, b, d, jq) (sym (and-false (is_real q)))))
               (λ b. split_keys id_test j from
               (λ d k. let jq : same_id j q ≡ false = ap (λ u. same_id u q) k ∙ b in simp (a, b, d, jq))
               (λ d. simp (a, b, d))))
@@ -241,15 +226,11 @@ record Steps (plan : rules.Plan) (g0 : Tag) (n : ℕ) (own : Id) (ids first ids_
   pub links : walked_groups ≡ change_all (Name n) (places_of (indexed after (record { country = own.country; number = n }))) plan
   pub heads : groups ≡ renumbered_heads g0 n walked_groups
 
-none-of : {A : Type 0} (o : Option A) → is_some o ≡ false → o ≡ None
-none-of None e = refl
-none-of (Some x) e = absurd (true≢false e)
-
 -- what was put under a new identity and taken out again leaves all as it was
 pub there_and_back : (m mid n : IndexOf Tag) (to : Id) (g : Tag) → is_some (indexed m to) ≡ false → ((r : Id) → indexed mid r ≡ cond (is_id to r) (Some g) (indexed m r)) → ((r : Id) → indexed n r ≡ cond (is_id to r) None (indexed mid r)) → (r : Id) → indexed n r ≡ indexed m r
 there_and_back m mid n to g e put out r =
     split_on (is_id to r)
-    (λ d. out r ∙ ap (λ b. cond b None (indexed mid r)) d ∙ sym (ap (indexed m) (sym (id_one to r d)) ∙ none-of (indexed m to) e))
+    (λ d. out r ∙ ap (λ b. cond b None (indexed mid r)) d ∙ sym (ap (indexed m) (sym (id_one to r d)) ∙ isnt (indexed m to) e))
     (λ d. out r ∙ ap (λ b. cond b None (indexed mid r)) d ∙ put r ∙ ap (λ b. cond b (Some g) (indexed m r)) d)
 
 pub none-map : {A B : Type 0} (f : A → B) (o : Option A) → option_map f o ≡ None → o ≡ None
@@ -260,8 +241,8 @@ module _ (plan : rules.Plan) (sound : IsSound plan) (g0 : Tag) (ys0 : Group) (n 
   finished : Steps plan g0 n (identity_of ys0) ids first ids_after names after walked_groups groups → Outcome (Renumber g0 n) ids_after after plan groups
   finished s =
       let i : Id = record { country = (identity_of ys0).country; number = n } in
-      let empty = none-of (indexed names i) s.no_name in
-      let no_group : group_named i plan ≡ None = none-map (λ (y : Tag × Group). y.0) (group_named i plan) (sym (s.tags i) ∙ none-of (indexed ids i) s.no_id) in
+      let empty = isnt (indexed names i) s.no_name in
+      let no_group : group_named i plan ≡ None = none-map (λ (y : Tag × Group). y.0) (group_named i plan) (sym (s.tags i) ∙ isnt (indexed ids i) s.no_id) in
       let no_name : is_named i plan ≡ false = untold names plan sound s.index i empty in
       let e : groups ≡ effect (0, Renumber g0 n) (identity_of ys0) plan = s.heads ∙ ap (renumbered_heads g0 n) s.links ∙ walked plan sound g0 ys0 n here small other no_group no_name names s.index empty after s.moves in
       record {
@@ -293,7 +274,7 @@ module _ (plan : rules.Plan) (ids : IndexOf Tag) (names : IndexOf (set.BTreeSet 
   known_name full i =
       split_on (is_some (indexed names i))
       (λ e. e ∙ sym (told names plan held_is.sound held_is.named i full e))
-      (λ e. e ∙ sym (untold names plan held_is.sound held_is.named i (none-of (indexed names i) e)))
+      (λ e. e ∙ sym (untold names plan held_is.sound held_is.named i (isnt (indexed names i) e)))
 
   module _ (g0 : Tag) (ys0 : Group) (n : ℕ) (here : find same_tag g0 plan ≡ Some ys0) where
     abbrev known : Id → Bool
@@ -314,7 +295,7 @@ module _ (plan : rules.Plan) (ids : IndexOf Tag) (names : IndexOf (set.BTreeSet 
 
     -- nothing has the other identity, nor names it
     pub unnamed : (own : Id) → known own ≡ false → indexed names (record { country = own.country; number = n }) ≡ None
-    unnamed own k = none-of (indexed names (record { country = own.country; number = n })) (or_parts _ _ k).1
+    unnamed own k = isnt (indexed names (record { country = own.country; number = n })) (or_parts _ _ k).1
 
     pub moved_apart : (own : Id) → own ≡ identity_of ys0 → (is_some (indexed ids (record { country = own.country; number = n })) || is_some (indexed names (record { country = own.country; number = n }))) ≡ false → own ≢ (record { country = own.country; number = n })
     moved_apart own e k same =

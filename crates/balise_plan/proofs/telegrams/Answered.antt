@@ -1,12 +1,12 @@
 -- What a group's call on one telegram says of the plan.
-use Rattle.std.proofs.Common.{◌≡◌, ℕ, Bool, true, false, cond, eqb, ◌&&◌, Option, Some, None, Result, Ok, Err, refl, sym, ap, ◌∙◌}
+use Rattle.std.proofs.Common.{◌≡◌, ℕ, false, eqb, ◌&&◌, Option, Some, None, Result, Ok, Err, sym, ap, ◌∙◌, ◌⊎◌, inl, inr}
 use Rattle.std.specs.Prelude.{option_and_then}
 use Rattle.std.specs.Map.{set_value}
 use Rattle.std.proofs.lemmas.Map.Steps.{set_value_same}
 use Rattle.std.proofs.lemmas.Bool.{and_parts}
 use Rattle.balise_rules.specs.declared.tag.Tag.{Tag}
 use Rattle.balise_rules.specs.declared.refusal.Refusal.{Refusal}
-use Rattle.balise_rules.specs.declared.refusal.Refusal.TheVariants.{NoSuchTelegram}
+use Rattle.balise_rules.specs.declared.refusal.Refusal.TheVariants.{NoSuchTelegram, OutOfMemory}
 use Rattle.balise_rules.specs.Tagged.{find, each}
 use Rattle.balise_rules.specs.Tags.{same_tag}
 use Rattle.balise_rules.specs.Telegram.{Telegram}
@@ -16,10 +16,12 @@ use Rattle.balise_rules.proofs.Cases.{unsome}
 use Rattle.balise_rules.proofs.Found.{group_sound, place_is}
 use Rattle.balise_telegram.specs.declared.fault.TelegramFault.{TelegramFault}
 use Rattle.balise_telegram.specs.Faults.{refusal_of}
+use Rattle.balise_telegram.specs.Changes.{OrWants}
+use Rattle.balise_telegram.specs.declared.fault.TelegramFault.TheVariants.{OutOfMemory as WantsMemory}
 use Rattle.balise_plan.specs.Within.{Within, Absent, Changed, Passed, passed, with_item, no_telegram}
-use Rattle.balise_plan.proofs.naming.Walking.{each-same, each-found, cond-each}
+use Rattle.balise_plan.proofs.naming.Walking.{each-same, each-found, cond-each, and-cond}
 use Rattle.balise_plan.proofs.items.Places.{value-each}
-use Rattle.balise_plan.proofs.fields.Levels.{same-item, unerr}
+use Rattle.balise_plan.proofs.fields.Levels.{same-item}
 use Rattle.balise_plan.proofs.telegrams.Replaced.{with_telegram}
 
 -- The telegram stands and answers well, and the new one stands there.
@@ -45,10 +47,6 @@ pub record Ill {A : Type 0} (g : Tag) (t : ℕ) (R : Telegram → Result A Teleg
   pub call : R old (Err cause) next
   pub fault : e ≡ refusal_of cause
   pub is : next ≡ old → new ≡ plan
-
-and-cond : {A : Type 0} (a b : Bool) (x y : A) → cond a (cond b x y) y ≡ cond (a && b) x y
-and-cond true b x y = refl
-and-cond false b x y = refl
 
 module _ (g : Tag) (t : ℕ) (plan : Plan) (sound : IsSound plan) (ys zs : Group) (here : find same_tag g plan ≡ Some ys) where
   pub at-group : (o : Option Telegram) → find eqb t ys ≡ o → telegram_at g t plan ≡ o
@@ -78,20 +76,22 @@ module _ (g : Tag) (t : ℕ) (plan : Plan) (sound : IsSound plan) (ys zs : Group
         by (Ok b) c i = record { old = x; next = z; stands = at-group (Some x) f; call = let q : b ≡ a = cc in rw (sym q) c; is = written z s }
 
     pub ill : {P : Type 0} (e : Refusal) → Within eqb t no_telegram (Passed R) ys (Err e) zs → (Lacking g t plan e (set_value (same_tag g) plan zs) → P) → (Ill g t R plan e (set_value (same_tag g) plan zs) → P) → P
-    ill e (Absent n r s) k l = k (record { none = at-group None n; fault = sym (unerr (Err e) no_telegram e NoSuchTelegram r refl refl); is = unwritten s })
-    ill {P} e (Changed x z f p s) k l = by p.answer p.call p.is
+    ill {P} e w k l =
+        spoken no_telegram (Passed R) (Err e) w (λ n r i. k (record { none = n; fault = (let q : e ≡ NoSuchTelegram = cc in q); is = i }))
+        (λ x z h p s i. by x z h i p.answer p.call p.is)
       where
-        by : (r : Result A TelegramFault) → R x r z → Err e ≡ passed r → P
-        by (Ok b) c i = absurd cc
-        by (Err b) c i = l (record {
-          old = x;
-          next = z;
-          stands = at-group (Some x) f;
-          cause = b;
-          call = c;
-          fault = sym (unerr (Err e) (Err (refusal_of b)) e (refusal_of b) i refl refl);
-          is = λ q. unwritten (s ∙ ap (λ v. with_item eqb t v ys) q ∙ same-item nat_test t x ys (group_sound plan sound g ys here).tags f);
-        })
+        by : (x z : Telegram) → telegram_at g t plan ≡ Some x → (z ≡ x → set_value (same_tag g) plan zs ≡ plan) → (r : Result A TelegramFault) → R x r z → Err e ≡ passed r → P
+        by x z h i (Ok b) c j = absurd cc
+        by x z h i (Err b) c j = l (record { old = x; next = z; stands = h; cause = b; call = c; fault = (let q : e ≡ refusal_of b = cc in q); is = i })
+
+  -- a refusal of one telegram, or memory is wanting
+  pub wanting : {A : Type 0} (R : Telegram → Result A TelegramFault → Telegram → Type 0) (why : Option Refusal) (e : Refusal) → Within eqb t no_telegram (Passed (OrWants R)) ys (Err e) zs → (telegram_at g t plan ≡ None → why ≡ Some NoSuchTelegram) →
+      ((y z : Telegram) (f : TelegramFault) → telegram_at g t plan ≡ Some y → R y (Err f) z → (why ≡ Some (refusal_of f)) × (z ≡ y)) → ((e ≡ OutOfMemory) ⊎ (why ≡ Some e)) × (set_value (same_tag g) plan zs ≡ plan)
+  wanting R why e w lacks refuses = ill (OrWants R) e w (λ l. (inr (lacks l.none ∙ ap Some (sym l.fault)), l.is)) (λ l. by l l.call)
+    where
+      by : (l : Ill g t (OrWants R) plan e (set_value (same_tag g) plan zs)) → ((l.cause ≡ WantsMemory) × (l.next ≡ l.old)) ⊎ R l.old (Err l.cause) l.next → ((e ≡ OutOfMemory) ⊎ (why ≡ Some e)) × (set_value (same_tag g) plan zs ≡ plan)
+      by l (inl q) = (inl (l.fault ∙ ap refusal_of q.0), l.is q.1)
+      by l (inr q) = let r = refuses l.old l.next l.cause l.stands q in (inr (r.0 ∙ ap Some (sym l.fault)), l.is r.1)
 
 -- the telegram replaced as a change of each telegram makes it
 pub by-telegram : (F : Tag → ℕ → Telegram → Telegram) (g : Tag) (t : ℕ) (plan : Plan) → IsSound plan → (y z : Telegram) → telegram_at g t plan ≡ Some y → z ≡ F g t y → ((h : Tag) (u : ℕ) (x : Telegram) → (same_tag g h && eqb t u) ≡ false → F h u x ≡ x) →
@@ -100,10 +100,6 @@ by-telegram F g t plan sound y z here e other =
     each-found tag_test _ _ plan sound.tags (λ h us i. each-found nat_test _ _ us (group_sound plan sound h us i).tags (λ u x j. split_on (same_tag g h && eqb t u)
     (λ d. let k : telegram_at h u plan ≡ Some x = ap (option_and_then (find eqb u)) i ∙ j in
     let q : y ≡ x = unsome (sym here ∙ place_is g h t u plan d ∙ k) in
-    simp d (e ∙ spot h u x d q))
+    let p = and_parts (same_tag g h) (eqb t u) d in
+    simp d (e ∙ ap (λ r. F r t y) (tag_test.one g h p.0) ∙ ap (λ r. F h r y) (nat_test.one t u p.1) ∙ ap (F h u) q))
     (λ d. simp d (sym (other h u x d)))))
-  where
-    spot : (h : Tag) (u : ℕ) (x : Telegram) → (same_tag g h && eqb t u) ≡ true → y ≡ x → F g t y ≡ F h u x
-    spot h u x d q =
-        let p = and_parts (same_tag g h) (eqb t u) d in
-        ap (λ r. F r t y) (tag_test.one g h p.0) ∙ ap (λ r. F h r y) (nat_test.one t u p.1) ∙ ap (F h u) q

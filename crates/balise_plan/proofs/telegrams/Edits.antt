@@ -1,5 +1,5 @@
 -- Edits of one telegram: what each makes of it, and why each is refused.
-use Rattle.std.proofs.Common.{◌≡◌, ℕ, Bool, true, false, cond, not, eqb, ◌&&◌, List, [], ◌∷◌, Option, Some, None, refl, sym, ap, ◌∙◌}
+use Rattle.std.proofs.Common.{◌≡◌, ℕ, Bool, true, false, cond, not, eqb, ◌&&◌, List, [], ◌∷◌, Option, Some, sym, ap, ◌∙◌, arith}
 use Rattle.std.specs.Prelude.{option_and_then, is_none, nat_lt}
 use Rattle.std.proofs.lemmas.Bool.{and_from}
 use Rattle.balise_rules.specs.declared.tag.Tag.{Tag}
@@ -7,7 +7,7 @@ use Rattle.balise_rules.specs.declared.identity.Id.{Id}
 use Rattle.balise_rules.specs.declared.refusal.Refusal.{Refusal}
 use Rattle.balise_rules.specs.declared.refusal.Refusal.TheVariants.{NoSuchGroup, NoSuchTelegram, NoSuchPacket, NoSuchVariable, Steering, SamePlace, NoRoom}
 use Rattle.balise_rules.specs.declared.variable.Var.{Var}
-use Rattle.balise_rules.specs.Variables.{is_free_in_header}
+use Rattle.balise_rules.specs.Variables.{is_free_in_header, steers}
 use Rattle.balise_rules.specs.Tagged.{find, each, stands, without, move, changed, Change, Each, Take, Move}
 use Rattle.balise_rules.specs.Tags.{same_tag, same_key}
 use Rattle.balise_rules.specs.Forms.{Fields}
@@ -20,8 +20,8 @@ use Rattle.balise_rules.specs.Edits.{telegram_after, packet_after}
 use Rattle.balise_rules.specs.declared.tagged_edit.TaggedEdit.TheVariants.{SetVar, SetHead, DeletePacket, MovePacket}
 use Rattle.balise_rules.proofs.Tests.{split_on, tag_test, nat_test}
 use Rattle.balise_rules.proofs.Each.{each-id, each-same}
-use Rattle.balise_telegram.specs.Setting.{head_refusal, with_field, with_head}
-use Rattle.balise_telegram.specs.Moving.{shift_refusal, shift_before_refusal, same_place_before, insert_refusal}
+use Rattle.balise_telegram.specs.Setting.{with_field, with_head}
+use Rattle.balise_telegram.specs.Moving.{same_place_before}
 use Rattle.balise_index.specs.declared.spot.Spot.{Spot}
 use Rattle.balise_index.specs.declared.spot.Spot.TheVariants.{Before}
 use Rattle.balise_index.specs.AtSpot.{spot_stands}
@@ -55,9 +55,15 @@ module _ (own : Id) (g : Tag) (t : ℕ) where
       (walking.each-same _ _ y.packets (λ q x. sym (set-packet 0 own g t p v k n g t 0 q x) ∙ within (same_tag g g) (eqb t t) (here g t) _ x)))
     where
       within : (a b : Bool) → (a && b) ≡ true → (z x : Packet) → cond a (cond b z x) x ≡ z
-      within true true e z x = refl
-      within true false e z x = absurd cc
-      within false b e z x = absurd cc
+      within a b e z x = grind arith
+
+  pub set-other : (p : Tag) (v : Var) (k n : ℕ) (h : Tag) (u : ℕ) (x : Telegram) → (same_tag g h && eqb t u) ≡ false → telegram_after (0, SetVar g t p v k n) own h u x ≡ x
+  set-other p v k n h u x d =
+      rebuilt x _ _ x.packets (each-id x.head)
+      (each-same _ x.packets (λ q z. sym (set-packet 0 own g t p v k n h u 0 q z) ∙ without (same_tag g h) (eqb t u) d _ z))
+    where
+      without : (a b : Bool) → (a && b) ≡ false → (z x : Packet) → cond a (cond b z x) x ≡ x
+      without a b e z x = grind arith
 
   taken : (b : Bool) → b ≡ true → (c : Change Tag Packet) (ps : List (Tag × Packet)) → changed same_tag (cond b c (Each (λ q x. x))) ps ≡ changed same_tag c ps
   taken b e c ps = ap (λ a. changed same_tag (cond a c (Each (λ q x. x))) ps) e
@@ -79,21 +85,25 @@ module _ (own : Id) (g : Tag) (t : ℕ) where
 
 -- ---- refusals, by whether the group lacks and by the telegram
 
-abbrev heads : Var → ℕ → Bool → Option Telegram → Option Refusal
+abbrev pub heads : Var → ℕ → Bool → Option Telegram → Option Refusal
 heads v n none o = first_of (when none NoSuchGroup ∷ when (is_none o) NoSuchTelegram ∷ when (in_telegram o (λ y. is_none (field_of v 0 y.head))) NoSuchVariable ∷ when (not (is_free_in_header v)) Steering ∷ too_wide v n ∷ [])
 
-abbrev deletes : Tag → Bool → Option Telegram → Option Refusal
+abbrev pub sets : Tag → Var → ℕ → ℕ → Bool → Option Telegram → Option Refusal
+sets p v k n none o = first_of (when none NoSuchGroup ∷ when (is_none o) NoSuchTelegram ∷ when (is_none (option_and_then (λ (y : Telegram). find same_tag p y.packets) o)) NoSuchPacket
+    ∷ when (is_none (option_and_then (λ (x : Packet). field_of v k x.fields) (option_and_then (λ (y : Telegram). find same_tag p y.packets) o))) NoSuchVariable ∷ when (steers v) Steering ∷ too_wide v n ∷ [])
+
+abbrev pub deletes : Tag → Bool → Option Telegram → Option Refusal
 deletes p none o = first_of (when none NoSuchGroup ∷ when (is_none o) NoSuchTelegram ∷ when (is_none (option_and_then (λ (y : Telegram). find same_tag p y.packets) o)) NoSuchPacket ∷ [])
 
-abbrev moves : Tag → Option Tag → Bool → Option Telegram → Option Refusal
+abbrev pub moves : Tag → Option Tag → Bool → Option Telegram → Option Refusal
 moves p a none o = first_of (when none NoSuchGroup ∷ when (is_none o) NoSuchTelegram ∷ when (is_none (option_and_then (λ (y : Telegram). find same_tag p y.packets) o)) NoSuchPacket
     ∷ when (in_telegram o (λ y. not (stands same_tag a y.packets))) NoSuchPacket ∷ when (in_telegram o (same_place p a)) SamePlace ∷ [])
 
-abbrev puts : Spot Tag → Packet → Bool → Option Telegram → Option Refusal
+abbrev pub puts : Spot Tag → Packet → Bool → Option Telegram → Option Refusal
 puts s x none o = first_of (when none NoSuchGroup ∷ when (is_none o) NoSuchTelegram ∷ when (in_telegram o (λ y. not (spot_stands s y.packets))) NoSuchPacket
     ∷ when (in_telegram o (λ y. nat_lt (room y) (width x))) NoRoom ∷ [])
 
-abbrev moves-before : Tag → Option Tag → Bool → Option Telegram → Option Refusal
+abbrev pub moves-before : Tag → Option Tag → Bool → Option Telegram → Option Refusal
 moves-before p n none o = first_of (when none NoSuchGroup ∷ when (is_none o) NoSuchTelegram ∷ when (is_none (option_and_then (λ (y : Telegram). find same_tag p y.packets) o)) NoSuchPacket
     ∷ when (in_telegram o (λ y. not (stands same_tag n y.packets))) NoSuchPacket ∷ when (in_telegram o (same_place_before p n)) SamePlace ∷ [])
 
@@ -101,36 +111,20 @@ module _ (g : Tag) (t : ℕ) (plan : Plan) (ys : Group) (group : find same_tag g
   by-telegram-of : (r : Bool → Option Telegram → Option Refusal) (o : Option Telegram) → telegram_at g t plan ≡ o → r (is_none (find same_tag g plan)) (telegram_at g t plan) ≡ r false o
   by-telegram-of r o e = ap (λ b. r b (telegram_at g t plan)) (ap is_none group) ∙ ap (r false) e
 
-  pub head-refused : (v : Var) (n : ℕ) (y : Telegram) → telegram_at g t plan ≡ Some y → refusal (SetHead g t v n) plan ≡ head_refusal v n y
-  head-refused v n y e = by-telegram-of (heads v n) (Some y) e
+  pub head-refused : (v : Var) (n : ℕ) (o : Option Telegram) → telegram_at g t plan ≡ o → refusal (SetHead g t v n) plan ≡ heads v n false o
+  head-refused v n = by-telegram-of (heads v n)
 
-  pub head-lacking : (v : Var) (n : ℕ) → telegram_at g t plan ≡ None → refusal (SetHead g t v n) plan ≡ Some NoSuchTelegram
-  head-lacking v n e = by-telegram-of (heads v n) None e
+  pub set-refused : (p : Tag) (v : Var) (k n : ℕ) (o : Option Telegram) → telegram_at g t plan ≡ o → refusal (SetVar g t p v k n) plan ≡ sets p v k n false o
+  set-refused p v k n = by-telegram-of (sets p v k n)
 
-  pub delete-refused : (p : Tag) (y : Telegram) → telegram_at g t plan ≡ Some y → refusal (DeletePacket g t p) plan ≡ when (is_none (find same_tag p y.packets)) NoSuchPacket
-  delete-refused p y e = by-telegram-of (deletes p) (Some y) e ∙ last (is_none (find same_tag p y.packets))
-    where
-      last : (b : Bool) → first_of (when b NoSuchPacket ∷ []) ≡ when b NoSuchPacket
-      last true = refl
-      last false = refl
+  pub delete-refused : (p : Tag) (o : Option Telegram) → telegram_at g t plan ≡ o → refusal (DeletePacket g t p) plan ≡ deletes p false o
+  delete-refused p = by-telegram-of (deletes p)
 
-  pub delete-lacking : (p : Tag) → telegram_at g t plan ≡ None → refusal (DeletePacket g t p) plan ≡ Some NoSuchTelegram
-  delete-lacking p e = by-telegram-of (deletes p) None e
+  pub move-refused : (p : Tag) (a : Option Tag) (o : Option Telegram) → telegram_at g t plan ≡ o → refusal (MovePacket g t p a) plan ≡ moves p a false o
+  move-refused p a = by-telegram-of (moves p a)
 
-  pub move-refused : (p : Tag) (a : Option Tag) (y : Telegram) → telegram_at g t plan ≡ Some y → refusal (MovePacket g t p a) plan ≡ shift_refusal p a y
-  move-refused p a y e = by-telegram-of (moves p a) (Some y) e
+  pub before-refused : (p : Tag) (n : Option Tag) (o : Option Telegram) → telegram_at g t plan ≡ o → plan_shift_refusal g t p (Before n) plan ≡ moves-before p n false o
+  before-refused p n = by-telegram-of (moves-before p n)
 
-  pub move-lacking : (p : Tag) (a : Option Tag) → telegram_at g t plan ≡ None → refusal (MovePacket g t p a) plan ≡ Some NoSuchTelegram
-  move-lacking p a e = by-telegram-of (moves p a) None e
-
-  pub before-refused : (p : Tag) (n : Option Tag) (y : Telegram) → telegram_at g t plan ≡ Some y → plan_shift_refusal g t p (Before n) plan ≡ shift_before_refusal p n y
-  before-refused p n y e = by-telegram-of (moves-before p n) (Some y) e
-
-  pub before-lacking : (p : Tag) (n : Option Tag) → telegram_at g t plan ≡ None → plan_shift_refusal g t p (Before n) plan ≡ Some NoSuchTelegram
-  before-lacking p n e = by-telegram-of (moves-before p n) None e
-
-  pub put-refused : (s : Spot Tag) (x : Packet) (y : Telegram) → telegram_at g t plan ≡ Some y → put_refusal g t s x plan ≡ insert_refusal (spot_stands s y.packets) x y
-  put-refused s x y e = by-telegram-of (puts s x) (Some y) e
-
-  pub put-lacking : (s : Spot Tag) (x : Packet) → telegram_at g t plan ≡ None → put_refusal g t s x plan ≡ Some NoSuchTelegram
-  put-lacking s x e = by-telegram-of (puts s x) None e
+  pub put-refused : (s : Spot Tag) (x : Packet) (o : Option Telegram) → telegram_at g t plan ≡ o → put_refusal g t s x plan ≡ puts s x false o
+  put-refused s x = by-telegram-of (puts s x)

@@ -1,7 +1,8 @@
 -- A sound plan with one telegram replaced by another that is sound in its place.
-use Rattle.std.proofs.Common.{◌≡◌, ℕ, ◌-◌, Bool, true, false, cond, eqb, ◌&&◌, length, Option, Some, None, refl, sym, ap, subst, ◌∙◌}
+use Rattle.std.proofs.Common.{◌≡◌, ℕ, ◌-◌, Bool, true, false, cond, eqb, ◌&&◌, length, Option, Some, refl, sym, ap, subst, ◌∙◌, arith}
 use Rattle.std.specs.Prelude.{option_and_then}
 use Rattle.std.specs.Option.{option_map}
+use Rattle.std.proofs.lemmas.Bool.{cond_both}
 use Rattle.std.specs.BTreeSet as set
 use Rattle.balise_rules.specs.declared.tag.Tag.{Tag}
 use Rattle.balise_rules.specs.declared.identity.Id.{Id}
@@ -30,15 +31,18 @@ use Rattle.balise_plan.proofs.groups.Sound.{each-kept}
 use Rattle.balise_plan.proofs.renumbering.Plans.{telegram-each}
 use Rattle.balise_plan.proofs.telegrams.Sound.{Replaces}
 use Rattle.balise_plan.proofs.turned.Plans.{tags-kept}
+use Rattle.balise_plan.proofs.naming.OfGroup.{by-cond}
 
 -- the plan with this telegram at a place
 abbrev pub with_telegram : Tag → ℕ → Telegram → rules.Plan → rules.Plan
 with_telegram g t z plan = each (λ h us. each (λ u x. cond (same_tag g h && eqb t u) z x) us) plan
 
 map_const : {A : Type 0} (b : Bool) (y z : A) (o : Option A) → (b ≡ true → o ≡ Some y) → option_map (λ x. cond b z x) o ≡ cond b (Some z) o
-map_const true y z o h = ap (option_map (λ x. z)) (h refl)
-map_const false y z None h = refl
-map_const false y z (Some x) h = refl
+map_const b y z o h = grind arith
+
+-- at a place of a telegram: what it names afterwards, named before, put in and in the plan
+one-put : (a b c after before put named : Bool) → ((a && b) ≡ true → named ≡ before) → (c ≡ true → after ≡ put) → (c ≡ false → after ≡ before) → cond (a && b) after named ≡ cond (a && (b && c)) put named
+one-put a b c after before put named h k l = grind arith
 
 module _ (plan : rules.Plan) (sound : IsSound plan) (g : Tag) (t : ℕ) (y z : Telegram) (here : telegram_at g t plan ≡ Some y) (replaces : Replaces y z) where
   abbrev group : Tag → Group → Group
@@ -80,11 +84,8 @@ module _ (plan : rules.Plan) (sound : IsSound plan) (g : Tag) (t : ℕ) (y z : T
   named-replaced : (q : Id) (w : LinkPlace) → named_at q w (with_telegram g t z plan) ≡ cond (same_tag g w.group && eqb t w.telegram) (is_real q && named_in_packet (country_of y) q w.element (find same_tag w.packet z.packets)) (named_at q w plan)
   named-replaced q w =
       ap (λ o. is_real q && named_in_telegram q w o) (replaced-at w.group w.telegram)
-      ∙ by (same_tag g w.group && eqb t w.telegram)
-    where
-      by : (b : Bool) → (is_real q && named_in_telegram q w (cond b (Some z) (telegram_at w.group w.telegram plan))) ≡ cond b (is_real q && named_in_packet (country_of y) q w.element (find same_tag w.packet z.packets)) (named_at q w plan)
-      by true = ap (λ c. is_real q && named_in_packet c q w.element (find same_tag w.packet z.packets)) same-country
-      by false = refl
+      ∙ by-cond (λ o. is_real q && named_in_telegram q w o) (same_tag g w.group && eqb t w.telegram) (Some z) (telegram_at w.group w.telegram plan)
+      ∙ ap (λ c. cond (same_tag g w.group && eqb t w.telegram) (is_real q && named_in_packet c q w.element (find same_tag w.packet z.packets)) (named_at q w plan)) same-country
 
   -- what was named at a place of the telegram
   named-there : (q : Id) (w : LinkPlace) → (same_tag g w.group && eqb t w.telegram) ≡ true → named_at q w plan ≡ (is_real q && named_in_packet (country_of y) q w.element (find same_tag w.packet y.packets))
@@ -94,32 +95,19 @@ module _ (plan : rules.Plan) (sound : IsSound plan) (g : Tag) (t : ℕ) (y z : T
   pub named-kept : ((p : Tag) → find same_tag p z.packets ≡ find same_tag p y.packets) → (q : Id) (w : LinkPlace) → named_at q w (with_telegram g t z plan) ≡ named_at q w plan
   named-kept same q w =
       named-replaced q w
-      ∙ split_on (same_tag g w.group && eqb t w.telegram)
-      (λ d. ap (λ b. cond b (is_real q && named_in_packet (country_of y) q w.element (find same_tag w.packet z.packets)) (named_at q w plan)) d
-      ∙ ap (λ o. is_real q && named_in_packet (country_of y) q w.element o) (same w.packet) ∙ sym (named-there q w d))
-      (λ d. ap (λ b. cond b (is_real q && named_in_packet (country_of y) q w.element (find same_tag w.packet z.packets)) (named_at q w plan)) d)
+      ∙ cond_both (same_tag g w.group && eqb t w.telegram) _ _ (λ v. v ≡ named_at q w plan)
+      (λ d. ap (λ o. is_real q && named_in_packet (country_of y) q w.element o) (same w.packet) ∙ sym (named-there q w d)) (λ _. refl)
 
   -- where each but one stays
   pub named-put : (p : Tag) (o : Option Packet) → find same_tag p z.packets ≡ o → ((r : Tag) → same_tag r p ≡ false → find same_tag r z.packets ≡ find same_tag r y.packets) →
       (q : Id) (w : LinkPlace) → named_at q w (with_telegram g t z plan) ≡ cond (is_in g t p w) (is_real q && named_in_packet (country_of y) q w.element o) (named_at q w plan)
   named-put p o e same q w =
-      named-replaced q w ∙ by (same_tag g w.group) (eqb t w.telegram) refl
-      (λ d. sym (named-there q w d))
+      named-replaced q w
+      ∙ one-put (same_tag g w.group) (eqb t w.telegram) (same_tag p w.packet) _ (there (find same_tag w.packet y.packets)) (there o) (named_at q w plan) (named-there q w)
+      (λ d. ap there (ap (λ r. find same_tag r z.packets) (sym (tag_test.one p w.packet d)) ∙ e)) (λ d. ap there (same w.packet (test-sym tag_test w.packet p ∙ d)))
     where
       there : Option Packet → Bool
       there x = is_real q && named_in_packet (country_of y) q w.element x
-
-      one : (there (find same_tag w.packet y.packets) ≡ named_at q w plan) → there (find same_tag w.packet z.packets) ≡ cond (same_tag p w.packet) (there o) (named_at q w plan)
-      one n =
-          split_on (same_tag p w.packet)
-          (λ d. ap there (ap (λ r. find same_tag r z.packets) (sym (tag_test.one p w.packet d)) ∙ e) ∙ ap (λ b. cond b (there o) (named_at q w plan)) (sym d))
-          (λ d. ap there (same w.packet (test-sym tag_test w.packet p ∙ d)) ∙ n ∙ ap (λ b. cond b (there o) (named_at q w plan)) (sym d))
-
-      by : (a b : Bool) → (same_tag g w.group && eqb t w.telegram) ≡ (a && b) → ((same_tag g w.group && eqb t w.telegram) ≡ true → there (find same_tag w.packet y.packets) ≡ named_at q w plan) →
-          cond (a && b) (there (find same_tag w.packet z.packets)) (named_at q w plan) ≡ cond (a && (b && same_tag p w.packet)) (there o) (named_at q w plan)
-      by true true d n = one (n d)
-      by true false d n = refl
-      by false b d n = refl
 
   module _ (ids : IndexOf Tag) (names : IndexOf (set.BTreeSet LinkPlace)) (held_is : IsHeld ids names plan) where
     pub held-kept : ((p : Tag) → find same_tag p z.packets ≡ find same_tag p y.packets) → IsHeld ids names (with_telegram g t z plan)

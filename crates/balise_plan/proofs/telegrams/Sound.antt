@@ -1,7 +1,7 @@
 -- A telegram stays sound in its place, whatever a call changes in it.
-use Rattle.std.proofs.Common.{◌≡◌, inl, inr, ◌<◌, ◌≤◌, ◌^◌, ◌-◌, ◌||◌, not, nat_lt, ℕ, Bool, true, false, cond, List, [], ◌∷◌, All, length, Option, Some, None, Result, Ok, Err, refl, sym, ap, subst, ◌∙◌, arith}
+use Rattle.std.proofs.Common.{◌≡◌, inl, inr, ◌≤◌, ◌-◌, ◌||◌, not, nat_lt, ℕ, Bool, true, false, cond, List, [], ◌∷◌, All, length, Option, Some, None, Result, Ok, Err, refl, sym, ap, subst, ◌∙◌, arith}
 use Rattle.std.specs.Prelude.{IsTrue, is_none, is_some}
-use Rattle.std.proofs.lemmas.Bool.{le-ltb, lt-ltb, not-false}
+use Rattle.std.proofs.lemmas.Bool.{le-ltb, lt-ltb, cond_both}
 use borrow.Author.Tests.{ltb-false}
 use Rattle.balise_rules.specs.declared.tag.Tag.{Tag}
 use Rattle.balise_rules.specs.declared.tag.Tag.TheVariants.{Base}
@@ -40,7 +40,7 @@ use Rattle.balise_plan.specs.declared.links.change.Change.{Change}
 use Rattle.balise_plan.specs.declared.links.change.Change.TheVariants.{Name, Flip}
 use Rattle.balise_plan.specs.PutsIn.{PutsIn, ShiftsIn}
 use Rattle.balise_plan.specs.Walks.{changed, FitsName}
-use Rattle.balise_plan.proofs.items.Inserted.{distinct-put_in, all-put_in, used-put_in}
+use Rattle.balise_plan.proofs.items.Inserted.{put-between, between-distinct, between-all, between-used}
 use Rattle.balise_plan.proofs.telegrams.Edits.{head-at, set-at, delete-at, move-at}
 
 -- whatever place is asked of the one, the other is sound there too
@@ -72,20 +72,13 @@ pub head-lawful : (g : Tag) (t : ℕ) (v : Var) (n : ℕ) (y : Telegram) → fie
 head-lawful g t v n y e = by (is_none (field_of v 0 y.head)) (is_free_in_header v) (fits (width_of v) n) e
   where
     by : (a b c : Bool) → first_of (when a refusals.NoSuchVariable ∷ when (not b) refusals.Steering ∷ when (not c) refusals.ValueTooWide ∷ []) ≡ None → IsTrue b × IsTrue c
-    by true b c h = absurd cc
-    by false false c h = absurd cc
-    by false true false h = absurd cc
-    by false true true h = (not-false true refl, not-false true refl)
+    by a b c h = grind arith
 
 pub set-lawful : (g : Tag) (t : ℕ) (p : Tag) (v : Var) (k n : ℕ) (y : Telegram) → field_refusal p v k n y ≡ None → Lawful (SetVar g t p v k n)
 set-lawful g t p v k n y e = by (is_none (find same_tag p y.packets)) _ (steers v) (fits (width_of v) n) e
   where
     by : (a b c d : Bool) → first_of (when a refusals.NoSuchPacket ∷ when b refusals.NoSuchVariable ∷ when c refusals.Steering ∷ when (not d) refusals.ValueTooWide ∷ []) ≡ None → (c ≡ false) × IsTrue d
-    by true b c d h = absurd cc
-    by false true c d h = absurd cc
-    by false false true d h = absurd cc
-    by false false false false h = absurd cc
-    by false false false true h = (refl, not-false true refl)
+    by a b c d h = grind arith
 
 pub head-set : (v : Var) (n : ℕ) (r : Result ℕ TelegramFault) (y z : Telegram) → SetsHead v n y r z → Replaces y z
 head-set v n (Err e) y z c = stays y z c.1
@@ -109,17 +102,10 @@ packets-changed f spelt wide y i last m s =
 set-spelt : (v : Var) (k n version : ℕ) (x : Packet) → Lawful (SetVar (Base 0) 0 (Base 0) v k n) → IsSpelt version x → IsSpelt version (with_packet_field v k n x)
 set-spelt v k n version x l s = packet_kept (SetVar (Base 0) 0 (Base 0) v k n) l (record { country = 0; number = 0 }) (Base 0) 0 0 (Base 0) version x s
 
-number-lawful : (k n : ℕ) → n < 2 ^ 14 → Lawful (SetVar (Base 0) 0 (Base 0) NidBg k n)
-unfolding steers width_of
-number-lawful k n h = (refl, lt-ltb n 16384 h)
-
-flip-lawful : (k n : ℕ) → Lawful (SetVar (Base 0) 0 (Base 0) QLinkorientation k (1 - n))
-unfolding steers width_of
-flip-lawful k n = (refl, lt-ltb (1 - n) 2 (omega arith))
-
 change-spelt : (c : Change) (k version : ℕ) (x : Packet) → FitsName c → IsSpelt version x → IsSpelt version (changed c k x)
-change-spelt (Name n) k version x h s = set-spelt NidBg k n version x (number-lawful k n h) s
-change-spelt Flip k version x h s = set-spelt QLinkorientation k (1 - value QLinkorientation k x.fields) version x (flip-lawful k (value QLinkorientation k x.fields)) s
+unfolding steers width_of
+change-spelt (Name n) k version x h s = set-spelt NidBg k n version x (refl, lt-ltb n 16384 h) s
+change-spelt Flip k version x h s = let n = 1 - value QLinkorientation k x.fields in set-spelt QLinkorientation k n version x (refl, lt-ltb n 2 (omega arith)) s
 
 change-width : (c : Change) (k : ℕ) (x : Packet) → width (changed c k x) ≡ width x
 change-width (Name n) k x = width-each (λ key old. cond (same_key (NidBg, k) key) n old) x
@@ -128,12 +114,8 @@ change-width Flip k x = width-each (λ key old. cond (same_key (QLinkorientation
 pub element-changed : (p : Tag) (c : Change) (k : ℕ) → FitsName c → (y z : Telegram) → z ≡ with_changed p (changed c k) y → Replaces y z
 element-changed p c k h y z e i last m s =
     subst (IsSoundTelegram i last m) (sym e) (packets-changed (λ q x. cond (same_tag p q) (changed c k x) x)
-    (λ version q x w. one (same_tag p q) (IsSpelt version) (changed c k x) x (change-spelt c k version x h w) w)
-    (λ q x. one (same_tag p q) (λ a. width a ≡ width x) (changed c k x) x (change-width c k x) refl) y i last m s)
-  where
-    one : (b : Bool) (P : Packet → Type 0) (a x : Packet) → P a → P x → P (cond b a x)
-    one true P a x u w = u
-    one false P a x u w = w
+    (λ version q x w. cond_both (same_tag p q) (changed c k x) x (IsSpelt version) (λ _. change-spelt c k version x h w) (λ _. w))
+    (λ q x. cond_both (same_tag p q) (changed c k x) x (λ a. width a ≡ width x) (λ _. change-width c k x) (λ _. refl)) y i last m s)
 
 -- ---- a packet put in
 
@@ -142,9 +124,7 @@ pub fits-in : (there : Bool) (x : Packet) (y : Telegram) → insert_refusal ther
 fits-in there x y e = by there (nat_lt (room y) (width x)) e
   where
     by : (a b : Bool) → first_of (when (not a) refusals.NoSuchPacket ∷ when b refusals.NoRoom ∷ []) ≡ None → (a ≡ true) × (b ≡ false)
-    by true true h = absurd cc
-    by true false h = (refl, refl)
-    by false b h = absurd cc
+    by a b h = grind arith
 
 -- a telegram with one packet more
 kept : (s : Spot Tag) (p : Tag) (x : Packet) (o : Id) (last m : ℕ) (y : Telegram) → IsSoundTelegram o last m y → spot_stands s y.packets ≡ true → nat_lt (room y) (width x) ≡ false → find same_tag p y.packets ≡ None → IsSpelt (version_of y) x →
@@ -152,8 +132,8 @@ kept : (s : Spot Tag) (p : Tag) (x : Packet) (o : Id) (last m : ℕ) (y : Telegr
 kept s p x o last m y d there roomy absent word =
     let r = ltb-false (room y) (width x) roomy in
     let f = d.fits in
-    let tags = distinct-put_in s (p, x) y.packets there absent d.tags in
-    other-packets y (put_in s (p, x) y.packets) d tags (all-put_in s (p, x) y.packets there (IsSpelt (version_of y)) word d.packets) (omega (arith, r, f, used-put_in s (p, x) y.packets there))
+    let b = put-between s (p, x) y.packets there in
+    other-packets y (put_in s (p, x) y.packets) d (between-distinct b absent d.tags) (between-all b (IsSpelt (version_of y)) word d.packets) (omega (arith, r, f, between-used b))
 
 pub packet-put : (s : Spot Tag) (p : Tag) (x : Packet) (r : Result Unit (Refusal × Packet)) (y z : Telegram) → find same_tag p y.packets ≡ None → IsSpelt (version_of y) x → PutsIn s p x y r z → Replaces y z
 packet-put s p x r y z absent word c = by c.answer c.call
@@ -183,14 +163,14 @@ pub record Movable (p : Tag) (n : Option Tag) (y : Telegram) : Type 0 where
   pub other : same_spot same_tag n (Some p) ≡ false
 
 pub movable : (p : Tag) (n : Option Tag) (y : Telegram) → shift_before_refusal p n y ≡ None → Movable p n y
-movable p n y e = by (find same_tag p y.packets) (stands same_tag n y.packets) (same_spot same_tag n (Some p)) _ refl refl refl e
+movable p n y e =
+    let m = by (find same_tag p y.packets) (stands same_tag n y.packets) (same_spot same_tag n (Some p)) _ e in
+    record { packet = m.0; found = m.1; there = m.2; other = m.3 }
   where
-    by : (o : Option Packet) (a b c : Bool) → find same_tag p y.packets ≡ o → stands same_tag n y.packets ≡ a → same_spot same_tag n (Some p) ≡ b →
-        first_of (when (is_none o) refusals.NoSuchPacket ∷ when (not a) refusals.NoSuchPacket ∷ when (b || c) refusals.SamePlace ∷ []) ≡ None → Movable p n y
-    by None a b c f s d h = absurd cc
-    by (Some x) false b c f s d h = absurd cc
-    by (Some x) true true c f s d h = absurd cc
-    by (Some x) true false c f s d h = record { packet = x; found = f; there = s; other = d }
+    by : (o : Option Packet) (a b c : Bool) → first_of (when (is_none o) refusals.NoSuchPacket ∷ when (not a) refusals.NoSuchPacket ∷ when (b || c) refusals.SamePlace ∷ []) ≡ None →
+        (x : Packet) × (o ≡ Some x) × (a ≡ true) × (b ≡ false)
+    by None a b c h = absurd cc
+    by (Some x) a b c h = (x, refl, grind arith, grind arith)
 
 -- the neighbour stands without the packet
 pub stands-other : (p : Tag) (n : Option Tag) (ps : List (Tag × Packet)) → stands same_tag n ps ≡ true → same_spot same_tag n (Some p) ≡ false → stands same_tag n (without same_tag p ps) ≡ true
@@ -230,7 +210,5 @@ moved-before p n (Err e) y z (inr c) = stays y z c.1
 moved-before p n (Ok was) y z c = λ i last m s. subst (IsSoundTelegram i last m) (sym c.2) (sound-before p n y (movable p n y c.0) i last m s)
 
 pub packet-moved : (s : Spot Tag) (p : Tag) (r : Result (Option Tag) TelegramFault) (y z : Telegram) → OrWants (ShiftsIn s p) y r z → Replaces y z
-packet-moved (After a) p (Ok was) y z c = moved-after p a (Ok was) y z c
-packet-moved (After a) p (Err e) y z c = moved-after p a (Err e) y z c
-packet-moved (Before n) p (Ok was) y z c = moved-before p n (Ok was) y z c
-packet-moved (Before n) p (Err e) y z c = moved-before p n (Err e) y z c
+packet-moved (After a) p r y z c = moved-after p a r y z c
+packet-moved (Before n) p r y z c = moved-before p n r y z c

@@ -18,10 +18,7 @@ Lacks never = Unit {0}
 Lacks (valued v next) = (same_var QDir v ≡ false) × ((n : ℕ) → Lacks (next n))
 
 lacks_count : (form : Form) (fs : Fields) (rest : List Bool) → Lacks form → Matches form fs rest → count_of QDir fs ≡ 0
-lacks_count done [] rest l m = refl
-lacks_count shut [] rest l m = refl
-lacks_count never [] rest l m = refl
-lacks_count (valued v next) [] rest l m = refl
+lacks_count form [] rest l m = refl
 lacks_count done (f ∷ fs) rest l m = absurd m
 lacks_count shut (f ∷ fs) rest l m = absurd m
 lacks_count never (f ∷ fs) rest l m = absurd m

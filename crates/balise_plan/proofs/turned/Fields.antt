@@ -1,5 +1,5 @@
 -- Turning by the index is turning each field that the rules turn.
-use Rattle.std.proofs.Common.{◌≡◌, ◌-◌, ℕ, Bool, true, false, cond, eqb, ◌&&◌, ◌||◌, reverse, List, Some, refl, sym, ap, ◌∙◌}
+use Rattle.std.proofs.Common.{◌≡◌, ◌-◌, ℕ, Bool, true, false, cond, eqb, ◌&&◌, ◌||◌, reverse, List, Some, refl, sym, ap, ◌∙◌, arith}
 use Rattle.std.specs.Option.{option_map}
 use Rattle.std.specs.Prelude.{unwrap_or}
 use Rattle.balise_rules.specs.declared.tag.Tag.{Tag}
@@ -24,11 +24,12 @@ use Rattle.balise_index.specs.declared.link_place.LinkPlace.{LinkPlace}
 use Rattle.balise_plan.specs.declared.links.change.Change.TheVariants.{Flip}
 use Rattle.balise_plan.specs.Links.{named_at}
 use Rattle.balise_plan.specs.Walks.{turned_in, turned_telegram, turned_telegrams, turned_head}
-use Rattle.balise_plan.proofs.naming.Walking.{among_after, place, all_fields, packet_fields, parts, each-id, each-each, each-found, each-same}
+use Rattle.balise_plan.proofs.naming.Walking.{among_after, place, all_fields, packet_fields, parts, each-each, each-found, each-same}
 use Rattle.balise_index.specs.Places.{among}
 use Rattle.balise_plan.proofs.renumbering.Fields.{named_here}
 use Rattle.balise_plan.proofs.turned.DirOnce.{dir_once}
 use Rattle.std.proofs.lemmas.Bool.{eqb-true, or_parts}
+use Rattle.balise_rules.proofs.Each.{each-id}
 
 of_is : (w : Var) (key : Key) → is_of w key ≡ true → key ≡ (w, key.1)
 of_is w key e = ap (λ x. (x, key.1)) (sym (var_test.one w key.0 e))
@@ -76,18 +77,14 @@ module _ (hs : Fields) (u : Distinct same_key hs) (pig : (key : Key) (n : ℕ) �
       (λ o. simp o (placed_at key n e ∙ and_true (is_of NPig key) _ _)))))
     where
       and_true : (b : Bool) (x y : ℕ) → cond b x y ≡ cond (b && true) x y
-      and_true true x y = refl
-      and_true false x y = refl
+      and_true b x y = grind arith
 
 pub head-is : (g0 g : Tag) (t : ℕ) (hs : Fields) → Distinct same_key hs → ((key : Key) (n : ℕ) → find same_key key hs ≡ Some n → is_of NPig key ≡ true → key ≡ (NPig, 0)) → ((key : Key) (n : ℕ) → find same_key key hs ≡ Some n → is_of MDup key ≡ true → key ≡ (MDup, 0)) →
     cond (same_tag g0 g) (turned_head hs) hs ≡ each (head_after (TurnGroup g0) g t hs) hs
 head-is g0 g t hs u pig dup = by (same_tag g0 g)
   where
     neither : (a b : Bool) (x y n : ℕ) → n ≡ cond (a && false) x (cond (b && false) y n)
-    neither true true x y n = refl
-    neither true false x y n = refl
-    neither false true x y n = refl
-    neither false false x y n = refl
+    neither a b x y n = grind arith
 
     by : (b : Bool) → cond b (turned_head hs) hs ≡ each (λ key n. cond (is_of MDup key && b) (exchanged 1 2 n) (cond (is_of NPig key && b) (value NTotal 0 hs - n) n)) hs
     by true = head_turned hs u pig dup
@@ -100,8 +97,7 @@ packet-is : (b : Bool) (h c : Key → ℕ → ℕ) (x : Packet) → Distinct sam
 packet-is false h c x u once dir e = ap (λ (fs : Fields). record { fields = fs; rest = x.rest }) (each-found key_test _ _ x.fields u (λ key n k. off (is_of QDir key) (exchanged 0 1 (h key n)) (h key n) ∙ e key n k))
   where
     off : (a : Bool) (y z : ℕ) → z ≡ cond (a && false) y z
-    off true y z = refl
-    off false y z = refl
+    off a y z = grind arith
 packet-is true h c x u once dir e = ap (λ (fs : Fields). record { fields = fs; rest = x.rest }) (each-each _ _ x.fields ∙ each-found key_test _ _ x.fields u (λ key n k.
     split_on (is_of QDir key)
     (λ o. let q = once key n k o in let z = key_yes QDir key q in

@@ -2,13 +2,13 @@
 use Rattle.std.proofs.Common.{◌≡◌, ℕ, Bool, true, false, cond, eqb, not, ◌&&◌, reverse, Option, Some, None, refl, sym, ap, subst, ◌∙◌}
 use Rattle.std.specs.Option.{option_map}
 use Rattle.std.specs.BTreeSet as set
-use Rattle.std.proofs.lemmas.Bool.{ne_eqb}
+use Rattle.std.proofs.lemmas.Bool.{ne_eqb, false_from_ne_true, true≢false}
+use Rattle.std.proofs.lemmas.Iterator.Adapters.{option_map_id}
 use Rattle.balise_rules.specs.declared.tag.Tag.{Tag}
 use Rattle.balise_rules.specs.declared.identity.Id.{Id}
 use Rattle.balise_rules.specs.declared.variable.Var.TheVariants.{NidC, QDir, QLinkorientation}
 use Rattle.balise_rules.specs.Tagged.{find, each, Distinct}
 use Rattle.balise_rules.specs.Tags.{same_tag, same_id}
-use Rattle.balise_rules.specs.Telegram.{Telegram}
 use Rattle.balise_rules.specs.Plan.{Group, IsSound, reserved, country_of, telegram_at, identity_of, group_named}
 use Rattle.balise_rules.specs.Plan as rules
 use Rattle.balise_rules.specs.Names.{is_real}
@@ -38,6 +38,22 @@ use Rattle.balise_plan.proofs.renumbering.Plans.{not_other}
 use Rattle.balise_plan.proofs.turned.Fields.{turn-is}
 use Rattle.balise_plan.proofs.naming.Identities.{id_at, is_the, named-is, id-after, tag-named, named-found}
 
+-- the tag of an identity, where a group has it before and afterwards
+pub tags-same : (plan new : rules.Plan) → IsSound plan → IsSound new → (q : Id) →
+    ((g : Tag) (ys : Group) → find same_tag g plan ≡ Some ys → same_id (identity_of ys) q ≡ true → (zs : Group) × (find same_tag g new ≡ Some zs) × (same_id (identity_of zs) q ≡ true)) →
+    ((g : Tag) (zs : Group) → find same_tag g new ≡ Some zs → same_id (identity_of zs) q ≡ true → (ys : Group) × (find same_tag g plan ≡ Some ys) × (same_id (identity_of ys) q ≡ true)) →
+    tag_named q new ≡ tag_named q plan
+tags-same plan new s t q to from = by (group_named q plan) refl
+  where
+    by : (o : Option (Tag × Group)) → group_named q plan ≡ o → tag_named q new ≡ option_map (λ (y : Tag × Group). y.0) (group_named q plan)
+    by None e =
+        ap (option_map (λ (y : Tag × Group). y.0)) (no_group_to q new t.tags (λ g zs h. false_from_ne_true (same_id (identity_of zs) q) (λ m. let w = from g zs h m in true≢false (sym w.2 ∙ no_group_from q plan e g w.0 w.1)))
+        ∙ sym e)
+    by (Some y) e =
+        let h = named-found q plan s.tags y e in
+        let w = to y.0 y.1 h.0 h.1 in
+        tag-named q new t y.0 w.0 w.1 w.2 ∙ sym (ap (option_map (λ (y : Tag × Group). y.0)) e)
+
 -- ---- any edit that keeps each group's identity
 
 module _ (plan new : rules.Plan) (sound : IsSound plan) (new_sound : IsSound new) (F : Tag → Group → Group) (is : new ≡ each F plan) (kept : (g : Tag) (ys : Group) → find same_tag g plan ≡ Some ys → identity_of (F g ys) ≡ identity_of ys) where
@@ -45,19 +61,9 @@ module _ (plan new : rules.Plan) (sound : IsSound plan) (new_sound : IsSound new
   new_here g ys e = ap (find same_tag g) is ∙ find-each tag_test F g plan ∙ ap (option_map (F g)) e
 
   pub tags-kept : (q : Id) → tag_named q new ≡ tag_named q plan
-  tags-kept q = by (group_named q plan) refl
-    where
-      by : (o : Option (Tag × Group)) → group_named q plan ≡ o → tag_named q new ≡ tag_named q plan
-      by None e = ap (option_map (λ (y : Tag × Group). y.0)) (no_group_to q new new_sound.tags (λ g zs h.
-          found-each tag_test F g zs plan (ap (find same_tag g) (sym is) ∙ h) (λ ys f z. ap (λ u. same_id (identity_of u) q) z ∙ ap (λ u. same_id u q) (kept g ys f) ∙ no_group_from q plan e g ys f)))
-          ∙ sym (ap (option_map (λ (y : Tag × Group). y.0)) e)
-      by (Some y) e =
-          let h = named-found q plan sound.tags y e in
-          tag-named q new new_sound y.0 (F y.0 y.1) (new_here y.0 y.1 h.0) (ap (λ u. same_id u q) (kept y.0 y.1 h.0) ∙ h.1) ∙ sym (ap (option_map (λ (y : Tag × Group). y.0)) e)
-
-pub map-id : {A : Type 0} (o : Option A) → option_map (λ a. a) o ≡ o
-map-id None = refl
-map-id (Some x) = refl
+  tags-kept q =
+      tags-same plan new sound new_sound q (λ g ys e m. (F g ys, new_here g ys e, ap (λ u. same_id u q) (kept g ys e) ∙ m))
+      (λ g zs h m. found-each tag_test F g zs plan (ap (find same_tag g) (sym is) ∙ h) (λ ys f z. (ys, f, ap (λ u. same_id u q) (sym (kept g ys f)) ∙ ap (λ u. same_id (identity_of u) q) (sym z) ∙ m)))
 
 -- ---- turning
 
@@ -74,9 +80,6 @@ module _ (plan : rules.Plan) (ids : IndexOf Tag) (names : IndexOf (set.BTreeSet 
   telegram-turned : (g : Tag) (t : ℕ) → telegram_at g t new ≡ option_map (telegram_after (0, TurnGroup g0) (identity_of ys0) g t) (telegram_at g t plan)
   telegram-turned g t = by (find same_tag g plan) refl
     where
-      Y : ℕ → Telegram → Telegram
-      Y t y = telegram_after (0, TurnGroup g0) (identity_of ys0) g t y
-
       either : (b : Bool) (zs : Group) → Distinct eqb zs → find eqb t (cond b (reverse zs) zs) ≡ find eqb t zs
       either true zs u = find-reverse nat_test t zs u
       either false zs u = refl
@@ -94,7 +97,7 @@ module _ (plan : rules.Plan) (ids : IndexOf Tag) (names : IndexOf (set.BTreeSet 
       (λ y v. refl)
       (λ y p x key v e. let n = not_other NidC QLinkorientation key refl e in let m = not_other NidC QDir key refl e in simp (n, m))
       (λ y p x k v. refl)
-      ∙ map-id (id_at w plan)
+      ∙ option_map_id (id_at w plan)
 
   kept : (g : Tag) (ys : Group) → find same_tag g plan ≡ Some ys → identity_of (group_after (0, TurnGroup g0) (identity_of ys0) g ys) ≡ identity_of ys
   kept g ys e = (groups_kept (0, TurnGroup g0) (identity_of ys0) plan held_is.sound accepted (λ g t y h. tt) g ys e).identity

@@ -1,5 +1,5 @@
 -- A telegram turned, step by step as the code does it.
-use Rattle.std.proofs.Common.{◌≡◌, ◌-◌, ◌<◌, ℕ, zero, suc, Bool, true, false, cond, not, ◌&&◌, ◌||◌, eqb, [], ◌∷◌, length, get_or, Option, Some, None, Result, Ok, Err, refl, sym, ap, subst, ◌∙◌, arith}
+use Rattle.std.proofs.Common.{◌≡◌, ◌-◌, ◌<◌, ℕ, zero, suc, Bool, true, false, not, ◌&&◌, ◌||◌, eqb, [], ◌∷◌, length, get_or, Option, Some, None, Result, Ok, Err, refl, sym, ap, subst, ◌∙◌, arith}
 use Rattle.std.specs.Option.{option_map}
 use Rattle.std.specs.Prelude.{is_none, unwrap_or, nat_lt}
 use Rattle.std.proofs.lemmas.Bool.{true≢false}
@@ -32,39 +32,25 @@ not_refused hs gs n d e v b = by (field_of MDup 0 hs) refl
         let wide : nat_lt (3 - d) 4 ≡ true = lt-ltb (3 - d) 4 (omega arith) in
         ap (λ o. first_of (when (is_none o) NoSuchVariable ∷ None ∷ when (not (nat_lt (3 - d) 4)) ValueTooWide ∷ [])) there ∙ ap (λ x. first_of (None ∷ None ∷ when (not x) ValueTooWide ∷ [])) wide
 
-headed : Telegram → Fields → Telegram
-headed y hs = record { head = hs; packets = y.packets; padding = y.padding }
-
 pub head_turned : (y y1 y2 : Telegram) (r : Result ℕ TelegramFault) (place last d : ℕ) → place ≡ value NPig 0 y.head → last ≡ value NTotal 0 y.head → d ≡ value MDup 0 y.head → (eqb d 1 || eqb d 2) ≡ true →
     y1 ≡ with_head NPig (last - place) y → SetsHead MDup (3 - d) y1 r y2 → y2 ≡ with_turned_head y
-unfolding headed
 head_turned y y1 y2 (Err f) place last d p l e b w s = absurd (let z = sym s.0 ∙ not_refused y.head y1.head (last - place) d (ap (λ (x : Telegram). x.head) w) (sym e) b in cc)
 head_turned y y1 y2 (Ok was) place last d p l e b w s =
     let q : (eqb (value MDup 0 y.head) 1 || eqb (value MDup 0 y.head) 2) ≡ true = ap (λ x. eqb x 1 || eqb x 2) (sym e) ∙ b in
-    s.2 ∙ ap (with_head MDup (3 - d)) w ∙ ap (λ k. headed y (with_value MDup 0 (3 - k) (with_value NPig 0 (last - place) y.head))) e
-    ∙ ap (λ k. headed y (with_value MDup 0 (3 - value MDup 0 y.head) (with_value NPig 0 (k - place) y.head))) l
-    ∙ ap (λ k. headed y (with_value MDup 0 (3 - value MDup 0 y.head) (with_value NPig 0 (value NTotal 0 y.head - k) y.head))) p
-    ∙ ap (λ c. headed y (cond c (with_value MDup 0 (3 - value MDup 0 y.head) (with_value NPig 0 (value NTotal 0 y.head - value NPig 0 y.head) y.head)) (with_value NPig 0 (value NTotal 0 y.head - value NPig 0 y.head) y.head))) (sym q)
+    s.2 ∙ rw (w, e, l, p, q) refl
 
 pub head_left : (y y1 : Telegram) (place last d : ℕ) → place ≡ value NPig 0 y.head → last ≡ value NTotal 0 y.head → d ≡ value MDup 0 y.head → (eqb d 1 || eqb d 2) ≡ false → y1 ≡ with_head NPig (last - place) y → y1 ≡ with_turned_head y
-unfolding headed
 head_left y y1 place last d p l e b w =
     let q : (eqb (value MDup 0 y.head) 1 || eqb (value MDup 0 y.head) 2) ≡ false = ap (λ x. eqb x 1 || eqb x 2) (sym e) ∙ b in
-    w ∙ ap (λ k. headed y (with_value NPig 0 (k - place) y.head)) l
-    ∙ ap (λ k. headed y (with_value NPig 0 (value NTotal 0 y.head - k) y.head)) p
-    ∙ ap (λ c. headed y (cond c (with_value MDup 0 (3 - value MDup 0 y.head) (with_value NPig 0 (value NTotal 0 y.head - value NPig 0 y.head) y.head)) (with_value NPig 0 (value NTotal 0 y.head - value NPig 0 y.head) y.head))) (sym q)
+    w ∙ rw (l, p, q) refl
 
 -- ---- packets, one after another
 
 pub marked : (a b : Bool) → (not a && not b) ≡ false → (a || b) ≡ true
-marked true b e = refl
-marked false true e = refl
-marked false false e = absurd (true≢false e)
+marked a b e = grind arith
 
 pub unmarked : (a b : Bool) → (not a && not b) ≡ true → (a || b) ≡ false
-unmarked true b e = absurd (true≢false (sym e))
-unmarked false true e = absurd (true≢false (sym e))
-unmarked false false e = refl
+unmarked a b e = grind arith
 
 pub totals_at : (f : ℕ → Telegram → Telegram) (i : ℕ) (xs : Group) (d : ℕ × Telegram) → FitsTotals xs → i < length xs → d ≡ get_or (each_to f i xs) i d → value NTotal 0 d.1.head < 8
 totals_at f i [] d u h e = absurd (omega (arith, h))

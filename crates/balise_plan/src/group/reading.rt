@@ -1,8 +1,8 @@
 //! A group read from the bits of its telegrams.
 
-ghost use Rattle.std.specs.Prelude.{◌≡◌, ◌≢◌, ◌+◌, ◌-◌, ◌<◌, ◌^◌, IfErr, IfOk, length, Bool, List, Ok, Err};
+ghost use Rattle.std.specs.Prelude.{◌≡◌, ◌≢◌, ◌+◌, ◌-◌, ◌<◌, ◌^◌, IfErr, IfOk, MatchResult, length, Bool, List, Ok, Err};
 ghost use Rattle.balise_plan.specs.GroupReading.{group_of, WereRead};
-ghost use Rattle.balise_rules.specs.Plan.{agree_from, read_group, IsSoundGroup};
+ghost use Rattle.balise_rules.specs.Plan.{agree_from, identity_of, read_group, IsSoundGroup};
 
 use crate::group::{Group, Telegrams, identity};
 use crate::one_or_more::OneOrMore;
@@ -32,16 +32,20 @@ impl Group {
             };
             read.push(telegram)?;
         }
-        Group::of_read(read)
+        match Group::of_read(read) {
+            Ok((_, group)) => Ok(group),
+            Err(refusal) => Err(refusal),
+        }
     }
 
-    // The group of telegrams that were read.
+    // The group of telegrams that were read, and its identity.
     #[inline(always)]
-    pub(crate) fn of_read(telegrams: Telegrams) -> Result<Group, Refusal>
+    pub(crate) fn of_read(telegrams: Telegrams) -> Result<(Id, Group), Refusal>
         requires { WereRead telegrams }
-        ensures group { result ≡ group_of telegrams }
-        ensures sound { IfOk result (λ g. IsSoundGroup g) }
-        ensures read { IfOk result (λ g. (bs : List (List Bool)) × (read_group bs ≡ Ok g)) }
+        ensures group { MatchResult result (λ r. group_of telegrams ≡ Ok r.1) (λ e. group_of telegrams ≡ Err e) }
+        ensures own { IfOk result (λ r. r.0 ≡ identity_of r.1) }
+        ensures sound { IfOk result (λ r. IsSoundGroup r.1) }
+        ensures read { IfOk result (λ r. (bs : List (List Bool)) × (read_group bs ≡ Ok r.1)) }
     {
         let count = telegrams.len();
         if count == 0 {
@@ -54,7 +58,7 @@ impl Group {
         if id.number == NO_GROUP {
             return Err(Refusal::NumberReserved);
         }
-        Ok(Group { telegrams })
+        Ok((id, Group { telegrams }))
     }
 }
 

@@ -1,47 +1,60 @@
 //! All links of a group in the index of names.
 
-ghost use Rattle.std.specs.Prelude.{◌≡◌, OnOk, OnErr};
+ghost use Rattle.std.specs.Prelude.{◌≡◌, IsOk, OnOk, OnErr, false};
 ghost use Rattle.balise_rules.specs.Plan.{country_of};
-ghost use Rattle.balise_plan.specs.GroupLinks.{links_in_group, links_in_packets, AddsAll, ForgetsAll, KeepsOthers};
+ghost use Rattle.balise_plan.specs.GroupLinks.{links_in_group, links_in_packets, KeepsOthers, SetsAll};
 ghost use Rattle.balise_index.specs.NameIndex.{names_of, tags_of};
 
 use crate::group::Group;
-use crate::links::packet::{add_packet, forget_packet};
+use crate::links::packet::set_packet;
 use crate::packet_place::PacketPlace;
 use balise_index::NameIndex;
 use balise_rules::Tag;
 use balise_telegram::Telegram;
 use std::alloc::{AllocError, Global};
 
-/// Notes the links of a group, packet by packet. Where memory runs out, some of them may be noted.
-pub(crate) fn add_group(
+/// Notes the links of a group, packet by packet, or with `noted` false forgets them, which takes no memory. Where memory
+/// runs out, some of them may be noted.
+pub(crate) fn set_group(
     alloc: Global,
     index: &mut NameIndex,
     g: Tag,
     group: &Group,
+    noted: bool,
 ) -> Result<(), AllocError>
-    ensures added { OnOk result (AddsAll (links_in_group g group.now) (names_of index.old) (names_of index.new)) }
+    ensures set { OnOk result (SetsAll noted (links_in_group g group.now) (names_of index.old) (names_of index.new)) }
     ensures others { OnErr result (KeepsOthers (links_in_group g group.now) (names_of index.old) (names_of index.new)) }
+    ensures never { noted ≡ false → IsOk result }
     ensures tags { tags_of index.new ≡ tags_of index.old }
 {
     for i in 0..group.count() {
         let Some((t, telegram)) = group.at(i) else {
             return Ok(());
         };
-        add_telegram(alloc, index, g, t, telegram)?;
+        set_telegram(alloc, index, g, t, telegram, noted)?;
     }
     Ok(())
 }
 
-fn add_telegram(
+/// Forgets the links of a group. Takes no memory.
+pub(crate) fn forget_group(alloc: Global, index: &mut NameIndex, g: Tag, group: &Group)
+    ensures forgotten { SetsAll false (links_in_group g group.now) (names_of index.old) (names_of index.new) }
+    ensures tags { tags_of index.new ≡ tags_of index.old }
+{
+    let _ = set_group(alloc, index, g, group, false);
+}
+
+fn set_telegram(
     alloc: Global,
     index: &mut NameIndex,
     g: Tag,
     t: u32,
     telegram: &Telegram,
+    noted: bool,
 ) -> Result<(), AllocError>
-    ensures added { OnOk result (AddsAll (links_in_packets g t (country_of telegram.now) telegram.now.packets) (names_of index.old) (names_of index.new)) }
+    ensures set { OnOk result (SetsAll noted (links_in_packets g t (country_of telegram.now) telegram.now.packets) (names_of index.old) (names_of index.new)) }
     ensures others { OnErr result (KeepsOthers (links_in_packets g t (country_of telegram.now) telegram.now.packets) (names_of index.old) (names_of index.new)) }
+    ensures never { noted ≡ false → IsOk result }
     ensures tags { tags_of index.new ≡ tags_of index.old }
 {
     let country = telegram.identity().country;
@@ -51,35 +64,7 @@ fn add_telegram(
             telegram: t,
             packet: p,
         };
-        add_packet(alloc, index, place, country, &packet)?;
+        set_packet(alloc, index, place, country, &packet, noted)?;
     }
     Ok(())
-}
-
-/// Forgets the links of a group, packet by packet. Takes no memory.
-pub(crate) fn forget_group(index: &mut NameIndex, g: Tag, group: &Group)
-    ensures forgotten { ForgetsAll (links_in_group g group.now) (names_of index.old) (names_of index.new) }
-    ensures tags { tags_of index.new ≡ tags_of index.old }
-{
-    for i in 0..group.count() {
-        let Some((t, telegram)) = group.at(i) else {
-            return;
-        };
-        forget_telegram(index, g, t, telegram);
-    }
-}
-
-fn forget_telegram(index: &mut NameIndex, g: Tag, t: u32, telegram: &Telegram)
-    ensures forgotten { ForgetsAll (links_in_packets g t (country_of telegram.now) telegram.now.packets) (names_of index.old) (names_of index.new) }
-    ensures tags { tags_of index.new ≡ tags_of index.old }
-{
-    let country = telegram.identity().country;
-    for (p, packet) in telegram.packets() {
-        let place = PacketPlace {
-            group: g,
-            telegram: t,
-            packet: p,
-        };
-        forget_packet(index, place, country, &packet);
-    }
 }

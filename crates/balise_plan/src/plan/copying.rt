@@ -22,7 +22,8 @@ impl Plan {
                 break;
             };
             let group = group.copy()?;
-            if put_at(&mut groups, &mut index, i, tag, group).is_err() {
+            let own = group.sound_identity();
+            if put_at(&mut groups, &mut index, i, tag, own, group).is_err() {
                 return Err(Refusal::OutOfMemory);
             }
         }

@@ -34,7 +34,8 @@ impl Plan {
         let Some(i) = place_of(&self.groups, spot) else {
             return Err((Refusal::NoSuchGroup, group));
         };
-        match put_at(&mut self.groups, &mut self.index, i, g, group) {
+        let own = group.sound_identity();
+        match put_at(&mut self.groups, &mut self.index, i, g, own, group) {
             Ok(()) => {
                 self.changes += 1;
                 Ok(())
@@ -52,11 +53,12 @@ impl Plan {
         ensures taken { IfOk result (λ r. ((noted (DropGroup g) self.old.groups).group ≡ Some r.0) × ((noted (DropGroup g) self.old.groups).before ≡ r.1)) }
         ensures sound { IfOk result (λ r. IsSoundGroup r.0) }
     {
+        let alloc = self.groups.allocator();
         let Some(group) = self.groups.get(g) else {
             return Err(Refusal::NoSuchGroup);
         };
         let own = group.sound_identity();
-        forget_group(&mut self.index, g, group);
+        forget_group(alloc, &mut self.index, g, group);
         self.index.forget_tag(own);
         let (i, group) = self.groups.remove(g).unwrap();
         let before = tag_at(&self.groups, i);

@@ -11,7 +11,7 @@ ghost use Rattle.balise_rules.specs.Telegram.{Telegram, version_of};
 ghost use Rattle.balise_plan.specs.Held.{Does, MayChange};
 ghost use Rattle.balise_plan.specs.Spots.{PutsPacket, ShiftsPacket};
 
-use crate::links::packet::{add_packet, forget_packet};
+use crate::links::packet::{forget_packet, set_packet};
 use crate::packet_place::PacketPlace;
 use crate::plan::Plan;
 use balise_index::Spot;
@@ -49,12 +49,12 @@ impl Plan {
             telegram: t,
             packet: p,
         };
-        if add_packet(alloc, &mut self.index, place, country, &packet.lend()).is_err() {
-            forget_packet(&mut self.index, place, country, &packet.lend());
+        if set_packet(alloc, &mut self.index, place, country, &packet.lend(), true).is_err() {
+            forget_packet(alloc, &mut self.index, place, country, &packet.lend());
             return Err((Refusal::OutOfMemory, packet));
         }
         if let Err((fault, packet)) = group.put_packet(t, spot, p, packet) {
-            forget_packet(&mut self.index, place, country, &packet.lend());
+            forget_packet(alloc, &mut self.index, place, country, &packet.lend());
             return Err((fault, packet));
         }
         self.changes += 1;
@@ -70,6 +70,7 @@ impl Plan {
         ensures does { Does (DeletePacket g t p) self.old result self.new }
         ensures taken { IfOk result (λ r. ((noted (DeletePacket g t p) self.old.groups).packet ≡ Some r.0) × ((noted (DeletePacket g t p) self.old.groups).before ≡ r.1)) }
     {
+        let alloc = self.groups.allocator();
         let Some(group) = self.groups.get_mut(g) else {
             return Err(Refusal::NoSuchGroup);
         };
@@ -85,7 +86,7 @@ impl Plan {
             telegram: t,
             packet: p,
         };
-        forget_packet(&mut self.index, place, country, &taken.lend());
+        forget_packet(alloc, &mut self.index, place, country, &taken.lend());
         self.changes += 1;
         Ok((taken, next))
     }

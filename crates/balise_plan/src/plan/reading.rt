@@ -2,7 +2,7 @@
 
 ghost use Rattle.std.specs.Prelude.{◌≡◌, ◌≢◌, Bool, IfErr, IfOk, OnOk, Ok, Err, List, map, []};
 ghost use Rattle.balise_plan.specs.GroupReading.{PushesGroup, PushesRead};
-ghost use Rattle.balise_rules.specs.Plan.{identity_of, pushed, read_plan};
+ghost use Rattle.balise_rules.specs.Plan.{identity_of, pushed, read_plan, IsSoundGroup};
 ghost use Rattle.balise_plan.specs.Spots.{Pushes};
 ghost use Rattle.balise_index.specs.NameIndex.{indexed, tags_of, IsUnclaimed};
 
@@ -11,7 +11,7 @@ use crate::group_places::{is_taken, put_at};
 use crate::group_reader::GroupReader;
 use crate::plan::Plan;
 use balise_index::{NameIndex, OrderedMap};
-use balise_rules::{Refusal, Tag};
+use balise_rules::{Id, Refusal, Tag};
 use balise_telegram::Bits;
 use std::alloc::Global;
 
@@ -42,7 +42,8 @@ impl Plan {
             Ok(group) => group,
             Err(fault) => return Err(fault),
         };
-        self.push_read(group)
+        let own = group.sound_identity();
+        self.push_read(own, group)
     }
 
     /// Puts the group of telegrams that were read in at the end, under the tag of its place, which counts as no change.
@@ -54,24 +55,26 @@ impl Plan {
         ensures pushes { PushesRead group self.old result self.new }
         ensures read { OnOk result ((bs : List (List Bool)) × (pushed self.old.groups bs ≡ Ok self.new.groups)) }
     {
-        let group = match group.done() {
-            Ok(group) => group,
-            Err(fault) => return Err(fault),
-        };
-        self.push_read(group)
+        match group.identified() {
+            Ok((own, group)) => self.push_read(own, group),
+            Err(fault) => Err(fault),
+        }
     }
 
-    // Puts a group in at the end, under the tag of its place.
-    fn push_read(&mut self, group: Group) -> Result<(), Refusal>
-        requires { self.old.changes ≡ 0 }
+    // Puts a group of this identity in at the end, under the tag of its place.
+    fn push_read(&mut self, own: Id, group: Group) -> Result<(), Refusal>
+        requires count { self.old.changes ≡ 0 }
+        requires own { own ≡ identity_of group }
+        requires sound { IsSoundGroup group }
         ensures { PushesGroup group self.old result self.new }
     {
         let place = self.groups.len();
         if place >= 4294967296 {
-            return Err(no_tag_for(&self.index, &group));
+            return Err(no_tag_for(&self.index, own));
         }
         let tag = Tag::Base(place as u32);
-        if let Err((refusal, _)) = put_at(&mut self.groups, &mut self.index, place, tag, group) {
+        let index = &mut self.index;
+        if let Err((refusal, _)) = put_at(&mut self.groups, index, place, tag, own, group) {
             return Err(refusal);
         }
         Ok(())
@@ -94,11 +97,11 @@ impl Plan {
     }
 }
 
-// Why a group isn't put in where no tag counts its place.
-fn no_tag_for(index: &NameIndex, group: &Group) -> Refusal
-    ensures { IsUnclaimed result (indexed (tags_of index.now) (identity_of group.now)) }
+// Why a group of an identity isn't put in where no tag counts its place.
+fn no_tag_for(index: &NameIndex, own: Id) -> Refusal
+    ensures { IsUnclaimed result (indexed (tags_of index.now) own) }
 {
-    if is_taken(index, group.identity()) {
+    if is_taken(index, own) {
         Refusal::GroupTwice
     } else {
         Refusal::OutOfMemory

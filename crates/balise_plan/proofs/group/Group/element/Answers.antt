@@ -5,6 +5,7 @@ use Rattle.balise_rules.specs.Tagged.{find}
 use Rattle.balise_rules.specs.Plan.{country_of}
 use Rattle.balise_rules.specs.Names.{links_of}
 use Rattle.balise_rules.specs.Doing.{first_of, when}
+use Rattle.balise_rules.proofs.Tests.{nat_test}
 use Rattle.balise_telegram.specs.Packed.{links_found}
 use Rattle.balise_plan.specs.ElementIn.{element_refusal, link_refusal}
 use Rattle.balise_plan.specs.OneOrMore.{tag_at}
@@ -17,7 +18,7 @@ returns-in_default-clause-fault c = ap (element_refusal c.args.p c.args.k) (foun
 
 -- the telegram stands
 there : (c : After-packet) → find eqb c.args.t c.args.self.now ≡ Some c.index-telegram.result.now
-there c = found_at eqb c.args.t c.self.inside.telegrams c.args.self.now c.self.view_is c.in-Some.i c.in-Some.ensures (tag_at c.self.inside.telegrams c.in-Some.i, c.index-telegram.result.now) c.index-telegram.ensures
+there c = found_at nat_test (record { view = c.self.view_is; place = c.in-Some.i; key = tag_at c.self.inside.telegrams c.in-Some.i; found = c.in-Some.ensures; is = c.index-telegram.ensures })
 
 -- and its packet too
 links : (c : After-get) → slice_get (links_of (country_of c.index-telegram.result.now) c.in-Some-packet.packet) c.args.k ≡ c.get.result

@@ -2,15 +2,16 @@ use Rattle.std.proofs.Common.{sym, ◌∙◌, ◌≡◌, None, Some}
 use Rattle.balise_rules.specs.Tagged.{find}
 use Rattle.balise_rules.specs.Tags.{same_tag}
 use Rattle.balise_rules.proofs.Tests.{tag_test}
+use Rattle.balise_rules.proofs.Each.{each-absent}
 use Rattle.balise_plan.specs.Walks.{turned_group}
-use Rattle.balise_plan.proofs.items.Places.{absent-each, value-each}
+use Rattle.balise_plan.proofs.items.Places.{value-each}
 use Rattle.balise_plan.proofs.links.walk.turn_group.Goals as goal
 
 pub returns-in_default : goal.returns-in_default
 returns-in_default c =
     let n : None ≡ find same_tag c.args.g c.args.groups.now.entries = c.in_default.ensures.value in
     let l = c.get_mut.follows.holds-at-none in
-    rw l (sym (absent-each same_tag c.args.g turned_group c.args.groups.now.entries (sym n)))
+    rw l (sym (each-absent same_tag c.args.g turned_group c.args.groups.now.entries (sym n)))
 
 pub returns : goal.returns
 returns c =

@@ -6,7 +6,7 @@ use Rattle.balise_plan.proofs.plan.Plan.push_read.Goals as goal
 pub put_at-requires-clause-new : goal.put_at-requires-clause-new
 put_at-requires-clause-new c =
     let plan = c.self.inside.groups.entries in
-    let none : c.self.inside.changes ≡ 0 = ap (λ p. p.changes) c.self.view_is ∙ c.requires in
+    let none : c.self.inside.changes ≡ 0 = ap (λ p. p.changes) c.self.view_is ∙ c.requires.count in
     let at : 0 + length plan ≡ c.len-place.result = omega (arith, c.len-place.ensures) in
     later-new 0 c.len-place.result plan (c.self.invariant.based none) at
 

@@ -1,4 +1,4 @@
-use Rattle.std.proofs.Common.{rules, ◌≡◌, ◌∙◌, position, option_map, slice_get, sym, ap, subst, Some, None}
+use Rattle.std.proofs.Common.{rules, ◌≡◌, ◌∙◌, position, option_map, slice_get, sym, ap, subst, Some, None, false}
 use Rattle.std.specs.Map.{keys_of, remove_entry}
 use Rattle.balise_rules.specs.declared.tag.Tag.{Tag}
 use Rattle.balise_rules.specs.Tagged.{behind}
@@ -8,7 +8,7 @@ use Rattle.balise_rules.specs.Notes.{noted}
 use Rattle.balise_rules.specs.Plan.{Group, IsSoundGroup}
 use Rattle.balise_rules.proofs.Cases.{unsome}
 use Rattle.balise_index.specs.NameIndex.{names_of, tags_of, Updates}
-use Rattle.balise_plan.specs.GroupLinks.{links_in_group, ForgetsAll}
+use Rattle.balise_plan.specs.GroupLinks.{links_in_group, SetsAll}
 use Rattle.balise_plan.proofs.groups.Dropped.{dropped, noted-group, noted-before}
 use Rattle.balise_plan.proofs.items.KeyPlaces.{at-key, behind-place}
 use Rattle.balise_plan.proofs.plans.Pushed.{changed-to}
@@ -22,7 +22,7 @@ left c =
     let ids = tags_of c.self.inside.index in
     let gone : Updates (tags_of c.forget_group.new.index) (tags_of c.forget_tag.new.self) c.sound_identity-own.result None = search rules in
     let out = subst (λ t. Updates t (tags_of c.forget_tag.new.self) c.sound_identity-own.result None) c.forget_group.ensures.tags (λ q. gone q) in
-    let forgets = subst (ForgetsAll (links_in_group c.args.g c.in-Some.group.now) (names_of c.self.inside.index)) (sym c.forget_tag.ensures.names) c.forget_group.ensures.forgotten in
+    let forgets = subst (SetsAll false (links_in_group c.args.g c.in-Some.group.now) (names_of c.self.inside.index)) (sym c.forget_tag.ensures.names) c.forget_group.ensures.forgotten in
     dropped c.self.inside.groups.entries ids (names_of c.self.inside.index) c.self.invariant.held c.args.g c.in-Some.group.now (sym c.in-Some.ensures.value) (names_of c.forget_tag.new.self) forgets c.sound_identity-own.result c.sound_identity-own.ensures.is (tags_of c.forget_tag.new.self) (λ q. out q)
 
 pub invariant_of-self : goal.invariant_of-self

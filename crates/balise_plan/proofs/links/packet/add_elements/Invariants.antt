@@ -1,7 +1,0 @@
-use Rattle.std.proofs.Common.{drop}
-use Rattle.balise_plan.specs.GroupLinks.{links_from}
-use Rattle.balise_plan.proofs.naming.Parts.{Adding}
-use Rattle.balise_plan.proofs.links.packet.add_elements.Given as goal
-
-abbrev pub invariant-loop-k : goal.invariant-loop-k
-invariant-loop-k l = Adding (links_from l.place.group l.place.telegram l.place.packet 0 l.identities) (links_from l.place.group l.place.telegram l.place.packet l.k (drop l.k l.identities)) l.initial.index l.index

@@ -9,8 +9,7 @@ use Rattle.balise_rules.specs.Telegram.{Telegram}
 use Rattle.balise_rules.specs.Plan.{Group, Plan, country_of, telegram_at}
 use Rattle.balise_rules.specs.Edits.{Edit}
 use Rattle.balise_rules.specs.declared.tagged_edit.TaggedEdit.TheVariants.{SetVar, SetHead, InsertPacket, DeletePacket, MovePacket, AddGroup, DropGroup, Renumber, TurnGroup}
-use Rattle.balise_rules.specs.Notes.{Note, noted, note_at, note_drop, note_group, set_note, without_content}
-use Rattle.balise_rules.specs.Doing.{done}
+use Rattle.balise_rules.specs.Notes.{Note, noted, note_at, note_in, note_drop, note_group, set_note, without_content}
 use Rattle.balise_rules.specs.Back.{back}
 use Rattle.balise_rules.specs.Paths.{Entry}
 use Rattle.balise_edit_laws.specs.GoesBack.{AsksBack}
@@ -26,32 +25,25 @@ bare_set : (v : Var) (k n c : ℕ) (o : Option Packet) → IsBare (set_note v k 
 bare_set v k n c None = refl
 bare_set v k n c (Some x) = refl
 
-bare_var : (g : Tag) (t : ℕ) (p : Tag) (v : Var) (k n : ℕ) (o : Option Telegram) → IsBare (note_at (SetVar g t p v k n) o)
-bare_var g t p v k n None = refl
-bare_var g t p v k n (Some y) = bare_set v k n (country_of y) (find same_tag p y.packets)
+bare_in : (e : Edit) (y : Telegram) → takes_out e ≡ false → IsBare (note_in e y)
+bare_in (SetVar g t p v k n) y h = bare_set v k n (country_of y) (find same_tag p y.packets)
+bare_in (DeletePacket g t p) y h = absurd (cc)
+bare_in e y h = refl
 
-bare_head : (g : Tag) (t : ℕ) (v : Var) (n : ℕ) (o : Option Telegram) → IsBare (note_at (SetHead g t v n) o)
-bare_head g t v n None = refl
-bare_head g t v n (Some y) = refl
-
-bare_insert : (g : Tag) (t : ℕ) (a : Option Tag) (x : Packet) (o : Option Telegram) → IsBare (note_at (InsertPacket g t a x) o)
-bare_insert g t a x None = refl
-bare_insert g t a x (Some y) = refl
-
-bare_move : (g : Tag) (t : ℕ) (p : Tag) (a : Option Tag) (o : Option Telegram) → IsBare (note_at (MovePacket g t p a) o)
-bare_move g t p a None = refl
-bare_move g t p a (Some y) = refl
+bare_at : (e : Edit) (o : Option Telegram) → takes_out e ≡ false → IsBare (note_at e o)
+bare_at e None h = refl
+bare_at e (Some y) h = bare_in e y h
 
 bare_group : (o : Option Group) → IsBare (note_group o)
 bare_group None = refl
 bare_group (Some ys) = refl
 
 bare_noted : (e : Edit) (plan : Plan) → takes_out e ≡ false → IsBare (noted e plan)
-bare_noted (SetVar g t p v k n) plan h = bare_var g t p v k n (telegram_at g t plan)
-bare_noted (SetHead g t v n) plan h = bare_head g t v n (telegram_at g t plan)
-bare_noted (InsertPacket g t a x) plan h = bare_insert g t a x (telegram_at g t plan)
+bare_noted (SetVar g t p v k n) plan h = bare_at (SetVar g t p v k n) (telegram_at g t plan) h
+bare_noted (SetHead g t v n) plan h = bare_at (SetHead g t v n) (telegram_at g t plan) h
+bare_noted (InsertPacket g t a x) plan h = bare_at (InsertPacket g t a x) (telegram_at g t plan) h
 bare_noted (DeletePacket g t p) plan h = absurd (cc)
-bare_noted (MovePacket g t p a) plan h = bare_move g t p a (telegram_at g t plan)
+bare_noted (MovePacket g t p a) plan h = bare_at (MovePacket g t p a) (telegram_at g t plan) h
 bare_noted (AddGroup a bs) plan h = refl
 bare_noted (DropGroup g) plan h = absurd (cc)
 bare_noted (Renumber g n) plan h = bare_group (find same_tag g plan)

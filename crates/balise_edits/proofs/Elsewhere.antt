@@ -1,13 +1,13 @@
 -- Edits of different telegrams are apart, and those of a telegram and of another group where no identity is named.
 use Rattle.std.proofs.Common.{◌≡◌, ◌∙◌, ◌%◌, ℕ, refl, sym, ap, Bool, true, false, cond, ◌&&◌, ◌||◌, not, List, [], ◌∷◌, ◌++◌, eqb, length, Option, Some, None, arith}
-use Rattle.std.proofs.lemmas.Bool.{eqb-true, true≢false}
+use Rattle.std.proofs.lemmas.Bool.{and_left, and_parts, and_right, eqb-true, not-false, not-true, true≢false}
 use Rattle.balise_rules.specs.declared.variable.Var.TheVariants.{NidBg, QLinkorientation, QDir, MDup}
 use Rattle.balise_rules.specs.declared.identity.Id.{Id}
 use Rattle.balise_rules.specs.declared.tag.Tag.{Tag}
 use Rattle.balise_rules.specs.Tags.{same_tag, same_var}
 use Rattle.balise_rules.specs.Edits.{Edit}
 use Rattle.balise_rules.specs.declared.tagged_edit.TaggedEdit.TheVariants.{SetVar, SetHead, InsertPacket, DeletePacket, MovePacket, AddGroup, DropGroup, Renumber, TurnGroup}
-use Rattle.balise_rules.specs.Paths.{Path, Entry, At, Nth, Of, Turn, After, Front, Whose, anchor, neighbour, changes, needs, ids, meet, meets_any, any_meets, room_apart, apart}
+use Rattle.balise_rules.specs.Paths.{Path, Entry, At, Nth, Turn, After, Front, Whose, anchor, neighbour, changes, needs, ids, meet, meets_any, any_meets, room_apart, apart}
 use Rattle.balise_rules.specs.Behind.{anchored}
 use Rattle.balise_rules.proofs.Tests.{equal_yes, flip_no, split_keys, test-sym, tag_test, nat_test}
 use Rattle.balise_strike_laws.proofs.Symmetry.{symmetric}
@@ -40,8 +40,7 @@ and-more true false c h = refl
 and-more false b c h = refl
 
 and-no : (a : Bool) → (a && false) ≡ false
-and-no true = refl
-and-no false = refl
+and-no a = and_right a false refl
 
 far-inside : {g g1 : Tag} → {t t1 : ℕ} → (same_tag g g1 && eqb t t1) ≡ false → (p q : Path) → Inside g t p → Beside g1 t1 q → meet p q ≡ false
 far-inside {g} {g1} {t} {t1} d p q (inside r) (within r1) = and-more (same_tag g g1) (eqb t t1) (meet r r1) d
@@ -65,25 +64,27 @@ each-both : (Q : Path → Type 0) → (ps qs : List Path) → Each Q ps → Each
 each-both Q [] qs a b = b
 each-both Q (p ∷ ps) qs a b = (a.0, each-both Q ps qs a.1 b)
 
-each-beside : (g : Tag) → (t : ℕ) → (ps : List Path) → Each (Inside g t) ps → Each (Beside g t) ps
-each-beside g t [] a = tt
-each-beside g t (p ∷ ps) a = (one p a.0, each-beside g t ps a.1) where
-  one : (p : Path) → Inside g t p → Beside g t p
-  one p (inside r) = within r
+each-as : {P Q : Path → Type 0} → ((p : Path) → P p → Q p) → (ps : List Path) → Each P ps → Each Q ps
+each-as f [] a = tt
+each-as f (p ∷ ps) a = (f p a.0, each-as f ps a.1)
 
-each-named : (g : Tag) → (t : ℕ) → (is : List Id) → Each (Beside g t) (ids is)
-each-named g t [] = tt
-each-named g t (i ∷ is) = (named i, each-named g t is)
+beside : {g : Tag} → {t : ℕ} → (p : Path) → Inside g t p → Beside g t p
+beside p (inside r) = within r
 
-needs-var : (g : Tag) → (t : ℕ) → (a b c : Bool) → (r : Path) → (is : List Id) → Each (Beside g t) (cond a ((At g ∷ Turn ∷ []) ∷ []) (cond b ((At g ∷ Nth t ∷ r) ∷ ids is) (cond c (ids is) [])))
-needs-var g t true b c r is = (turned, tt)
-needs-var g t false true c r is = (within r, each-named g t is)
-needs-var g t false false true r is = each-named g t is
-needs-var g t false false false r is = tt
+each-id : (Q : Path → Type 0) → ((i : Id) → Q (Whose i ∷ [])) → (is : List Id) → Each Q (ids is)
+each-id Q f [] = tt
+each-id Q f (i ∷ is) = (f i, each-id Q f is)
 
-needs-head : (g : Tag) → (t : ℕ) → (a : Bool) → Each (Beside g t) (cond a ((At g ∷ Turn ∷ []) ∷ []) [])
-needs-head g t true = (turned, tt)
-needs-head g t false = tt
+-- what a setting in a packet, or in a header, needs by its variable
+each-var : (Q : Path → Type 0) → (p q : Path) → (is : List Id) → Q p → Q q → Each Q (ids is) → (a b c : Bool) → Each Q (cond a (p ∷ []) (cond b (q ∷ ids is) (cond c (ids is) [])))
+each-var Q p q is x y z true b c = (x, tt)
+each-var Q p q is x y z false true c = (y, z)
+each-var Q p q is x y z false false true = z
+each-var Q p q is x y z false false false = tt
+
+each-head : (Q : Path → Type 0) → (p : Path) → Q p → (a : Bool) → Each Q (cond a (p ∷ []) [])
+each-head Q p x true = (x, tt)
+each-head Q p x false = tt
 
 -- ---- the same without identities, beside another group
 
@@ -99,50 +100,26 @@ data Round (h : Tag) : Path → Type 0 where
   in_front : (b : Option Tag) → Round h (neighbour b ∷ Front ∷ [])
   whose : (i : Id) → Round h (Whose i ∷ [])
 
-no-and : (a b : Bool) → a ≡ false → (a && b) ≡ false
-no-and a b e = ap (λ x. x && b) e
-
 far-alone : {g h : Tag} → {t : ℕ} → same_tag g h ≡ false → (p q : Path) → Alone g t p → Round h q → meet p q ≡ false
-far-alone {g} {h} {t} d p q (alone r) (in_it k) = no-and (same_tag g h) (meet (Nth t ∷ r) k) d
+far-alone {g} {h} {t} d p q (alone r) (in_it k) = and_left (same_tag g h) (meet (Nth t ∷ r) k) d
 far-alone {g} d p q (alone r) (behind None) = refl
 far-alone {g} d p q (alone r) (behind (Some a)) = and-no (same_tag g a)
 far-alone {g} d p q (alone r) (in_front None) = refl
 far-alone {g} d p q (alone r) (in_front (Some b)) = and-no (same_tag g b)
 far-alone d p q (alone r) (whose i) = refl
-far-alone {g} {h} d p q turn (in_it k) = no-and (same_tag g h) (meet (Turn ∷ []) k) d
+far-alone {g} {h} d p q turn (in_it k) = and_left (same_tag g h) (meet (Turn ∷ []) k) d
 far-alone {g} d p q turn (behind None) = refl
 far-alone {g} d p q turn (behind (Some a)) = and-no (same_tag g a)
 far-alone {g} d p q turn (in_front None) = refl
 far-alone {g} d p q turn (in_front (Some b)) = and-no (same_tag g b)
 far-alone d p q turn (whose i) = refl
 
-each-alone : (g : Tag) → (t : ℕ) → (ps : List Path) → Each (Inside g t) ps → Each (Alone g t) ps
-each-alone g t [] a = tt
-each-alone g t (p ∷ ps) a = (one p a.0, each-alone g t ps a.1) where
-  one : (p : Path) → Inside g t p → Alone g t p
-  one p (inside r) = alone r
-
-each-whose : (h : Tag) → (is : List Id) → Each (Round h) (ids is)
-each-whose h [] = tt
-each-whose h (i ∷ is) = (whose i, each-whose h is)
-
-not-false : (b : Bool) → not b ≡ false → b ≡ true
-not-false true h = refl
-not-false false h = absurd (cc)
+lone : {g : Tag} → {t : ℕ} → (p : Path) → Inside g t p → Alone g t p
+lone p (inside r) = alone r
 
 none-named : (g : Tag) → (t : ℕ) → (is : List Id) → are_named is ≡ false → Each (Alone g t) (ids is)
 none-named g t [] e = tt
 none-named g t (i ∷ is) e = absurd (let w = eqb-true (length (i ∷ is)) 0 (not-false (eqb (length (i ∷ is)) 0) e) in omega (arith, w))
-
-alone-var : (g : Tag) → (t : ℕ) → (a b c : Bool) → (r : Path) → (is : List Id) → are_named is ≡ false → Each (Alone g t) (cond a ((At g ∷ Turn ∷ []) ∷ []) (cond b ((At g ∷ Nth t ∷ r) ∷ ids is) (cond c (ids is) [])))
-alone-var g t true b c r is e = (turn, tt)
-alone-var g t false true c r is e = (alone r, none-named g t is e)
-alone-var g t false false true r is e = none-named g t is e
-alone-var g t false false false r is e = tt
-
-alone-head : (g : Tag) → (t : ℕ) → (a : Bool) → Each (Alone g t) (cond a ((At g ∷ Turn ∷ []) ∷ []) [])
-alone-head g t true = (turn, tt)
-alone-head g t false = tt
 
 -- where the places of an entry lie
 abbrev Lies : Lying → Entry → Type 0
@@ -153,27 +130,23 @@ abbrev lies_at : Entry → Lying
 lies_at e = lying e.0.0 e.0.1 e.1.names
 
 lies : (e : Entry) → Lies (lies_at e) e
-lies ((s, SetVar g t p v k n), m) = ((inside _, tt), needs-var g t (same_var QDir v) (same_var QLinkorientation v) (same_var NidBg v) (At p ∷ Of NidBg ∷ Nth k ∷ []) m.names, alone-var g t (same_var QDir v) (same_var QLinkorientation v) (same_var NidBg v) (At p ∷ Of NidBg ∷ Nth k ∷ []) m.names)
-lies ((s, SetHead g t v n), m) = ((inside _, tt), needs-head g t (same_var MDup v), λ e. alone-head g t (same_var MDup v))
-lies ((s, InsertPacket g t a x), m) = ((inside _, (inside _, tt)), (turned, each-named g t m.names), λ e. (turn, none-named g t m.names e))
-lies ((s, DeletePacket g t p), m) = ((inside _, (inside _, tt)), (turned, each-named g t m.names), λ e. (turn, none-named g t m.names e))
+lies ((s, SetVar g t p v k n), m) =
+    let a = same_var QDir v in let b = same_var QLinkorientation v in let c = same_var NidBg v in
+    ((inside _, tt), each-var (Beside g t) _ _ m.names turned (within _) (each-id (Beside g t) named m.names) a b c, λ e. each-var (Alone g t) _ _ m.names turn (alone _) (none-named g t m.names e) a b c)
+lies ((s, SetHead g t v n), m) = ((inside _, tt), each-head (Beside g t) _ turned (same_var MDup v), λ e. each-head (Alone g t) _ turn (same_var MDup v))
+lies ((s, InsertPacket g t a x), m) = ((inside _, (inside _, tt)), (turned, each-id (Beside g t) named m.names), λ e. (turn, none-named g t m.names e))
+lies ((s, DeletePacket g t p), m) = ((inside _, (inside _, tt)), (turned, each-id (Beside g t) named m.names), λ e. (turn, none-named g t m.names e))
 lies ((s, MovePacket g t p a), m) = ((inside _, (inside _, (inside _, (inside _, tt)))), tt, λ e. tt)
-lies ((s, AddGroup a bs), m) = ((in_it _, (behind a, (whose _, tt))), each-whose _ m.names)
-lies ((s, DropGroup g), m) = ((in_it _, (in_front m.before, (whose _, tt))), each-whose _ m.names)
+lies ((s, AddGroup a bs), m) = ((in_it _, (behind a, (whose _, tt))), each-id (Round _) whose m.names)
+lies ((s, DropGroup g), m) = ((in_it _, (in_front m.before, (whose _, tt))), each-id (Round _) whose m.names)
 lies ((s, Renumber g n), m) = ((in_it _, (whose _, (whose _, tt))), tt)
 lies ((s, TurnGroup g), m) = ((in_it _, (whose _, tt)), tt)
 
 other-way : (g g1 : Tag) → (t t1 : ℕ) → (same_tag g1 g && eqb t1 t) ≡ (same_tag g g1 && eqb t t1)
 other-way g g1 t t1 = ap (λ b. b && eqb t1 t) (test-sym tag_test g1 g) ∙ ap (λ b. same_tag g g1 && b) (test-sym nat_test t1 t)
 
-not-true : (b : Bool) → not b ≡ true → b ≡ false
-not-true true h = absurd (cc)
-not-true false h = refl
-
 neither : (a b : Bool) → (not a && not b) ≡ true → (a ≡ false) × (b ≡ false)
-neither true b h = absurd (cc)
-neither false true h = absurd (cc)
-neither false false h = (refl, refl)
+neither a b h = let w = and_parts (not a) (not b) h in (not-true a w.0, not-true b w.1)
 
 room-elsewhere : (s r : ℕ) → (e f : Edit) → (is js : List Id) → far (lying s e is) (lying r f js) ≡ true → room_apart e f ≡ true
 room-elsewhere s r (InsertPacket g t a x) (DeletePacket g1 t1 p) is js h = h
@@ -188,14 +161,14 @@ clears e f a b r =
 
 beside-group : (g h : Tag) → (t : ℕ) → (n : Bool) → (e f : Entry) → Lies (OfTelegram g t n) e → Lies (OfGroup h) f → n ≡ false → same_tag g h ≡ false → room_apart e.0.1 f.0.1 ≡ true → apart e f ≡ true
 beside-group g h t n e f a b none other r = clears e f
-    (none-meet (far-alone other) (changes e) (changes f ++ needs f) (each-alone g t (changes e) a.0) (each-both (Round h) (changes f) (needs f) b.0 b.1))
+    (none-meet (far-alone other) (changes e) (changes f ++ needs f) (each-as lone (changes e) a.0) (each-both (Round h) (changes f) (needs f) b.0 b.1))
     (none-meet (far-alone other) (needs e) (changes f) (a.2 none) b.0) r
 
 from-lies : (h k : Lying) → (e f : Entry) → Lies h e → Lies k f → far h k ≡ true → room_apart e.0.1 f.0.1 ≡ true → room_apart f.0.1 e.0.1 ≡ true → apart e f ≡ true
 from-lies (OfTelegram g t m) (OfTelegram g1 t1 n) e f a b d r q =
     let no : (same_tag g g1 && eqb t t1) ≡ false = not-true _ d in
     clears e f
-    (none-meet (far-inside no) (changes e) (changes f ++ needs f) a.0 (each-both (Beside g1 t1) (changes f) (needs f) (each-beside g1 t1 (changes f) b.0) b.1))
+    (none-meet (far-inside no) (changes e) (changes f ++ needs f) a.0 (each-both (Beside g1 t1) (changes f) (needs f) (each-as beside (changes f) b.0) b.1))
     (none-meet (far-beside no) (needs e) (changes f) a.1 b.0) r
 from-lies (OfTelegram g t m) (OfGroup h) e f a b d r q = let w = neither m (same_tag g h) d in beside-group g h t m e f a b w.0 w.1 r
 from-lies (OfGroup h) (OfTelegram g t m) e f a b d r q = let w = neither m (same_tag g h) d in symmetric e f ∙ beside-group g h t m f e b a w.0 w.1 q
@@ -227,8 +200,7 @@ both-same true false c d f g h = ap (λ x. not (c && x)) (g refl) ∙ ap not (an
 both-same false b c d f g h = ap (λ x. not (x && d)) (f refl)
 
 one-same : (a c : Bool) → (a ≡ false → c ≡ false) → not a ≡ true → not c ≡ true
-one-same true c f h = absurd (cc)
-one-same false c f h = ap not (f refl)
+one-same a c f h = ap not (f (not-true a h))
 
 far-lying : (h k : Lying) → elsewhere (home_lying h) (home_lying k) ≡ true → far h k ≡ true
 far-lying (OfTelegram g t true) (OfTelegram g1 t1 true) d = both-same (eqb (low g) (low g1)) (eqb (t % 256) (t1 % 256)) (same_tag g g1) (eqb t t1) (low-same g g1) (last-same t t1) d

@@ -1,6 +1,6 @@
 -- Numbers of homes: those below a limit and of another group are of entries that are apart.
-use Rattle.std.proofs.Common.{◌≡◌, ◌∙◌, ◌<◌, ◌+◌, ◌*◌, ◌%◌, ℕ, zero, suc, Bool, true, false, ◌&&◌, not, eqb, nat_lt, List, [], ◌∷◌, All, map, take, refl, sym, ap, subst, arith}
-use Rattle.std.proofs.lemmas.Bool.{ltb-true}
+use Rattle.std.proofs.Common.{◌≡◌, ◌∙◌, ◌<◌, ◌+◌, ◌*◌, ◌%◌, ℕ, zero, suc, Bool, true, false, ◌&&◌, not, eqb, nat_lt, List, [], ◌∷◌, All, map, take, sym, ap, subst, arith}
+use Rattle.std.proofs.lemmas.Bool.{and_parts, ltb-true, not-true, not_from_false}
 use Rattle.std.proofs.lemmas.List.Elements.{All-nil, All-cons, All-head, All-tail}
 use Rattle.std.specs.List.{prefix_len}
 use Rattle.balise_rules.specs.declared.tag.Tag.{Tag}
@@ -26,14 +26,11 @@ group-fits (OfGroup g) = low-fits g
 not-and : (b c : Bool) → b ≡ false → not (b && c) ≡ true
 not-and b c e = ap (λ x. not (x && c)) e
 
-not-not : (b : Bool) → b ≡ false → not b ≡ true
-not-not b e = ap not e
-
 -- two extents and two telegrams, where the groups differ and the second home is below the limit of the first
 by-extents : (x y : Extent) (g t : Bool) (r : ℕ) → g ≡ false → r < 16384 → code y * 16384 + r < limit x → apart_by x y g t ≡ true
 by-extents Group Group g t r d s m = absurd (omega (arith, m))
-by-extents Group Unnamed g t r d s m = not-not g d
-by-extents Unnamed Group g t r d s m = not-not g d
+by-extents Group Unnamed g t r d s m = not_from_false g d
+by-extents Unnamed Group g t r d s m = not_from_false g d
 by-extents Group Named g t r d s m = absurd (omega (arith, m))
 by-extents Named Group g t r d s m = absurd (omega (arith, m))
 by-extents Unnamed Unnamed g t r d s m = not-and g t d
@@ -41,16 +38,11 @@ by-extents Unnamed Named g t r d s m = not-and g t d
 by-extents Named Unnamed g t r d s m = not-and g t d
 by-extents Named Named g t r d s m = not-and g t d
 
--- the two tests of a number
-both-parts : (a b : Bool) → (not a && b) ≡ true → (a ≡ false) × (b ≡ true)
-both-parts true b h = absurd cc
-both-parts false b h = (refl, h)
-
 far-elsewhere : (h k : Home) → k.group < 16384 → is_far h.group (limit h.extent) (home_number k) ≡ true → elsewhere h k ≡ true
 far-elsewhere h k f e =
-    let b = both-parts (eqb (home_number k % 16384) h.group) (nat_lt (home_number k) (limit h.extent)) e in
+    let b = and_parts (not (eqb (home_number k % 16384) h.group)) (nat_lt (home_number k) (limit h.extent)) e in
     let same : home_number k % 16384 ≡ k.group = omega (arith, f) in
-    let other : eqb h.group k.group ≡ false = test-sym nat_test h.group k.group ∙ sym (ap (λ (n : ℕ). eqb n h.group) same) ∙ b.0 in
+    let other : eqb h.group k.group ≡ false = test-sym nat_test h.group k.group ∙ sym (ap (λ (n : ℕ). eqb n h.group) same) ∙ not-true (eqb (home_number k % 16384) h.group) b.0 in
     let below : code k.extent * 16384 + k.group < limit h.extent = omega (arith, f, ltb-true (home_number k) (limit h.extent) b.1) in
     by-extents h.extent k.extent (eqb h.group k.group) (eqb h.telegram k.telegram) k.group other f below
 

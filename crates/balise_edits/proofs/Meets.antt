@@ -1,5 +1,5 @@
 -- Places that meet, list by list.
-use Rattle.std.proofs.Common.{◌≡◌, ◌+◌, ◌∙◌, ℕ, suc, add-one, refl, ap, Bool, true, false, cond, ◌&&◌, ◌||◌, not, List, [], ◌∷◌, ◌++◌, drop}
+use Rattle.std.proofs.Common.{◌≡◌, ◌+◌, ◌∙◌, ℕ, refl, ap, Bool, true, false, cond, ◌&&◌, ◌||◌, not, List, [], ◌∷◌, ◌++◌, drop}
 use Rattle.std.specs.Prelude.{Option, Some, None, slice_get}
 use Rattle.balise_rules.specs.declared.variable.Var.TheVariants.{NidBg, QLinkorientation, QDir, MDup}
 use Rattle.balise_rules.specs.declared.identity.Id.{Id}
@@ -7,7 +7,8 @@ use Rattle.balise_rules.specs.Tags.{same_var}
 use Rattle.balise_rules.specs.declared.tagged_edit.TaggedEdit.TheVariants.{SetVar, SetHead}
 use Rattle.balise_rules.specs.Paths.{Part, Path, Entry, At, Nth, Of, Turn, Whose, same_part, changes, needs, ids, meet, meets_any, any_meets, room_apart, apart}
 use Rattle.balise_edits.specs.Needs.{needed_place, needed_names, listed, left_out, but, clear}
-use Rattle.balise_edits.proofs.Steps.{drop-here, drop-none}
+use Rattle.balise_plan.proofs.GroupLists.{drop_found}
+use Rattle.balise_edits.proofs.Steps.{drop-none}
 
 by-var : (a b c : Bool) → (x y : Path) → (is : List Id) → cond a (x ∷ []) (cond b (y ∷ ids is) (cond c (ids is) [])) ≡ listed (cond a (Some x) (cond b (Some y) None)) ++ ids (cond a [] (cond b is (cond c is [])))
 by-var true b c x y is = refl
@@ -34,26 +35,26 @@ meets_any-append p (q ∷ qs) rs = ap (λ b. meet p q || b) (meets_any-append p 
 
 -- a place against a list that is gone through by place
 pub meets-here : (out : Option Path) → (p q : Path) → (qs : List Path) → (i : ℕ) → slice_get qs i ≡ Some q → (not (left_out out q) && meet p q) ≡ true → meets_any p (but out (drop i qs)) ≡ true
-meets-here out p q qs i e h = rw (drop-here qs i q e) (step (left_out out q) h) where
-  step : (b : Bool) → (not b && meet p q) ≡ true → meets_any p (cond (not b) (q ∷ but out (drop (suc i) qs)) (but out (drop (suc i) qs))) ≡ true
+meets-here out p q qs i e h = rw (drop_found qs i q e) (step (left_out out q) h) where
+  step : (b : Bool) → (not b && meet p q) ≡ true → meets_any p (cond (not b) (q ∷ but out (drop (i + 1) qs)) (but out (drop (i + 1) qs))) ≡ true
   step true h = absurd (cc)
-  step false h = ap (λ b. b || meets_any p (but out (drop (suc i) qs))) h
+  step false h = ap (λ b. b || meets_any p (but out (drop (i + 1) qs))) h
 
 pub meets-more : (out : Option Path) → (p q : Path) → (qs : List Path) → (i : ℕ) → slice_get qs i ≡ Some q → (not (left_out out q) && meet p q) ≡ false → meets_any p (but out (drop i qs)) ≡ meets_any p (but out (drop (i + 1) qs))
-meets-more out p q qs i e h = rw (add-one, drop-here qs i q e) (step (left_out out q) h) where
-  step : (b : Bool) → (not b && meet p q) ≡ false → meets_any p (cond (not b) (q ∷ but out (drop (suc i) qs)) (but out (drop (suc i) qs))) ≡ meets_any p (but out (drop (suc i) qs))
+meets-more out p q qs i e h = rw (drop_found qs i q e) (step (left_out out q) h) where
+  step : (b : Bool) → (not b && meet p q) ≡ false → meets_any p (cond (not b) (q ∷ but out (drop (i + 1) qs)) (but out (drop (i + 1) qs))) ≡ meets_any p (but out (drop (i + 1) qs))
   step true h = refl
-  step false h = ap (λ b. b || meets_any p (but out (drop (suc i) qs))) h
+  step false h = ap (λ b. b || meets_any p (but out (drop (i + 1) qs))) h
 
 pub meets-none : (out : Option Path) → (p : Path) → (qs : List Path) → (i : ℕ) → slice_get qs i ≡ None → meets_any p (but out (drop i qs)) ≡ false
 meets-none out p qs i e = rw (drop-none qs i e)
 
 -- and each place of one list against another
 pub any-here : (p : Path) → (ps qs : List Path) → (i : ℕ) → slice_get ps i ≡ Some p → meets_any p qs ≡ true → any_meets (drop i ps) qs ≡ true
-any-here p ps qs i e h = rw (drop-here ps i p e) (ap (λ b. b || any_meets (drop (suc i) ps) qs) h)
+any-here p ps qs i e h = rw (drop_found ps i p e) (ap (λ b. b || any_meets (drop (i + 1) ps) qs) h)
 
 pub any-more : (p : Path) → (ps qs : List Path) → (i : ℕ) → slice_get ps i ≡ Some p → meets_any p qs ≡ false → any_meets (drop i ps) qs ≡ any_meets (drop (i + 1) ps) qs
-any-more p ps qs i e h = rw (add-one, drop-here ps i p e) (ap (λ b. b || any_meets (drop (suc i) ps) qs) h)
+any-more p ps qs i e h = rw (drop_found ps i p e) (ap (λ b. b || any_meets (drop (i + 1) ps) qs) h)
 
 -- a place that is no identity meets none
 pub meets-no-name : (a : Part) → (r : Path) → ((i : Id) → same_part a (Whose i) ≡ false) → (is : List Id) → meets_any (a ∷ r) (ids is) ≡ false

@@ -1,16 +1,14 @@
 -- How many numbers pass a test from the first on.
-use Rattle.std.proofs.Common.{◌≡◌, ◌+◌, ◌≤◌, ℕ, zero, suc, Bool, true, false, ◌&&◌, cond, List, [], ◌∷◌, All, length, take, drop, refl, subst, arith}
+use Rattle.std.proofs.Common.{◌≡◌, ◌∙◌, ◌+◌, ◌≤◌, ◌<◌, ℕ, zero, suc, Bool, true, false, ◌&&◌, cond, List, [], ◌∷◌, All, length, take, drop, refl, ap, arith}
 use Rattle.std.specs.List.{list_all, prefix_len}
-use Rattle.std.proofs.lemmas.List.Elements.{All-nil, All-cons}
+use Rattle.std.proofs.lemmas.List.{get_or-take, length-take}
+use Rattle.std.proofs.lemmas.List.Sums.{prefix_len_passes}
 
 -- the first ones that pass
 pub passing : (p : ℕ → Bool) (xs : List ℕ) → All (λ n. p n ≡ true) (take (prefix_len p xs) xs)
-passing p [] = All-nil (λ n. p n ≡ true)
-passing p (x ∷ xs) = by (p x) refl (passing p xs) where
-  by : (b : Bool) → p x ≡ b → All (λ n. p n ≡ true) (take (prefix_len p xs) xs) → All (λ n. p n ≡ true) (take (cond b (1 + prefix_len p xs) 0) (x ∷ xs))
-  by true e rest = let more : suc (prefix_len p xs) ≡ 1 + prefix_len p xs = omega arith in
-      subst (λ (k : ℕ). All (λ n. p n ≡ true) (take k (x ∷ xs))) more (All-cons (λ n. p n ≡ true) x (take (prefix_len p xs) xs) e rest)
-  by false e rest = All-nil (λ n. p n ≡ true)
+passing p xs = λ k d l.
+    let m : k < prefix_len p xs = omega (arith, l, length-take (prefix_len p xs) xs) in
+    ap p (get_or-take (prefix_len p xs) xs k d m) ∙ prefix_len_passes p xs k d m
 
 -- a whole block that passes
 pub block-passes : (p : ℕ → Bool) (n : ℕ) (xs : List ℕ) → n ≤ length xs → list_all p (take n xs) ≡ true → prefix_len p xs ≡ n + prefix_len p (drop n xs)

@@ -7,7 +7,6 @@ use Rattle.balise_rules.specs.Tags.{same_tag}
 use Rattle.balise_rules.specs.Packet.{Packet}
 use Rattle.balise_rules.specs.Telegram.{Telegram}
 use Rattle.balise_rules.specs.Plan.{Group, Plan, identity_of, read_group}
-use Rattle.balise_rules.specs.Edits.{group_of, group_or_none}
 use Rattle.balise_rules.specs.declared.tagged_edit.TaggedEdit.TheVariants.{AddGroup, InsertPacket}
 use Rattle.balise_rules.specs.Back.{in_packets, with_packets}
 use Rattle.balise_rules.specs.Names.{names_in}
@@ -17,6 +16,7 @@ use Rattle.balise_rules.specs.Doing.{done, first_of, group_fault, refusal, when}
 use Rattle.balise_index.specs.declared.spot.Spot.TheVariants.{After}
 use Rattle.balise_plan.specs.Spots.{group_refusal}
 use Rattle.balise_rules.proofs.Each.{each-id}
+use Rattle.balise_edit_laws.proofs.Refusing.{group_is}
 use Rattle.balise_plan.proofs.Walking as walking
 
 -- a telegram in which the packet is put in, or another one
@@ -31,10 +31,7 @@ pub inserted_is : (s : ℕ) → (g : Tag) → (t : ℕ) → (a : Option Tag) →
 inserted_is s g t a x plan =
     walking.each-same _ _ plan (λ h ys. walking.each-same _ _ ys (λ u y. in_telegram (same_tag g h && eqb t u) a (Fresh s, x) y))
 
--- a group that was read is what its bits are put in as
-group_is : (bs : List (List Bool)) → (ys : Group) → read_group bs ≡ Ok ys → group_of bs ≡ ys
-unfolding group_of
-group_is bs ys is = ap group_or_none is
+-- ---- a group that was read is what its bits are put in as
 
 pub added_noted : (a : Option Tag) → (bs : List (List Bool)) → (plan : Plan) → (ys : Group) → read_group bs ≡ Ok ys → record nothing { own = identity_of ys; names = names_in ys } ≡ noted (AddGroup a bs) plan
 added_noted a bs plan ys is = ap (λ zs. record nothing { own = identity_of zs; names = names_in zs }) (sym (group_is bs ys is))

@@ -1,9 +1,9 @@
 -- What each call answers and leaves, over the values that are held.
-use Rattle.std.proofs.Common.{Option, Bool, true, false, not, IsTrue, ◌≡◌, ◌+◌, ◌∙◌, inl, inr, ℕ, zero, suc, eqb, List, [], ◌∷◌, ◌++◌, Some, None, Ok, length, take, drop, map, find, slice_get, refl, sym, ap, subst, arith, add-one, Result, Err}
+use Rattle.std.proofs.Common.{Option, Bool, true, false, not, IsTrue, ◌≡◌, ◌+◌, ◌∙◌, inl, inr, ℕ, zero, suc, eqb, List, [], ◌∷◌, ◌++◌, Some, None, Ok, length, drop, map, find, slice_get, refl, sym, ap, subst, arith, add-one, Result, Err}
 use Rattle.std.proofs.lemmas.Grind.{common_steps}
 use Rattle.balise_rules.specs.declared.tag.Tag.TheVariants.{Base}
 use Rattle.balise_rules.specs.declared.refusal.Refusal.{Refusal}
-use Rattle.balise_rules.specs.declared.refusal.Refusal.TheVariants.{OutOfMemory, NoSuchEdit, NothingToUndo, NothingToRedo, DependsOn}
+use Rattle.balise_rules.specs.declared.refusal.Refusal.TheVariants.{OutOfMemory, NoSuchEdit, DependsOn}
 use Rattle.balise_rules.specs.Plan as rules
 use Rattle.balise_rules.specs.Addresses.{Command, edit_of}
 use Rattle.balise_rules.specs.Edits.{Edit, Item}
@@ -13,7 +13,7 @@ use Rattle.balise_rules.specs.Doing.{done, refusal}
 use Rattle.balise_rules.specs.Back.{back}
 use Rattle.balise_rules.specs.Paths.{Entry}
 use Rattle.balise_rules.specs.Behind.{anchor_of, serials_behind}
-use Rattle.balise_rules.specs.Session.{needs_no_memory, top, State, Removed, Ask, Done, held, answer_edit, answer_accepted, Undo, Redo, Strike, Undone, Redone, Struck, Refused, entries, last, later, others, first_dependent, lone, put_back, struck_out, answer_in_time, answer_undo, answer_redo, answer_strike, answer_dependent}
+use Rattle.balise_rules.specs.Session.{needs_no_memory, top, State, Removed, Ask, Done, held, answer_edit, answer_accepted, Undo, Redo, Strike, Undone, Redone, Struck, entries, last, later, others, first_dependent, put_back, answer_in_time}
 use Rattle.std.proofs.lemmas.Bool.{false≢true}
 use Rattle.balise_rules.proofs.Cases.{unsome}
 use Rattle.balise_rules.proofs.Tests.{split_on}
@@ -25,11 +25,11 @@ use Rattle.balise_strike_laws.specs.Redoing.{Answer}
 use Rattle.balise_strike_laws.proofs.SessionsKept.{sessions_kept}
 use Rattle.balise_strike_laws.proofs.SessionStrikes.{hung-empty}
 use Rattle.balise_history.specs.Tests.{MayRunOut, StrikeMayRunOut}
-use Rattle.balise_history.specs.Lists.{History, Gone, items_of, removed_of, entries_re_anchored, place_of, top_serial, Ascends, TakesOut, PutsBack}
-use Rattle.balise_history.specs.Held.{Edited, state_at, seen, Holds, IsHeld, Accepts, Refuses}
+use Rattle.balise_history.specs.Lists.{History, Gone, items_of, removed_of, place_of, top_serial, Ascends, TakesOut, PutsBack}
+use Rattle.balise_history.specs.Held.{Edited, seen, Holds, IsHeld, Accepts, Refuses}
 use Rattle.balise_history.proofs.Adding.{added}
 use Rattle.balise_history.proofs.Entries.{items-append}
-use Rattle.balise_history.proofs.Taking.{held_state, own-base, own-held, rest_of, there, taken-out, IsOut}
+use Rattle.balise_history.proofs.Taking.{held_state, own-base, own-held, rest_of, there, taken-out}
 use Rattle.balise_history.proofs.Returning.{with_back, brought-back}
 
 -- what is seen of a plan and a history
@@ -54,13 +54,6 @@ pub topped : (sk : List Gone) (n : ℕ) → top_serial sk ≡ Some n → Topped 
 topped [] n h = absurd cc
 topped (r ∷ rs) n h = record { rest = rs; whole = refl; serial = unsome h }
 
-pub state-is : (b c : rules.Plan) (l m : List Item) (j k : List Removed) (serial count : ℕ) → b ≡ c → l ≡ m → j ≡ k →
-    ◌≡◌ {A = State} (record { base = b; standing = l; stack = j; serial = serial; count = count }) (record { base = c; standing = m; stack = k; serial = serial; count = count })
-state-is b c l m j k serial count x y z =
-    ap (λ (w : rules.Plan). record { base = w; standing = l; stack = j; serial = serial; count = count }) x
-    ∙ ap (λ (w : List Item). record { base = c; standing = w; stack = j; serial = serial; count = count }) y
-    ∙ ap (λ (w : List Removed). record { base = c; standing = m; stack = w; serial = serial; count = count }) z
-
 -- what is held is held, the plan first read stays, and the lists are these
 pub record Leaves (p : Plan) (h : History) (next : ℕ) (q : Plan) (k : History) (left : List Item) (stack : List Removed) : Type 0 where
   pub held : IsHeld q.groups k.standing k.stack next
@@ -73,16 +66,12 @@ pub leaves : (p : Plan) (h : History) (next : ℕ) (q : Plan) (k : History) (g :
     Holds (back_along h.standing p.groups) g st sk next → q ≡ changed_to g p → k.standing ≡ st → k.stack ≡ sk → items_of st ≡ left → Leaves p h next q k left (map removed_of sk)
 leaves p h next q k g st sk left o a b c d =
     let base = back_along h.standing p.groups in
-    let gs : q.groups ≡ g = ap (λ (x : Plan). x.groups) a in
-    let o1 : Holds base q.groups st sk next = subst (λ (x : rules.Plan). Holds base x st sk next) (sym gs) o in
-    let o2 : Holds base q.groups k.standing sk next = subst (λ (x : List Entry). Holds base q.groups x sk next) (sym b) o1 in
-    let o3 : Holds base q.groups k.standing k.stack next = subst (λ (x : List Gone). Holds base q.groups k.standing x next) (sym c) o2 in
     record {
-      held = own-held base q.groups k.standing k.stack next o3;
-      base = own-base base q.groups k.standing k.stack next o3;
-      standing = ap items_of b ∙ d;
-      stack_is = ap (map removed_of) c;
-      changes = ap (λ (x : Plan). x.changes) a;
+      held = rw (a, b, c) (own-held base g st sk next o);
+      base = rw (a, b) (own-base base g st sk next o);
+      standing = rw b d;
+      stack_is = rw c;
+      changes = rw a;
     }
 
 -- ---- an entry taken out
@@ -91,16 +80,10 @@ pub took-out : {A : Type 0} (u : A) (p : Plan) (h : History) (next n : ℕ) (e :
     first_dependent e (drop (suc n) h.standing) ≡ None → B ≡ serials_behind e (drop (suc n) h.standing) → TakesOut n B p h {A = A} (Ok u) q k →
     Leaves p h next q k (left_of e B (items_of h.standing)) ((record { item = e.0; behind = B }) ∷ map removed_of h.stack)
 took-out u p h next n e B q k o g d b t =
-    let base = back_along h.standing p.groups in
-    let w0 = taken-out base p.groups h.standing h.stack next n e o g d in
-    let w : IsOut base p.groups h.standing h.stack next n e B = subst (λ (x : List ℕ). IsOut base p.groups h.standing h.stack next n e x) (sym b) w0 in
+    let w = rw (← b) at (taken-out (back_along h.standing p.groups) p.groups h.standing h.stack next n e o g d) in
     let same : t.0 ≡ e = unsome (sym t.1 ∙ g) in
     leaves p h next q k (back e.0 e.1 p.groups) (rest_of h.standing n e B) (((e.0, without_content e.1), B) ∷ h.stack) (left_of e B (items_of h.standing))
-    w.holds
-    (t.2 ∙ ap (λ (x : Entry). changed_to (back x.0 x.1 p.groups) p) same)
-    (t.3 ∙ ap (λ (x : Entry). take n h.standing ++ entries_re_anchored (anchor_of x.0.1) B (drop (n + 1) h.standing)) same ∙ ap (λ (m : ℕ). take n h.standing ++ entries_re_anchored (anchor_of e.0.1) B (drop m h.standing)) (add-one n))
-    (t.4 ∙ ap (λ (x : Entry). ((x.0, without_content x.1), B) ∷ h.stack) same)
-    w.left
+    w.holds (rw same at t.2) (rw (same, add-one) at t.3) (rw same at t.4) w.left
 
 pub is-last : (p : Plan) (h : History) (next n : ℕ) (e f : Entry) → HeldIn p h next → slice_get h.standing n ≡ Some e → first_dependent e (drop (suc n) h.standing) ≡ None → slice_get h.standing n ≡ Some f → IsLast f p.groups
 is-last p h next n e f o g d k =
@@ -111,55 +94,30 @@ is-last p h next n e f o g d k =
 
 found-in : (p : Plan) (h : History) (next n serial : ℕ) (e : Entry) → HeldIn p h next → slice_get h.standing n ≡ Some e → e.0.0 ≡ serial →
     find (λ (f : Entry). eqb serial f.0.0) (entries (back_along h.standing p.groups) (items_of h.standing)) ≡ Some e
-found-in p h next n serial e o g s =
-    let base = back_along h.standing p.groups in
-    subst (λ (m : ℕ). find (λ (f : Entry). eqb m f.0.0) (entries base (items_of h.standing)) ≡ Some e) s (there base p.groups h.standing h.stack next n e o g).found
+found-in p h next n serial e o g s = rw (← s) (there (back_along h.standing p.groups) p.groups h.standing h.stack next n e o g).found
 
 pub strike-accepts : {A : Type 0} (u : A) (p : Plan) (h : History) (next n serial : ℕ) (e : Entry) (B : List ℕ) (q : Plan) (k : History) → HeldIn p h next → slice_get h.standing n ≡ Some e → e.0.0 ≡ serial →
     first_dependent e (drop (suc n) h.standing) ≡ None → B ≡ serials_behind e (drop (suc n) h.standing) → TakesOut n B p h {A = A} (Ok u) q k → Accepts (Strike serial) (view p h next) (Struck serial) (view q k next)
 strike-accepts u p h next n serial e B q k o g s d b t =
-    let base = back_along h.standing p.groups in
-    let is = items_of h.standing in
     let l = took-out u p h next n e B q k o g d b t in
-    let w = there base p.groups h.standing h.stack next n e o g in
-    let d1 : first_dependent e (later e.0.0 (entries base is)) ≡ None = ap (first_dependent e) w.later_are ∙ d in
-    let b1 : serials_behind e (later e.0.0 (entries base is)) ≡ B = ap (serials_behind e) w.later_are ∙ sym b in (
-      (λ m.
-          let old : State = state_at m (view p h next) in
-          ap (answer_strike old) (found-in p h next n serial e o g s)
-          ∙ ap (answer_dependent old e (later e.0.0 (entries base is))) d1
-          ∙ ap (λ (x : List ℕ). (Struck e.0.0, struck_out old e.0 x)) b1
-          ∙ ap (λ (x : ℕ). (Struck x, struck_out old e.0 B)) s
-          ∙ ap (λ (x : State). (Struck serial, x)) (sym (state-is (back_along k.standing q.groups) base (items_of k.standing) (left_of e B is) (map removed_of k.stack) ((record { item = e.0; behind = B }) ∷ map removed_of h.stack) next (suc m) l.base l.standing l.stack_is))),
-      l.changes,
-    )
+    let w = there (back_along h.standing p.groups) p.groups h.standing h.stack next n e o g in
+    (λ m. rw (found-in p h next n serial e o g s, w.later_are, d, ← b, l.base, l.standing, l.stack_is, s) refl, l.changes)
 
 pub strike-missing : (p : Plan) (h : History) (next serial : ℕ) → HeldIn p h next → find (λ (f : Entry). eqb serial f.0.0) h.standing ≡ None → Refuses (Strike serial) (view p h next) NoSuchEdit (view p h next)
-strike-missing p h next serial o n =
-    let base = back_along h.standing p.groups in
-    (inr (λ m. ap (answer_strike (state_at m (view p h next))) (ap (find (λ (f : Entry). eqb serial f.0.0)) (sym o.noted_there) ∙ n)), refl)
+strike-missing p h next serial o n = (inr (λ m. rw (← o.noted_there, n) refl), refl)
 
 pub strike-dependent : (p : Plan) (h : History) (next n serial : ℕ) (e : Entry) (r : Refusal) (d : ℕ) → HeldIn p h next → slice_get h.standing n ≡ Some e → e.0.0 ≡ serial →
     first_dependent e (drop (suc n) h.standing) ≡ Some d → r ≡ DependsOn d → Refuses (Strike serial) (view p h next) r (view p h next)
 strike-dependent p h next n serial e r d o g s f q =
-    let base = back_along h.standing p.groups in
-    let is = items_of h.standing in
-    let w = there base p.groups h.standing h.stack next n e o g in
-    let d1 : first_dependent e (later e.0.0 (entries base is)) ≡ Some d = ap (first_dependent e) w.later_are ∙ f in (
-      inr (λ m.
-          let old : State = state_at m (view p h next) in
-          ap (answer_strike old) (found-in p h next n serial e o g s) ∙ ap (answer_dependent old e (later e.0.0 (entries base is))) d1 ∙ ap (λ (x : Refusal). (Refused x, old)) (sym q)),
-      refl,
-    )
+    let w = there (back_along h.standing p.groups) p.groups h.standing h.stack next n e o g in
+    (inr (λ m. rw (found-in p h next n serial e o g s, w.later_are, f, q) refl), refl)
 
 -- ---- undos
 
 last-at : (es : List Entry) (n : ℕ) (e : Entry) → suc n ≡ length es → slice_get es n ≡ Some e → last (items_of es) ≡ Some e.0
-last-at [] n e l g = absurd (omega arith)
 last-at (f ∷ []) zero e l g = ap (λ (x : Entry). Some x.0) (unsome g)
-last-at (f ∷ []) (suc n) e l g = absurd (omega arith)
-last-at (f ∷ x ∷ xs) zero e l g = absurd (omega arith)
 last-at (f ∷ x ∷ xs) (suc n) e l g = last-at (x ∷ xs) n e (omega arith) g
+last-at es n e l g = absurd (omega arith)
 
 pub none-behind : (es : List Entry) (n : ℕ) → suc n ≡ length es → drop (suc n) es ≡ []
 none-behind es n l = grind (arith, common_steps)
@@ -167,35 +125,23 @@ none-behind es n l = grind (arith, common_steps)
 pub undo-accepts : {A : Type 0} (u : A) (p : Plan) (h : History) (next n : ℕ) (e : Entry) (B : List ℕ) (q : Plan) (k : History) → HeldIn p h next → slice_get h.standing n ≡ Some e → suc n ≡ length h.standing → B ≡ [] →
     TakesOut n B p h {A = A} (Ok u) q k → Accepts Undo (view p h next) (Undone e.0.0) (view q k next)
 undo-accepts u p h next n e B q k o g s z t =
-    let base = back_along h.standing p.groups in
     let is = items_of h.standing in
     let nb = none-behind h.standing n s in
-    let d : first_dependent e (drop (suc n) h.standing) ≡ None = ap (first_dependent e) nb in
-    let b : B ≡ serials_behind e (drop (suc n) h.standing) = z ∙ ap (serials_behind e) (sym nb) in
-    let l = took-out u p h next n e B q k o g d b t in
+    let l = took-out u p h next n e B q k o g (ap (first_dependent e) nb) (z ∙ ap (serials_behind e) (sym nb)) t in
     let left : items_of k.standing ≡ others e.0.0 is = l.standing ∙ ap (λ (x : List ℕ). left_of e x is) z ∙ hung-empty (anchor_of e.0.1) (others e.0.0 is) in
-    let sk : map removed_of k.stack ≡ lone e.0 ∷ map removed_of h.stack = l.stack_is ∙ ap (λ (x : List ℕ). (record { item = e.0; behind = x }) ∷ map removed_of h.stack) z in (
-      (λ m.
-          let old : State = state_at m (view p h next) in
-          ap (answer_undo old) (last-at h.standing n e s g)
-          ∙ ap (λ (x : State). (Undone e.0.0, x)) (sym (state-is (back_along k.standing q.groups) base (items_of k.standing) (others e.0.0 is) (map removed_of k.stack) (lone e.0 ∷ map removed_of h.stack) next (suc m) l.base left sk))),
-      l.changes,
-    )
+    (λ m. rw (last-at h.standing n e s g, l.base, left, l.stack_is, z) refl, l.changes)
 
 -- ---- redos
 
 pub is-next : (p : Plan) (h : History) (next n : ℕ) (r : Gone) (rs : List Gone) → HeldIn p h next → h.stack ≡ r ∷ rs → n ≡ place_of r.0.0.0 h.standing → IsNext r.0 p.groups × Ascends r.1
 is-next p h next n r rs o s g =
-    let base = back_along h.standing p.groups in
-    let o1 : Holds base p.groups h.standing (r ∷ rs) next = subst (λ (x : List Gone). Holds base p.groups h.standing x next) s o in
-    let w = brought-back base p.groups h.standing r rs next n o1 g in (w.next, w.ascends)
+    let w = brought-back (back_along h.standing p.groups) p.groups h.standing r rs next n (rw s at o) g in
+    (w.next, w.ascends)
 
 pub put-back : {A : Type 0} (u : A) (p : Plan) (h : History) (next n : ℕ) (r : Gone) (rs : List Gone) (q : Plan) (k : History) → HeldIn p h next → h.stack ≡ r ∷ rs → n ≡ place_of r.0.0.0 h.standing → PutsBack n r p h {A = A} (Ok u) q k →
     Leaves p h next q k (put_back (removed_of r) (items_of h.standing)) (map removed_of rs)
 put-back u p h next n r rs q k o s g t =
-    let base = back_along h.standing p.groups in
-    let o1 : Holds base p.groups h.standing (r ∷ rs) next = subst (λ (x : List Gone). Holds base p.groups h.standing x next) s o in
-    let w = brought-back base p.groups h.standing r rs next n o1 g in
+    let w = brought-back (back_along h.standing p.groups) p.groups h.standing r rs next n (rw s at o) g in
     let same : r ∷ rs ≡ r ∷ k.stack = sym s ∙ t.2 in
     let rest : k.stack ≡ rs = cc in
     leaves p h next q k (done r.0.0 p.groups) (with_back h.standing n r p.groups) rs (put_back (removed_of r) (items_of h.standing)) w.holds t.0 t.1 rest w.standing
@@ -203,15 +149,8 @@ put-back u p h next n r rs q k o s g t =
 pub redo-accepts : {A : Type 0} (u : A) (p : Plan) (h : History) (next n : ℕ) (r : Gone) (rs : List Gone) (q : Plan) (k : History) → HeldIn p h next → h.stack ≡ r ∷ rs → n ≡ place_of r.0.0.0 h.standing → PutsBack n r p h {A = A} (Ok u) q k →
     Accepts Redo (view p h next) (Redone r.0.0.0) (view q k next)
 redo-accepts u p h next n r rs q k o s g t =
-    let base = back_along h.standing p.groups in
-    let is = items_of h.standing in
-    let l = put-back u p h next n r rs q k o s g t in (
-      (λ m.
-          let old : State = state_at m (view p h next) in
-          ap (λ (x : List Gone). answer_redo old (map removed_of x)) s
-          ∙ ap (λ (x : State). (Redone r.0.0.0, x)) (sym (state-is (back_along k.standing q.groups) base (items_of k.standing) (put_back (removed_of r) is) (map removed_of k.stack) (map removed_of rs) next (suc m) l.base l.standing l.stack_is))),
-      l.changes,
-    )
+    let l = put-back u p h next n r rs q k o s g t in
+    (λ m. rw (s, l.base, l.standing, l.stack_is) refl, l.changes)
 
 -- ---- edits
 
@@ -234,15 +173,8 @@ added-one p h next c e f q k o g r x a b d =
 pub edit-accepts : (p : Plan) (h : History) (next : ℕ) (c : Command) (e : Edit) (f : Entry) (q : Plan) (k : History) → HeldIn p h next → edit_of c p.groups ≡ Ok e → refusal e p.groups ≡ None → f ≡ ((next, e), noted e p.groups) →
     q ≡ changed_to (done (next, e) p.groups) p → k.standing ≡ h.standing ++ f ∷ [] → k.stack ≡ [] → Accepts (Ask c) (view p h next) (Done next) (view q k (suc next))
 edit-accepts p h next c e f q k o g r x a b d =
-    let base = back_along h.standing p.groups in
-    let l = added-one p h next c e f q k o g r x a b d in (
-      (λ m.
-          let old : State = state_at m (view p h next) in
-          ap (λ (y : rules.Plan). answer_edit old (edit_of c y)) (sym o.made_of) ∙ ap (answer_edit old) g
-          ∙ ap (λ (y : rules.Plan). answer_accepted old e (refusal e y)) (sym o.made_of) ∙ ap (answer_accepted old e) r
-          ∙ ap (λ (y : State). (Done next, y)) (sym (state-is (back_along k.standing q.groups) base (items_of k.standing) (items_of h.standing ++ (next, e) ∷ []) (map removed_of k.stack) [] (suc next) (suc m) l.base l.standing l.stack_is))),
-      l.changes,
-    )
+    let l = added-one p h next c e f q k o g r x a b d in
+    (λ m. rw (← o.made_of, g, ← o.made_of, r, l.base, l.standing, l.stack_is) refl, l.changes)
 
 -- ---- out of memory
 

@@ -9,17 +9,17 @@ use Rattle.balise_rules.specs.declared.tag.Tag.{Tag}
 use Rattle.balise_rules.specs.declared.tag.Tag.TheVariants.{Base}
 use Rattle.balise_rules.specs.Packet.{Packet, IsSpelt}
 use Rattle.balise_rules.specs.Plan as rules
-use Rattle.balise_rules.specs.Plan.{telegram_at, IsSound}
+use Rattle.balise_rules.specs.Plan.{telegram_at}
 use Rattle.balise_rules.specs.Telegram.{Telegram, version_of}
 use Rattle.balise_rules.specs.Accepting.{Unused, Spelt}
 use Rattle.balise_rules.specs.Addresses.{packet_in}
 use Rattle.balise_rules.specs.Edits.{Edit, Item}
-use Rattle.balise_rules.specs.declared.tagged_edit.TaggedEdit.TheVariants.{DropGroup, SetVar, SetHead, InsertPacket, DeletePacket, MovePacket, AddGroup, Renumber, TurnGroup}
+use Rattle.balise_rules.specs.declared.tagged_edit.TaggedEdit.TheVariants.{DropGroup, InsertPacket}
 use Rattle.balise_rules.specs.Notes.{noted}
 use Rattle.balise_rules.specs.Doing.{done, refusal}
 use Rattle.balise_rules.specs.Paths.{Entry}
 use Rattle.balise_rules.specs.Journal.{Line, LineEdit, noted_of, same_noted}
-use Rattle.balise_rules.specs.Opening.{edit_in, if_fits, inserting, or_nothing, packet_for, item_of, last_serial, with_entry, with_item}
+use Rattle.balise_rules.specs.Opening.{edit_in, if_fits, inserting, or_nothing, packet_for, last_serial, with_entry, with_item}
 use Rattle.balise_rules.specs.Session.{State, Removed, held, top}
 use Rattle.balise_rules.proofs.Cases.{unsome}
 use Rattle.balise_edit_laws.specs.Along.{back_along}
@@ -27,18 +27,17 @@ use Rattle.balise_edit_laws.proofs.Histories.{kept_along}
 use Rattle.balise_edit_laws.proofs.ReadyCommands.{word_spelt}
 use Rattle.balise_edits.specs.Standing.{changed_to}
 use Rattle.balise_plan.specs.Held.{Plan}
-use Rattle.balise_strike_laws.specs.Sessions.{IsSession}
 use Rattle.balise_strike_laws.proofs.Journals.{same_itself}
 use Rattle.balise_strike_laws.proofs.Rising.{between-more, between-before, others-above}
 use Rattle.balise_strike_laws.proofs.SessionsKept.{standing_within, openings_kept}
-use Rattle.balise_history.specs.Held.{state_at, seen, IsHeld}
-use Rattle.balise_history.specs.Lists.{History, Gone, items_of, removed_of}
+use Rattle.balise_history.specs.Held.{state_at}
+use Rattle.balise_history.specs.Lists.{History, items_of, removed_of}
 use Rattle.balise_history.specs.Openings.{comes_next, Enters, EntersIn}
 use Rattle.balise_history.proofs.Adding.{added}
 use Rattle.balise_history.proofs.Entries.{items-append}
 use Rattle.balise_history.proofs.Few.{few-held}
 use Rattle.balise_history.proofs.Taking.{held_state}
-use Rattle.balise_history.proofs.Answering.{view, HeldIn, leaves, state-is}
+use Rattle.balise_history.proofs.Answering.{view, HeldIn, leaves}
 
 -- a packet of a line is spelt in the version of its telegram
 insert-spelt : (e : Edit) (plan : rules.Plan) (g : Tag) (t : ℕ) (a : Option Tag) (b : List Bool) → edit_in (InsertPacket g t a b) plan ≡ Some e → Spelt e plan
@@ -54,14 +53,7 @@ insert-spelt e plan g t a b h = by (telegram_at g t plan) refl h
 
 pub line-spelt : (l : LineEdit) (e : Edit) (plan : rules.Plan) → edit_in l plan ≡ Some e → Spelt e plan
 line-spelt (InsertPacket g t a b) e plan h = insert-spelt e plan g t a b h
-line-spelt (SetVar g t p v k n) e plan h = subst (λ f. Spelt f plan) (unsome h) tt
-line-spelt (SetHead g t v n) e plan h = subst (λ f. Spelt f plan) (unsome h) tt
-line-spelt (DeletePacket g t p) e plan h = subst (λ f. Spelt f plan) (unsome h) tt
-line-spelt (MovePacket g t p a) e plan h = subst (λ f. Spelt f plan) (unsome h) tt
-line-spelt (AddGroup a bs) e plan h = subst (λ f. Spelt f plan) (unsome h) tt
-line-spelt (DropGroup g) e plan h = subst (λ f. Spelt f plan) (unsome h) tt
-line-spelt (Renumber g n) e plan h = subst (λ f. Spelt f plan) (unsome h) tt
-line-spelt (TurnGroup g) e plan h = subst (λ f. Spelt f plan) (unsome h) tt
+line-spelt l e plan h = subst (λ f. Spelt f plan) (unsome h) tt
 
 -- the serial of a line that may come next tags nothing
 pub line-unused : (p : Plan) (h : History) (next serial : ℕ) → HeldIn p h next → comes_next h next serial ≡ true → Unused serial p.groups
@@ -84,13 +76,8 @@ module _ (p : Plan) (h : History) (next : ℕ) (l : Line) (o : HeldIn p h next) 
   -- what a line that may come next gives
   comes : comes_next h next l.serial ≡ true → with_entry (state_at 0 (view p h next)) l ≡ with_item (state_at 0 (view p h next)) (if_fits l p.groups (edit_in l.edit p.groups))
   comes c =
-      let is = items_of h.standing in
-      let s : State = state_at 0 (view p h next) in
-      let a = and_parts (is_none (top (map removed_of h.stack))) (nat_lt (last_serial is) l.serial && nat_lt l.serial next) c in
-      let fits = λ (q : rules.Plan). if_fits l q (edit_in l.edit q) in
-      ap (λ (b : Bool). cond b (with_item s (item_of (last_serial is) next l (held s))) None) a.0
-      ∙ ap (λ (b : Bool). with_item s (cond b (fits (held s)) None)) a.1
-      ∙ ap (λ (q : rules.Plan). with_item s (fits q)) (sym o.made_of)
+      let a = and_parts (is_none (top (map removed_of h.stack))) (nat_lt (last_serial (items_of h.standing)) l.serial && nat_lt l.serial next) c in
+      rw (a.0, a.1, ← o.made_of) refl
 
   pub not-next : comes_next h next l.serial ≡ false → with_entry (state_at 0 (view p h next)) l ≡ None
   not-next c = by (is_none (top (map removed_of h.stack))) (nat_lt (last_serial (items_of h.standing)) l.serial && nat_lt l.serial next) c
@@ -102,20 +89,13 @@ module _ (p : Plan) (h : History) (next : ℕ) (l : Line) (o : HeldIn p h next) 
 
   -- it isn't of the plan
   pub no-edit : comes_next h next l.serial ≡ true → edit_in l.edit p.groups ≡ None → with_entry (state_at 0 (view p h next)) l ≡ None
-  no-edit c e = comes c ∙ ap (λ (x : Option Edit). with_item (state_at 0 (view p h next)) (if_fits l p.groups x)) e
+  no-edit c e = comes c ∙ (rw e refl)
 
   pub not-accepted : comes_next h next l.serial ≡ true → (e : Edit) → edit_in l.edit p.groups ≡ Some e → (r : Refusal) → refusal e p.groups ≡ Some r → with_entry (state_at 0 (view p h next)) l ≡ None
-  not-accepted c e q r f =
-      let s : State = state_at 0 (view p h next) in
-      comes c ∙ ap (λ (x : Option Edit). with_item s (if_fits l p.groups x)) q
-      ∙ ap (λ (x : Option Refusal). with_item s (cond (is_none x && same_noted (noted_of e (noted e p.groups)) l.noted) (Some (l.serial, e)) None)) f
+  not-accepted c e q r f = comes c ∙ (rw (q, f) refl)
 
   pub not-noted : comes_next h next l.serial ≡ true → (e : Edit) → edit_in l.edit p.groups ≡ Some e → refusal e p.groups ≡ None → same_noted (noted_of e (noted e p.groups)) l.noted ≡ false → with_entry (state_at 0 (view p h next)) l ≡ None
-  not-noted c e q f n =
-      let s : State = state_at 0 (view p h next) in
-      comes c ∙ ap (λ (x : Option Edit). with_item s (if_fits l p.groups x)) q
-      ∙ ap (λ (x : Option Refusal). with_item s (cond (is_none x && same_noted (noted_of e (noted e p.groups)) l.noted) (Some (l.serial, e)) None)) f
-      ∙ ap (λ (b : Bool). with_item s (cond b (Some (l.serial, e)) None)) n
+  not-noted c e q f n = comes c ∙ (rw (q, f, n) refl)
 
   pub is-entered : comes_next h next l.serial ≡ true → (e : Edit) → edit_in l.edit p.groups ≡ Some e → refusal e p.groups ≡ None → same_noted (noted_of e (noted e p.groups)) l.noted ≡ true →
       (f : Entry) (q : Plan) (k : History) → f ≡ ((l.serial, e), noted e p.groups) → q ≡ changed_to (done (l.serial, e) p.groups) p → k.standing ≡ h.standing ++ f ∷ [] → k.stack ≡ [] → EntersIn {A = Unit {0}} l next p h (Ok tt) q k
@@ -124,16 +104,13 @@ module _ (p : Plan) (h : History) (next : ℕ) (l : Line) (o : HeldIn p h next) 
       let is = items_of h.standing in
       let it : Item = (l.serial, e) in
       let s : State = state_at 0 (view p h next) in
-      let w : with_entry s l ≡ Some (record s { standing = is ++ it ∷ [] }) =
-      comes c ∙ ap (λ (x : Option Edit). with_item s (if_fits l p.groups x)) g
-      ∙ ap (λ (x : Option Refusal). with_item s (cond (is_none x && same_noted (noted_of e (noted e p.groups)) l.noted) (Some it) None)) r
-      ∙ ap (λ (b : Bool). with_item s (cond b (Some it) None)) n in
+      let w : with_entry s l ≡ Some (record s { standing = is ++ it ∷ [] }) = comes c ∙ (rw (g, r, n) refl) in
       let i = (openings_kept.0 l s (record s { standing = is ++ it ∷ [] }) o.session w).0 in
       let none : map removed_of h.stack ≡ [] = no-top (map removed_of h.stack) (and_parts (is_none (top (map removed_of h.stack))) (nat_lt (last_serial is) l.serial && nat_lt l.serial next) c).0 in
-      let i1 : IsSession (record { base = base; standing = is ++ it ∷ []; stack = []; serial = next; count = 0 }) = subst (λ (z : List Removed). IsSession (record { base = base; standing = is ++ it ∷ []; stack = z; serial = next; count = 0 })) none i in
+      let i1 = rw none at i in
       let hold = added base p.groups h.standing h.stack next next it o i1 in
       let v = leaves p h next q k (done it p.groups) (h.standing ++ (it, noted e p.groups) ∷ []) [] (is ++ it ∷ []) hold a (b ∙ ap (λ (y : Entry). h.standing ++ y ∷ []) x) d (items-append h.standing ((it, noted e p.groups) ∷ [])) in
-      (v.held, w ∙ ap Some (sym (state-is (back_along k.standing q.groups) base (items_of k.standing) (is ++ it ∷ []) (map removed_of k.stack) (map removed_of h.stack) next 0 v.base v.standing (v.stack_is ∙ sym none))), v.changes)
+      (v.held, rw (v.base, v.standing, v.stack_is, ← none) w, v.changes)
     where
       no-top : (rs : List Removed) → is_none (top rs) ≡ true → rs ≡ []
       no-top [] h = refl
@@ -155,7 +132,4 @@ enters-seen l next p h (Err r) q k w =
     (w.0, ⊎_elim (λ s. inl (stays s.0 s.1 s.2)) (λ n. inr (n.0, (n.1.0, (n.1.1.1, n.1.1.2, few-held q.groups k.standing k.stack next n.1.1.0)))) w.1)
   where
     stays : q ≡ p → k.standing ≡ h.standing → k.stack ≡ h.stack → view q k next ≡ view p h next
-    stays a b c =
-        ap (λ (y : Plan). view y k next) a
-        ∙ ap (λ (y : List Entry). seen p.groups y k.stack next p.changes) b
-        ∙ ap (λ (y : List Gone). seen p.groups h.standing y next p.changes) c
+    stays a b c = rw (a, b, c) refl

@@ -1,7 +1,8 @@
 -- Entries whose serials rise, cut at one of them.
 use Rattle.std.proofs.Common.{◌≡◌, ◌≤◌, ◌<◌, ◌∙◌, ℕ, zero, suc, All, Bool, true, false, not, cond, eqb, nat_lt, List, [], ◌∷◌, ◌++◌, Option, Some, None, length, take, drop, map, filter, find, slice_get, refl, ap, subst, arith}
 use Rattle.std.proofs.lemmas.Bool.Decides.{nat_tests}
-use Rattle.std.proofs.lemmas.List.Elements.{All-nil, All-cons, All-head, All-tail}
+use Rattle.std.proofs.lemmas.List.{get_or-map, length-map, map-append}
+use Rattle.std.proofs.lemmas.List.Elements.{All-nil, All-cons, All-filter, All-head, All-map, All-tail}
 use Rattle.std.specs.Prelude.{is_some}
 use Rattle.balise_rules.specs.declared.tag.Tag.{Tag}
 use Rattle.balise_rules.specs.Edits.{Item}
@@ -17,6 +18,7 @@ use Rattle.balise_edits.specs.Anchors.{hung_on}
 use Rattle.balise_strike_laws.specs.InSession.{Rising}
 use Rattle.balise_strike_laws.specs.Striking.{notes_of}
 use Rattle.balise_history.specs.Lists.{items_of, place_of, is_among, entries_re_anchored, Ascends}
+use Rattle.balise_history.proofs.Hanging.{kept-hung}
 
 -- ---- entries and their items
 
@@ -25,44 +27,33 @@ items-entries plan [] = refl
 items-entries plan (e ∷ es) = ap (λ l. e ∷ l) (items-entries (done e plan) es)
 
 pub items-append : (xs ys : List Entry) → items_of (xs ++ ys) ≡ items_of xs ++ items_of ys
-items-append [] ys = refl
-items-append (x ∷ xs) ys = ap (λ l. x.0 ∷ l) (items-append xs ys)
+items-append = map-append (λ (e : Entry). e.0)
 
 pub notes-append : (xs ys : List Entry) → notes_of (xs ++ ys) ≡ notes_of xs ++ notes_of ys
-notes-append [] ys = refl
-notes-append (x ∷ xs) ys = ap (λ l. x.1 ∷ l) (notes-append xs ys)
+notes-append = map-append (λ (e : Entry). e.1)
 
 -- entries are one where their items and their notes are
 pub same-entries : (xs ys : List Entry) → items_of xs ≡ items_of ys → notes_of xs ≡ notes_of ys → xs ≡ ys
 same-entries [] [] h k = refl
-same-entries [] (y ∷ ys) h k = absurd cc
-same-entries (x ∷ xs) [] h k = absurd cc
 same-entries (x ∷ xs) (y ∷ ys) h k =
     let a : x.0 ≡ y.0 = cc in
     let b : x.1 ≡ y.1 = cc in
     let hs : items_of xs ≡ items_of ys = cc in
     let ks : notes_of xs ≡ notes_of ys = cc in
     ap (λ (i : Item). (i, x.1) ∷ xs) a ∙ ap (λ (m : Note). (y.0, m) ∷ xs) b ∙ ap (λ l. y ∷ l) (same-entries xs ys hs ks)
+same-entries xs ys h k = absurd cc
 
 pub items-hung : (a : Option Tag) (B : List ℕ) (es : List Entry) → items_of (entries_re_anchored a B es) ≡ hung a B (items_of es)
 items-hung a B [] = refl
-items-hung a B (e ∷ es) = by (is_among e.0.0 B) (items-hung a B es)
-  where
-    by : (c : Bool) → items_of (entries_re_anchored a B es) ≡ hung a B (items_of es) → (cond c (hung_on a e) e).0 ∷ items_of (entries_re_anchored a B es) ≡ cond c (e.0.0, anchored a e.0.1) e.0 ∷ hung a B (items_of es)
-    by true r = ap (λ l. (e.0.0, anchored a e.0.1) ∷ l) r
-    by false r = ap (λ l. e.0 ∷ l) r
+items-hung a B (e ∷ es) = split_on (is_among e.0.0 B)
+    (λ t. simp t (ap (λ l. (e.0.0, anchored a e.0.1) ∷ l) (items-hung a B es)))
+    (λ t. simp t (ap (λ l. e.0 ∷ l) (items-hung a B es)))
 
 pub notes-hung : (a : Option Tag) (B : List ℕ) (es : List Entry) → notes_of (entries_re_anchored a B es) ≡ notes_of es
-notes-hung a B [] = refl
-notes-hung a B (e ∷ es) = by (is_among e.0.0 B) (notes-hung a B es)
-  where
-    by : (c : Bool) → notes_of (entries_re_anchored a B es) ≡ notes_of es → (cond c (hung_on a e) e).1 ∷ notes_of (entries_re_anchored a B es) ≡ e.1 ∷ notes_of es
-    by true r = ap (λ l. e.1 ∷ l) r
-    by false r = ap (λ l. e.1 ∷ l) r
+notes-hung = kept-hung (λ (e : Entry). e.1) (λ b e. refl)
 
 pub hung-append : (a : Option Tag) (B : List ℕ) (es fs : List Item) → hung a B (es ++ fs) ≡ hung a B es ++ hung a B fs
-hung-append a B [] fs = refl
-hung-append a B (e ∷ es) fs = ap (λ l. cond (is_some (find (λ n. eqb n e.0) B)) (e.0, anchored a e.1) e ∷ l) (hung-append a B es fs)
+hung-append a B = map-append (λ (e : Item). cond (is_some (find (λ n. eqb n e.0) B)) (e.0, anchored a e.1) e)
 
 -- a number below all others isn't among them
 not-among : (n s : ℕ) (B : List ℕ) → n < s → All (λ m. s < m) B → is_among n B ≡ false
@@ -86,29 +77,19 @@ Below s es = All (λ (f : Entry). f.0.0 < s) es
 abbrev pub Above : ℕ → List Entry → Type 0
 Above s es = All (λ (f : Entry). s < f.0.0) es
 
-above-items : (s : ℕ) (es : List Entry) → All (λ (f : Item). s < f.0) (items_of es) → Above s es
-above-items s [] h = All-nil (λ (f : Entry). s < f.0.0)
-above-items s (e ∷ es) h = All-cons (λ (f : Entry). s < f.0.0) e es (All-head (λ (f : Item). s < f.0) e.0 (items_of es) h) (above-items s es (All-tail (λ (f : Item). s < f.0) e.0 (items_of es) h))
+pub above-items : (s : ℕ) (es : List Entry) → All (λ (f : Item). s < f.0) (items_of es) → Above s es
+above-items s es h = λ k d l. subst (λ (x : Item). s < x.0) (get_or-map (λ (e : Entry). e.0) es k d d.0 l) (h k d.0 (omega (arith, l, length-map es (λ (e : Entry). e.0))))
 
 pub below-items : (s : ℕ) (es : List Entry) → Below s es → All (λ (f : Item). f.0 < s) (items_of es)
-below-items s [] h = All-nil (λ (f : Item). f.0 < s)
-below-items s (e ∷ es) h = All-cons (λ (f : Item). f.0 < s) e.0 (items_of es) (All-head (λ (f : Entry). f.0.0 < s) e es h) (below-items s es (All-tail (λ (f : Entry). f.0.0 < s) e es h))
+below-items s es h = All-map (λ (f : Item). f.0 < s) (λ (e : Entry). e.0) es h
 
 pub all-above : (s : ℕ) (es : List Entry) → Above s es → All (λ (f : Item). s < f.0) (items_of es)
-all-above s [] h = All-nil (λ (f : Item). s < f.0)
-all-above s (e ∷ es) h = All-cons (λ (f : Item). s < f.0) e.0 (items_of es) (All-head (λ (f : Entry). s < f.0.0) e es h) (all-above s es (All-tail (λ (f : Entry). s < f.0.0) e es h))
+all-above s es h = All-map (λ (f : Item). s < f.0) (λ (e : Entry). e.0) es h
 
 above-at : (s : ℕ) (es : List Entry) (n : ℕ) (e : Entry) → Above s es → slice_get es n ≡ Some e → s < e.0.0
 above-at s [] n e h g = absurd cc
 above-at s (f ∷ fs) zero e h g = subst (λ (x : Entry). s < x.0.0) (unsome g) (All-head (λ (x : Entry). s < x.0.0) f fs h)
 above-at s (f ∷ fs) (suc n) e h g = above-at s fs n e (All-tail (λ (x : Entry). s < x.0.0) f fs h) g
-
-others-above : (s : ℕ) (es : List Entry) → Above s es → others s (items_of es) ≡ items_of es
-others-above s [] h = refl
-others-above s (e ∷ es) h =
-    let q : s < e.0.0 = All-head (λ (f : Entry). s < f.0.0) e es h in
-    let t : eqb e.0.0 s ≡ false = grind (arith, nat_tests) in
-    simp t (ap (λ l. e.0 ∷ l) (others-above s es (All-tail (λ (f : Entry). s < f.0.0) e es h)))
 
 rest-above : (s : ℕ) (es : List Entry) → Above s es → filter (λ (f : Entry). not (eqb f.0.0 s)) es ≡ es
 rest-above s [] h = refl
@@ -124,7 +105,6 @@ pub record Cut (es : List Entry) (n : ℕ) (e : Entry) : Type 0 where
   pub found : find (λ (f : Entry). eqb e.0.0 f.0.0) es ≡ Some e
   pub behind : later e.0.0 es ≡ drop (suc n) es
   pub rest : filter (λ (f : Entry). not (eqb f.0.0 e.0.0)) es ≡ take n es ++ drop (suc n) es
-  pub other_items : others e.0.0 (items_of es) ≡ items_of (take n es) ++ items_of (drop (suc n) es)
   pub low : Below e.0.0 (take n es)
   pub high : Above e.0.0 (drop (suc n) es)
 
@@ -140,7 +120,6 @@ cut (f ∷ fs) zero e r g =
       found = simp t;
       behind = simp t;
       rest = simp t (rest-above f.0.0 fs above);
-      other_items = simp t (others-above f.0.0 fs above);
       low = All-nil (λ (x : Entry). x.0.0 < f.0.0);
       high = above;
     })
@@ -157,10 +136,17 @@ cut (f ∷ fs) (suc n) e r g =
       found = simp t w.found;
       behind = simp t w.behind;
       rest = simp u (ap (λ x. f ∷ x) w.rest);
-      other_items = simp u (ap (λ x. f.0 ∷ x) w.other_items);
       low = All-cons (λ (x : Entry). x.0.0 < e.0.0) f (take n fs) l w.low;
       high = w.high;
     }
+
+-- so it is left out of the items
+pub other-items : (es : List Entry) (n : ℕ) (e : Entry) → Cut es n e → others e.0.0 (items_of es) ≡ items_of (take n es) ++ items_of (drop (suc n) es)
+other-items es n e c = others-items es ∙ ap items_of c.rest ∙ items-append (take n es) (drop (suc n) es)
+  where
+    others-items : (es : List Entry) → others e.0.0 (items_of es) ≡ items_of (filter (λ (f : Entry). not (eqb f.0.0 e.0.0)) es)
+    others-items [] = refl
+    others-items (f ∷ fs) = split_on (eqb f.0.0 e.0.0) (λ t. simp t (others-items fs)) (λ t. simp t (ap (λ l. f.0 ∷ l) (others-items fs)))
 
 pub above-hung : (s : ℕ) (a : Option Tag) (B : List ℕ) (es : List Entry) → Above s es → Above s (entries_re_anchored a B es)
 above-hung s a B [] h = All-nil (λ (f : Entry). s < f.0.0)
@@ -219,12 +205,7 @@ none-there s (e ∷ es) r h = split_on (nat_lt e.0.0 s)
 -- ---- the serials of those that stand after an entry
 
 pub behind-above : (e : Entry) (s : ℕ) (fs : List Entry) → Above s fs → All (λ m. s < m) (serials_behind e fs)
-behind-above e s [] h = All-nil (λ m. s < m)
-behind-above e s (f ∷ fs) h = by (apart e f) (behind-above e s fs (All-tail (λ (x : Entry). s < x.0.0) f fs h))
-  where
-    by : (c : Bool) → All (λ m. s < m) (serials_behind e fs) → All (λ m. s < m) (map (λ (x : Entry). x.0.0) (cond (not c) (f ∷ filter (λ (x : Entry). not (apart e x)) fs) (filter (λ (x : Entry). not (apart e x)) fs)))
-    by true r = r
-    by false r = All-cons (λ m. s < m) f.0.0 (serials_behind e fs) (All-head (λ (x : Entry). s < x.0.0) f fs h) r
+behind-above e s fs h = All-map (λ m. s < m) (λ (f : Entry). f.0.0) (filter (λ (f : Entry). not (apart e f)) fs) (All-filter (λ f. not (apart e f)) (λ (f : Entry). s < f.0.0) fs h)
 
 pub behind-ascends : (e : Entry) (fs : List Entry) → Rising (items_of fs) → Ascends (serials_behind e fs)
 behind-ascends e [] r = tt

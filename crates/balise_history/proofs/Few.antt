@@ -1,5 +1,5 @@
 -- There are fewer entries than the next serial.
-use Rattle.std.proofs.Common.{◌≡◌, ◌<◌, ◌+◌, ◌∙◌, ℕ, suc, Bool, true, false, cond, nat_lt, List, [], ◌∷◌, Option, length, map, refl, ap, arith}
+use Rattle.std.proofs.Common.{◌≡◌, ◌<◌, ◌+◌, ◌∙◌, ℕ, suc, nat_lt, List, [], ◌∷◌, Option, length, map, refl, ap, arith}
 use Rattle.balise_rules.specs.declared.tag.Tag.{Tag}
 use Rattle.balise_rules.specs.Edits.{Item}
 use Rattle.balise_rules.specs.Behind.{hung}
@@ -7,17 +7,14 @@ use Rattle.balise_rules.specs.Journal.{all_back}
 use Rattle.balise_rules.specs.Paths.{Entry}
 use Rattle.balise_rules.specs.Plan.{Plan}
 use Rattle.balise_rules.specs.Session.{Removed, put_back, put_by_serial}
+use Rattle.balise_rules.proofs.Tests.{split_on}
 use Rattle.balise_strike_laws.specs.InSession.{Between}
 use Rattle.balise_history.specs.Held.{IsHeld}
 use Rattle.balise_history.specs.Lists.{Gone, items_of, removed_of}
 
 length-put : (e : Item) (es : List Item) → length (put_by_serial e es) ≡ suc (length es)
 length-put e [] = refl
-length-put e (f ∷ fs) = by (nat_lt e.0 f.0) (length-put e fs)
-  where
-    by : (c : Bool) → length (put_by_serial e fs) ≡ suc (length fs) → length (cond c (e ∷ f ∷ fs) (f ∷ put_by_serial e fs)) ≡ suc (suc (length fs))
-    by true r = refl
-    by false r = ap suc r
+length-put e (f ∷ fs) = split_on (nat_lt e.0 f.0) (λ t. simp t) (λ t. simp t (ap suc (length-put e fs)))
 
 length-hung : (a : Option Tag) (B : List ℕ) (es : List Item) → length (hung a B es) ≡ length es
 length-hung a B [] = refl

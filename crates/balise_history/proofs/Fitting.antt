@@ -1,5 +1,5 @@
 -- The lines of a journal that fit, one after another.
-use Rattle.std.proofs.Common.{◌≡◌, ◌<◌, ◌∙◌, ℕ, zero, suc, List, [], ◌∷◌, ◌++◌, drop, take, Option, Some, None, Result, Ok, length, ap, arith}
+use Rattle.std.proofs.Common.{◌≡◌, ◌∙◌, ℕ, zero, suc, List, [], ◌∷◌, ◌++◌, drop, take, Option, Some, None, Result, Ok, ap}
 use Rattle.balise_rules.specs.Journal.{Line}
 use Rattle.balise_rules.specs.Opening.{from_entries, opened_at, or_place, with_entries, with_entry}
 use Rattle.balise_rules.specs.Plan.{Plan}
@@ -29,19 +29,11 @@ one-line-more plan next ls l t u h e = by (opened_at plan next) h
 
 -- what is taken and left where one thing more is taken
 pub take-next : {A : Type 0} (n : ℕ) (xs : List A) (y : A) (ys : List A) → drop n xs ≡ y ∷ ys → take (suc n) xs ≡ take n xs ++ y ∷ []
-take-next zero [] y ys h = absurd cc
-take-next (suc n) [] y ys h = absurd cc
 take-next zero (x ∷ xs) y ys h = cc
 take-next (suc n) (x ∷ xs) y ys h = ap (λ l. x ∷ l) (take-next n xs y ys h)
+take-next n xs y ys h = absurd cc
 
 pub drop-next : {A : Type 0} (n : ℕ) (xs : List A) (y : A) (ys : List A) → drop n xs ≡ y ∷ ys → drop (suc n) xs ≡ ys
-drop-next zero [] y ys h = absurd cc
-drop-next (suc n) [] y ys h = absurd cc
 drop-next zero (x ∷ xs) y ys h = cc
 drop-next (suc n) (x ∷ xs) y ys h = drop-next n xs y ys h
-
-pub drop-within : {A : Type 0} (n : ℕ) (xs : List A) (y : A) (ys : List A) → drop n xs ≡ y ∷ ys → n < length xs
-drop-within zero [] y ys h = absurd cc
-drop-within (suc n) [] y ys h = absurd cc
-drop-within zero (x ∷ xs) y ys h = omega arith
-drop-within (suc n) (x ∷ xs) y ys h = let r = drop-within n xs y ys h in omega arith
+drop-next n xs y ys h = absurd cc

@@ -6,40 +6,24 @@ use Rattle.std.specs.Ordering.{ordering_index, nat_cmp, MatchOrdering}
 use Rattle.std.specs.List.Sorted.{IsBinarySearchResult}
 use borrow.Author.Tests.{tests}
 use Rattle.std.specs.Cmp.{ranks}
-use Rattle.balise_rules.specs.Edits.{Item}
 use Rattle.balise_rules.specs.Paths.{Entry}
 use Rattle.balise_strike_laws.specs.InSession.{Rising}
 use Rattle.balise_history.specs.Lists.{place_of, items_of, is_among, Ascends}
+use Rattle.balise_history.proofs.Entries.{above-items}
 
 -- the keys of later items are higher
 abbrev pub Rises : {X : Type 0} → (X → ℕ) → List X → Type 0
 Rises {X} key xs = (i j : ℕ) (d : X) → i < j → j < length xs → key (get_or xs i d) < key (get_or xs j d)
 
 pub entries-rise : (es : List Entry) → Rising (items_of es) → Rises (λ e. e.0.0) es
-entries-rise [] r i j d l m = absurd (omega arith)
-entries-rise (e ∷ es) r zero zero d l m = absurd (omega arith)
-entries-rise (e ∷ es) r zero (suc j) d l m =
-    let k : j < length (items_of es) = omega (arith, length-items es) in
-    let q : e.0.0 < (get_or (items_of es) j d.0).0 = r.0 j d.0 k in
-    subst (λ (x : Item). e.0.0 < x.0) (item-at es j d) q
-  where
-    length-items : (xs : List Entry) → length (items_of xs) ≡ length xs
-    length-items [] = refl
-    length-items (x ∷ xs) = ap suc (length-items xs)
-
-    item-at : (xs : List Entry) (n : ℕ) (d : Entry) → get_or (items_of xs) n d.0 ≡ (get_or xs n d).0
-    item-at [] n d = refl
-    item-at (x ∷ xs) zero d = refl
-    item-at (x ∷ xs) (suc n) d = item-at xs n d
-entries-rise (e ∷ es) r (suc i) zero d l m = absurd (omega arith)
+entries-rise (e ∷ es) r zero (suc j) d l m = above-items e.0.0 es r.0 j d (omega arith)
 entries-rise (e ∷ es) r (suc i) (suc j) d l m = entries-rise es r.1 i j d (omega arith) (omega arith)
+entries-rise es r i j d l m = absurd (omega arith)
 
 pub numbers-rise : (ns : List ℕ) → Ascends ns → Rises (λ n. n) ns
-numbers-rise [] r i j d l m = absurd (omega arith)
-numbers-rise (n ∷ ns) r zero zero d l m = absurd (omega arith)
 numbers-rise (n ∷ ns) r zero (suc j) d l m = r.0 j d (omega arith)
-numbers-rise (n ∷ ns) r (suc i) zero d l m = absurd (omega arith)
 numbers-rise (n ∷ ns) r (suc i) (suc j) d l m = numbers-rise ns r.1 i j d (omega arith) (omega arith)
+numbers-rise ns r i j d l m = absurd (omega arith)
 
 module _ {X : Type 0} (key : X → ℕ) (xs : List X) (x : ℕ) where
   -- where it is, or between what is lower and what is higher

@@ -1,7 +1,6 @@
 pub mod Places
 pub mod Halving
 pub mod Mapping
-pub mod Cuts
 pub mod HomesKept
 pub mod Hanging
 pub mod Entries
@@ -19,6 +18,7 @@ pub mod Lines
 pub mod Unmaking
 pub mod Fitting
 pub mod Tested
+pub mod FoundTo
 pub mod TestedTo
 pub mod DependentsTo
 pub mod Resolved

@@ -12,17 +12,11 @@ use Rattle.balise_rules.specs.Plan.{Plan}
 use Rattle.balise_rules.specs.Tagged.{find, without, Distinct}
 use Rattle.balise_rules.specs.Tags.{same_tag}
 use Rattle.balise_rules.proofs.Cases.{unsome}
+use Rattle.balise_rules.proofs.Lists.{without-absent}
 use Rattle.balise_rules.proofs.Tests.{split_on, tag_test, split_keys}
 use Rattle.std.specs.Prelude.{Result, Ok, ok_or}
 
 module _ {A : Type 0} where
-  -- what isn't there is left out by leaving nothing out
-  left-all : (t : Tag) (xs : List (Tag × A)) → find same_tag t xs ≡ None → without same_tag t xs ≡ xs
-  left-all t [] h = refl
-  left-all t (y ∷ ys) h = split_on (same_tag t y.0)
-      (λ e. let k : Some y.1 ≡ None = simp e at h in absurd cc)
-      (λ n. let k : find same_tag t ys ≡ None = simp n at h in simp n (ap (λ l. y ∷ l) (left-all t ys k)))
-
   found-there : (n : ℕ) (xs : List (Tag × A)) (z : Tag × A) → slice_get xs n ≡ Some z → find same_tag z.0 xs ≡ None → ⊥
   found-there n [] z h k = cc
   found-there zero (y ∷ ys) z h k =
@@ -41,7 +35,7 @@ module _ {A : Type 0} where
       let e : same_tag z.0 y.0 ≡ true = ap (λ (w : Tag × A). same_tag z.0 w.0) q ∙ tag_test.itself z.0 in
       let m : find same_tag z.0 ys ≡ None = ap (λ (w : Tag × A). find same_tag w.0 ys) (sym q) ∙ u.0 in
       let k : nat_lt i 0 ≡ false = grind (arith, nat_tests) in
-      simp (e, k) (ap (λ l. slice_get l i) (left-all z.0 ys m))
+      simp (e, k) (ap (λ l. slice_get l i) (without-absent same_tag z.0 ys m))
   at-without i (suc n) (y ∷ ys) z u h =
       let no : same_tag z.0 y.0 ≡ false = split_keys tag_test z.0 y.0 (λ e q. absurd (found-there n ys z h (ap (λ t. find same_tag t ys) q ∙ u.0))) (λ e. e) in
       simp no (by i (λ j. at-without j n ys z u.1 h))

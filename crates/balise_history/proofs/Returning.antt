@@ -1,7 +1,7 @@
 -- What putting the top of the stack back asks, and leaves: a redo, by one change.
 -- From the law of redos in a session.
 use Rattle.std.proofs.Common.{◌≡◌, ◌<◌, ◌∙◌, inl, ℕ, suc, All, List, ◌∷◌, ◌++◌, Some, length, take, drop, map, refl, sym, ap, subst, arith}
-use Rattle.std.proofs.lemmas.List.{length-take}
+use Rattle.std.proofs.lemmas.List.{drop_at, length-take, take_at}
 use Rattle.balise_rules.specs.declared.tag.Tag.TheVariants.{Fresh}
 use Rattle.balise_rules.specs.Plan.{Plan}
 use Rattle.balise_rules.specs.Edits.{Item}
@@ -20,7 +20,6 @@ use Rattle.balise_strike_laws.proofs.SessionsKept.{sessions_kept}
 use Rattle.balise_strike_laws.proofs.SessionStrikes.{striking_here}
 use Rattle.balise_history.specs.Lists.{Gone, items_of, removed_of, place_of, entries_re_anchored, Ascends}
 use Rattle.balise_history.specs.Held.{Holds, AllKept}
-use Rattle.balise_history.proofs.Cuts.{take-before, drop-behind}
 use Rattle.balise_history.proofs.Entries.{cut, items-entries, items-append, items-hung, notes-append, notes-hung, same-entries, hung-append, hung-low, below-items, all-above, behind-above, behind-ascends, rising-drop, place-of-found, place-cut, put-between, Above, above-hung}
 use Rattle.balise_history.proofs.Taking.{held_state, rest-entries}
 
@@ -62,15 +61,12 @@ brought-back base groups st r rs serial n h p =
     let z_high : Above s Z = above-hung s (anchor_of it.1) r.1 Y c.high in
     let len : length X ≡ k = let i = c.within in let j = length-take k E in omega arith in
     let place : n ≡ k = p ∙ ap (place_of s) (sym st_is) ∙ place-cut s X Z c.low z_high ∙ len in
-    let before : take n st ≡ X = ap (λ m. take m st) place ∙ ap (take k) (sym st_is) ∙ take-before X Z k len in
-    let after : drop n st ≡ Z = ap (λ m. drop m st) place ∙ ap (drop k) (sym st_is) ∙ drop-behind X Z k len in
+    let before : take n st ≡ X = ap (λ m. take m st) place ∙ ap (take k) (sym st_is) ∙ take_at X Z k len in
+    let after : drop n st ≡ Z = ap (λ m. drop m st) place ∙ ap (drop k) (sym st_is) ∙ drop_at X Z k len in
     let note : noted it.1 groups ≡ w.note = ap (noted it.1) h.made_of ∙ here.again_notes in
     let Z1 = entries_re_anchored a1 r.1 Z in
     let L : List Entry = with_back st n r groups in
-    let L_is : L ≡ X ++ e ∷ Z1 =
-    ap (λ (l : List Entry). l ++ (it, noted it.1 groups) ∷ entries_re_anchored a1 r.1 (drop n st)) before
-    ∙ ap (λ (l : List Entry). X ++ (it, noted it.1 groups) ∷ entries_re_anchored a1 r.1 l) after
-    ∙ ap (λ (m : Note). X ++ (it, m) ∷ Z1) note in
+    let L_is : L ≡ X ++ e ∷ Z1 = rw (before, after, note) refl in
     let IX = items_of X in
     let IZ = items_of Z in
     let is : items ≡ IX ++ IZ = ap items_of (sym st_is) ∙ items-append X Z in

@@ -7,7 +7,7 @@ use Rattle.balise_rules.specs.Notes.{without_content}
 use Rattle.balise_rules.specs.Back.{back}
 use Rattle.balise_rules.specs.Paths.{Entry}
 use Rattle.balise_rules.specs.Behind.{anchor_of, hung, serials_behind}
-use Rattle.balise_rules.specs.Session.{State, Removed, Strike, Struck, made, entries, later, first_dependent, put_back, answer_in_time, answer_strike, answer_dependent}
+use Rattle.balise_rules.specs.Session.{State, Removed, Strike, Struck, made, entries, later, first_dependent, put_back, answer_in_time}
 use Rattle.balise_edit_laws.specs.Along.{back_along}
 use Rattle.balise_edit_laws.proofs.Histories.{kept_along, taken_back_along}
 use Rattle.balise_edits.specs.Standing.{IsLast}
@@ -19,7 +19,7 @@ use Rattle.balise_strike_laws.proofs.SessionStrikes.{striking_here}
 use Rattle.balise_strike_laws.proofs.SessionsKept.{rises, sessions_kept}
 use Rattle.balise_history.specs.Lists.{Gone, items_of, removed_of, entries_re_anchored, Ascends}
 use Rattle.balise_history.specs.Held.{Holds, IsHeld, AllKept}
-use Rattle.balise_history.proofs.Entries.{Cut, cut, items-entries, items-append, items-hung, notes-append, notes-hung, same-entries, hung-append, hung-low, below-items, behind-above, behind-ascends, rising-drop}
+use Rattle.balise_history.proofs.Entries.{Cut, cut, other-items, items-entries, items-append, items-hung, notes-append, notes-hung, same-entries, hung-append, hung-low, below-items, behind-above, behind-ascends, rising-drop}
 
 -- the plan first read, from what is held
 pub own-base : (base groups : Plan) (st : List Entry) (sk : List Gone) (n : ℕ) → Holds base groups st sk n → back_along st groups ≡ base
@@ -52,7 +52,7 @@ rest-items es n e B c h =
     ∙ ap (λ l. X ++ l) (items-hung a B (drop (suc n) es))
     ∙ ap (λ l. l ++ hung a B Y) (sym (hung-low a e.0.0 B X h (below-items e.0.0 (take n es) c.low)))
     ∙ sym (hung-append a B X Y)
-    ∙ ap (hung a B) (sym c.other_items)
+    ∙ ap (hung a B) (sym (other-items es n e c))
 
 pub rest-notes : (es : List Entry) (n : ℕ) (e : Entry) (B : List ℕ) → Cut es n e → notes_of (rest_of es n e B) ≡ notes_of (filter (λ (f : Entry). not (eqb f.0.0 e.0.0)) es)
 rest-notes es n e B c =
@@ -114,9 +114,7 @@ taken-out base groups st sk serial n e h g d =
     let ri : items_of (rest_of st n e B) ≡ left = rest-items st n e B c high in
     let r : Removed = record { item = e.0; behind = B } in
     let new : State = record { base = base; standing = left; stack = r ∷ map removed_of sk; serial = serial; count = 1 } in
-    let a : ◌≡◌ {A = Answer} (Struck e.0.0, new) (answer_in_time (Strike e.0.0) s) =
-    sym (ap (answer_strike s) t.found ∙ ap (answer_dependent s e (later e.0.0 (entries base is))) d1
-    ∙ ap (λ (l : List Entry). answer_dependent s e l None) t.later_are) in
+    let a : ◌≡◌ {A = Answer} (Struck e.0.0, new) (answer_in_time (Strike e.0.0) s) = rw (t.found, t.later_are, d) refl in
     let k : IsSession new = (sessions_kept (Strike e.0.0) (Struck e.0.0) s new h.session (inl a)).0 in
     let held : Plan = back e.0 e.1 groups in
     let m : held ≡ made base left = ap (back e.0 e.1) h.made_of ∙ here.taken_back in

@@ -5,13 +5,16 @@ use Rattle.balise_rules.specs.Paths.{Entry, apart}
 use Rattle.balise_rules.proofs.Tests.{split_on}
 use Rattle.balise_rules.specs.Session.{first_dependent}
 
-pub independent-more : (e : Entry) (fs : List Entry) (f : Entry) → first_dependent e fs ≡ None → independent e f ≡ true → first_dependent e (fs ++ f ∷ []) ≡ None
-independent-more e [] f h i = ap (λ (b : Bool). cond b None (Some f.0.0)) i
-independent-more e (x ∷ xs) f h i = by (independent e x) h (λ k. independent-more e xs f k i)
+pub none-more : (e : Entry) (xs ys : List Entry) → first_dependent e xs ≡ None → first_dependent e ys ≡ None → first_dependent e (xs ++ ys) ≡ None
+none-more e [] ys h k = k
+none-more e (x ∷ xs) ys h k = by (independent e x) h (λ m. none-more e xs ys m k)
   where
-    by : (b : Bool) → cond b (first_dependent e xs) (Some x.0.0) ≡ None → (first_dependent e xs ≡ None → first_dependent e (xs ++ f ∷ []) ≡ None) → cond b (first_dependent e (xs ++ f ∷ [])) (Some x.0.0) ≡ None
+    by : (b : Bool) → cond b (first_dependent e xs) (Some x.0.0) ≡ None → (first_dependent e xs ≡ None → first_dependent e (xs ++ ys) ≡ None) → cond b (first_dependent e (xs ++ ys)) (Some x.0.0) ≡ None
     by true h r = r h
     by false h r = absurd cc
+
+pub independent-more : (e : Entry) (fs : List Entry) (f : Entry) → first_dependent e fs ≡ None → independent e f ≡ true → first_dependent e (fs ++ f ∷ []) ≡ None
+independent-more e fs f h i = none-more e fs (f ∷ []) h (ap (λ (b : Bool). cond b None (Some f.0.0)) i)
 
 pub some-behind : (e : Entry) (fs : List Entry) (f : Entry) → apart e f ≡ false → serials_behind e (fs ++ f ∷ []) ≢ []
 some-behind e [] f a = λ h. let k : f.0.0 ∷ [] ≡ [] = simp a at h in cc

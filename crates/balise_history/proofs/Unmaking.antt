@@ -1,15 +1,15 @@
 -- Edits that are all accepted and all undone leave the plan first read.
 -- Each edit that is accepted adds one that stands, and each undo takes one out, since serials rise.
-use Rattle.std.proofs.Common.{◌≡◌, ◌⊎◌, ◌<◌, ◌+◌, ◌∙◌, inl, inr, ℕ, zero, suc, Bool, true, false, not, cond, eqb, nat_le, List, [], ◌∷◌, Option, Some, None, Result, Ok, Err, length, refl, sym, ap, subst, arith}
+use Rattle.std.proofs.Common.{◌≡◌, ◌⊎◌, ◌<◌, ◌+◌, ◌∙◌, inl, inr, ⊎_elim, ℕ, zero, suc, Bool, true, false, cond, eqb, nat_le, List, [], ◌∷◌, Option, Some, None, Result, Ok, Err, length, refl, sym, ap, subst, arith}
 use Rattle.std.proofs.lemmas.Bool.Decides.{nat_tests}
-use Rattle.std.proofs.lemmas.List.{length-append}
+use Rattle.std.proofs.lemmas.List.{length-append, nil_from_length}
 use Rattle.balise_rules.specs.declared.refusal.Refusal.{Refusal}
 use Rattle.balise_rules.specs.declared.refusal.Refusal.TheVariants.{OutOfMemory, Worn, NothingToUndo}
 use Rattle.balise_rules.specs.Addresses.{Command, edit_of}
 use Rattle.balise_rules.specs.Doing.{refusal}
 use Rattle.balise_rules.specs.Edits.{Edit, Item}
 use Rattle.balise_rules.specs.Plan.{Plan}
-use Rattle.balise_rules.specs.Session.{State, Call, Reply, Ask, Undo, Done, Undone, Refused, Answers, opened, held, made, last, others, most_commands, answer_accepted, answer_edit, answer_undo}
+use Rattle.balise_rules.specs.Session.{State, Call, Reply, Ask, Undo, Done, Undone, Refused, Answers, opened, held, made, last, others, most_commands, answer, answer_in_time, answer_accepted, answer_edit, answer_undo}
 use Rattle.balise_rules.proofs.Cases.{unsome}
 use Rattle.balise_strike_laws.specs.Headline.{Promised}
 use Rattle.balise_strike_laws.specs.InSession.{Between}
@@ -45,19 +45,19 @@ others-fewer l n [] e b h = absurd cc
 others-fewer l n (x ∷ []) e b h =
     let q : x.0 ≡ e.0 = ap (λ (y : Item). y.0) (unsome h) in
     let f : eqb x.0 e.0 ≡ true = grind (arith, nat_tests) in
-    by (eqb x.0 e.0) f
-  where
-    by : (c : Bool) → c ≡ true → suc (length (cond (not c) (x ∷ []) [])) ≡ 1
-    by true h = refl
-    by false h = absurd cc
+    simp f
 others-fewer l n (x ∷ y ∷ ys) e b h =
     let k = last-above x.0 n (y ∷ ys) e b.2 h in
     let f : eqb x.0 e.0 ≡ false = grind (arith, nat_tests) in
-    by (eqb x.0 e.0) f (others-fewer x.0 n (y ∷ ys) e b.2 h)
+    simp f (ap suc (others-fewer x.0 n (y ∷ ys) e b.2 h))
+
+-- a call is answered in time, unless it is one too many
+answered : (c : Call) (s t : State) (r : Reply) → ◌≡◌ {A = Answer} (r, t) (answer c s) → (r ≡ Refused Worn) ⊎ ◌≡◌ {A = Answer} (r, t) (answer_in_time c s)
+answered c s t r h = by (nat_le most_commands s.count) h
   where
-    by : (c : Bool) → c ≡ false → suc (length (others e.0 (y ∷ ys))) ≡ suc (length ys) → suc (length (cond (not c) (x ∷ others e.0 (y ∷ ys)) (others e.0 (y ∷ ys)))) ≡ suc (suc (length ys))
-    by true h r = absurd cc
-    by false h r = ap suc r
+    by : (b : Bool) → ◌≡◌ {A = Answer} (r, t) (cond b (Refused Worn, s) (answer_in_time c s)) → (r ≡ Refused Worn) ⊎ ◌≡◌ {A = Answer} (r, t) (answer_in_time c s)
+    by true h = inl (ap (λ (x : Answer). x.0) h)
+    by false h = inr h
 
 -- ---- an edit that is accepted
 
@@ -70,11 +70,7 @@ edit-more s t n (Err r) h = let q : Done n ≡ Refused r = ap (λ (x : Answer). 
 edit-more s t n (Ok e) h = accepted-more s t n e (refusal e (held s)) h
 
 done-more : (c : Command) (s t : State) (n : ℕ) → Answers (Ask c) s (Done n) t → length t.standing ≡ suc (length s.standing)
-done-more c s t n (inl q) = by (nat_le most_commands s.count) q
-  where
-    by : (b : Bool) → ◌≡◌ {A = Answer} (Done n, t) (cond b (Refused Worn, s) (answer_edit s (edit_of c (held s)))) → length t.standing ≡ suc (length s.standing)
-    by true h = let k : Done n ≡ Refused Worn = ap (λ (x : Answer). x.0) h in absurd cc
-    by false h = edit-more s t n (edit_of c (held s)) h
+done-more c s t n (inl q) = ⊎_elim (λ w. absurd cc) (edit-more s t n (edit_of c (held s))) (answered (Ask c) s t (Done n) q)
 done-more c s t n (inr w) = let k : Done n ≡ Refused OutOfMemory = w.1 in absurd cc
 
 -- ---- an undo
@@ -84,11 +80,7 @@ undo-fewer s t n None i q h = let k : Undone n ≡ Refused NothingToUndo = ap (�
 undo-fewer s t n (Some e) i q h = ap (λ (x : Answer). suc (length x.1.standing)) h ∙ others-fewer 0 s.serial s.standing e (standing_within s i) q
 
 undone-fewer : (s t : State) (n : ℕ) → IsSession s → Answers Undo s (Undone n) t → suc (length t.standing) ≡ length s.standing
-undone-fewer s t n i (inl q) = by (nat_le most_commands s.count) q
-  where
-    by : (b : Bool) → ◌≡◌ {A = Answer} (Undone n, t) (cond b (Refused Worn, s) (answer_undo s (last s.standing))) → suc (length t.standing) ≡ length s.standing
-    by true h = let k : Undone n ≡ Refused Worn = ap (λ (x : Answer). x.0) h in absurd cc
-    by false h = undo-fewer s t n (last s.standing) i refl h
+undone-fewer s t n i (inl q) = ⊎_elim (λ w. absurd cc) (undo-fewer s t n (last s.standing) i refl) (answered Undo s t (Undone n) q)
 undone-fewer s t n i (inr w) = let k : Undone n ≡ Refused OutOfMemory = w.1 in absurd cc
 
 last-there : (es : List Item) → 0 < length es → last es ≡ None → ⊥
@@ -104,11 +96,7 @@ undo-refused t u r None n h = n refl
 undo-refused t u r (Some e) n h = let k : Refused r ≡ Undone e.0 = ap (λ (x : Answer). x.0) h in cc
 
 refused-so : (t u : State) (r : Refusal) → 0 < length t.standing → Answers Undo t (Refused r) u → (r ≡ Worn) ⊎ (r ≡ OutOfMemory)
-refused-so t u r l (inl q) = by (nat_le most_commands t.count) q
-  where
-    by : (b : Bool) → ◌≡◌ {A = Answer} (Refused r, u) (cond b (Refused Worn, t) (answer_undo t (last t.standing))) → (r ≡ Worn) ⊎ (r ≡ OutOfMemory)
-    by true h = inl (reason r Worn (ap (λ (x : Answer). x.0) h))
-    by false h = absurd (undo-refused t u r (last t.standing) (last-there t.standing l) h)
+refused-so t u r l (inl q) = ⊎_elim (λ w. inl (reason r Worn w)) (λ h. absurd (undo-refused t u r (last t.standing) (last-there t.standing l) h)) (answered Undo t u (Refused r) q)
 refused-so t u r l (inr w) = inr (reason r OutOfMemory w.1)
 
 -- ---- all of them
@@ -133,10 +121,6 @@ all-undone (suc k) s t i w =
     let n = r.2 in
     (r.0, r.1 ∙ j.1, omega arith)
 
-none : (es : List Item) → length es ≡ 0 → es ≡ []
-none [] h = refl
-none (x ∷ xs) h = absurd (omega arith)
-
 pub edits_undone : EditsUndone
 edits_undone plan sound untagged cs s d =
     let a = all-done cs (opened plan) s (sessions_begin plan sound untagged) d in
@@ -144,7 +128,7 @@ edits_undone plan sound untagged cs s d =
       λ t w.
           let b = all-undone (length cs) s t a.0 w in
           let n = b.2 in
-          let z : t.standing ≡ [] = none t.standing (omega arith) in
+          let z : t.standing ≡ [] = nil_from_length t.standing (omega arith) in
           record { standing = z; plan_is = ap (made t.base) z ∙ b.1 ∙ a.1 },
       λ k l t w r u h.
           let b = all-undone k s t a.0 w in

@@ -1,25 +1,19 @@
-use Rattle.std.proofs.Common.{◌≡◌, ◌≤◌, ◌+◌, ◌-◌, ◌∙◌, ℕ, zero, suc, List, [], ◌∷◌, Some, Ok, length, map, take, drop, slice_get, sym, ap, arith, add-one}
+use Rattle.std.proofs.Common.{◌≡◌, ◌≤◌, ◌+◌, ◌-◌, ◌∙◌, ℕ, suc, List, Some, Ok, length, map, take, drop, slice_get, sym, ap, arith, add-one}
+use Rattle.std.proofs.lemmas.List.{drop-map, take_rest}
+use Rattle.std.proofs.lemmas.Option.{slice_get-get_or, slice_get_within}
 use Rattle.std.proofs.lemmas.Result.{IfOk-weaker}
 use Rattle.balise_rules.specs.Paths.{Entry}
 use Rattle.balise_rules.proofs.Cases.{unsome}
 use Rattle.balise_edits.specs.Homes.{number_at}
 use Rattle.balise_history.specs.Dependents.{dependents, dependents_of}
 use Rattle.balise_history.specs.Lists.{place_of}
-use Rattle.balise_history.proofs.Cuts.{got, all-behind}
 use Rattle.balise_history.proofs.DependentsTo.{asked, none-asked}
 use Rattle.balise_history.proofs.Entries.{none-there}
-use Rattle.balise_history.proofs.HomesKept.{numbers-drop}
 use Rattle.balise_history.proofs.dependents.dependents_of.Goals as goal
 use Rattle.balise_history.proofs.dependents.dependents_of.Goals.{After-serial, Else-serial}
 
--- nothing stands after the last place
-past : (es : List Entry) (n : ℕ) (e : Entry) → length es ≤ n → slice_get es n ≡ Some e → ⊥
-past [] n e l g = cc
-past (x ∷ xs) zero e l g = omega arith
-past (x ∷ xs) (suc n) e l g = past xs n e (omega arith) g
-
 stands_there : (c : After-serial) → slice_get c.args.standing.now c.place_of-place.result ≡ Some c.index-standing-place.result
-stands_there c = got c.args.standing.now c.place_of-place.result c.index-standing-place.result c.if-place-standing.false ∙ ap Some (sym c.index-standing-place.is)
+stands_there c = slice_get-get_or c.args.standing.now c.place_of-place.result c.index-standing-place.result c.if-place-standing.false ∙ ap Some (sym c.index-standing-place.is)
 
 pub returns-then-place-standing-clause-fault : goal.returns-then-place-standing-clause-fault
 returns-then-place-standing-clause-fault c = λ other.
@@ -27,7 +21,7 @@ returns-then-place-standing-clause-fault c = λ other.
     let es : List Entry = c.args.standing.now in
     let p = c.place_of-place.ensures.place in
     let l : length es ≤ place_of s es = omega (arith, p) in
-    none-asked s es (none-there s es c.requires.rising (λ e g q. past es (place_of s es) e l g))
+    none-asked s es (none-there s es c.requires.rising (λ e g q. let k = slice_get_within es (place_of s es) e g in omega arith))
 
 pub returns-then-serial-clause-fault : goal.returns-then-serial-clause-fault
 returns-then-serial-clause-fault c = λ other.
@@ -43,7 +37,7 @@ dependents_among-requires c =
     let hs : List ℕ = c.args.homes.now in
     let n : ℕ = c.place_of-place.result + 1 in
     record {
-      homes = all-behind hs n ∙ ap (drop n) c.requires.homes ∙ sym (numbers-drop n xs) ∙ ap (map number_at) (sym (all-behind xs n));
+      homes = take_rest hs n ∙ ap (drop n) c.requires.homes ∙ drop-map number_at n xs ∙ ap (map number_at) (sym (take_rest xs n));
     }
 
 -- the entries after the one that is asked for
@@ -51,7 +45,7 @@ later_are : (c : Else-serial) → take (length c.args.standing.now - (c.place_of
 later_are c =
     let es : List Entry = c.args.standing.now in
     let n : ℕ = c.place_of-place.result in
-    all-behind es (n + 1) ∙ ap (λ (m : ℕ). drop m es) (add-one n)
+    take_rest es (n + 1) ∙ ap (λ (m : ℕ). drop m es) (add-one n)
 
 pub returns-clause-ok : goal.returns-clause-ok
 returns-clause-ok c =

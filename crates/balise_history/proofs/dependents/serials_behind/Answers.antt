@@ -4,7 +4,8 @@ use Rattle.std.proofs.lemmas.Result.{err_from_is_err_and}
 use Rattle.balise_rules.specs.Behind.{serials_behind}
 use Rattle.balise_rules.specs.Paths.{Entry}
 use Rattle.balise_rules.specs.Session.{first_dependent}
-use Rattle.balise_history.proofs.TestedTo.{TestedTo, counted, first-dependent, found-at, next-apart, next-behind, runs-out, tested-all}
+use Rattle.balise_history.proofs.FoundTo.{found-at}
+use Rattle.balise_history.proofs.TestedTo.{TestedTo, counted, first-dependent, next-apart, next-behind, runs-out, tested-all}
 use Rattle.balise_history.proofs.dependents.serials_behind.Goals as goal
 use Rattle.balise_history.proofs.dependents.serials_behind.Goals.{After-count_apart-place, Left-later, else-later-test, then-later-test+in_default}
 
@@ -14,13 +15,12 @@ up_to c = counted c.args.entry.now c.args.later.now c.args.homes.now c.later.beh
 
 pub later-preserved-then-apart : goal.later-preserved-then-apart
 later-preserved-then-apart c =
-    next-apart c.args.entry.now c.args.later.now c.later.behind.items (c.later.place + c.count_apart-place.result) c.in-Some.f.now (up_to (goal.at.later-preserved-then-apart c).After-count_apart-place)
-    (found-at c.args.later.now (c.later.place + c.count_apart-place.result) c.in-Some.f.now c.in-Some.ensures.lookup.0 c.in-Some.ensures.lookup.1) (sym c.apart.ensures ∙ c.if-apart.true)
+    next-apart c.args.entry.now c.args.later.now c.later.behind.items (c.later.place + c.count_apart-place.result) c.in-Some.f.now (up_to (goal.at.later-preserved-then-apart c).After-count_apart-place) (found-at _ _ _ c.in-Some.ensures.lookup.0 c.in-Some.ensures.lookup.1) (sym c.apart.ensures ∙ c.if-apart.true)
 
 pub returns-then-not-stands_behind-clause-fault : goal.returns-then-not-stands_behind-clause-fault
 returns-then-not-stands_behind-clause-fault c =
-    let first = first-dependent c.args.entry.now c.args.later.now c.later.behind.items (c.later.place + c.count_apart-place.result) c.in-Some.f.now (up_to (goal.at.returns-then-not-stands_behind-clause-fault c).After-count_apart-place)
-    (found-at c.args.later.now (c.later.place + c.count_apart-place.result) c.in-Some.f.now c.in-Some.ensures.lookup.0 c.in-Some.ensures.lookup.1) (sym c.apart.ensures ∙ c.if-apart.false) (sym c.stands_behind.ensures ∙ c.if-not-stands_behind.true) in
+    let first = first-dependent c.args.entry.now c.args.later.now c.later.behind.items (c.later.place + c.count_apart-place.result) c.in-Some.f.now (up_to (goal.at.returns-then-not-stands_behind-clause-fault c).After-count_apart-place) (found-at _ _ _ c.in-Some.ensures.lookup.0 c.in-Some.ensures.lookup.1)
+    (sym c.apart.ensures ∙ c.if-apart.false) (sym c.stands_behind.ensures ∙ c.if-not-stands_behind.true) in
     inr (c.serial.result, first ∙ ap Some (sym c.serial.ensures), refl)
 
 pub returns-in_err-push-clause-fault : goal.returns-in_err-push-clause-fault
@@ -28,19 +28,16 @@ returns-in_err-push-clause-fault c =
     let z = err_from_is_err_and c.from_residual.result c.from_residual.ensures.1 in
     rw (z.1, z.2) (inl (
       refl,
-      runs-out c.args.entry.now c.args.later.now c.later.behind.items (c.later.place + c.count_apart-place.result) c.in-Some.f.now (up_to (goal.at.returns-in_err-push-clause-fault c).After-count_apart-place)
-          (found-at c.args.later.now (c.later.place + c.count_apart-place.result) c.in-Some.f.now c.in-Some.ensures.lookup.0 c.in-Some.ensures.lookup.1) (sym c.apart.ensures ∙ c.if-apart.false) (sym c.stands_behind.ensures ∙ c.if-not-stands_behind.false),
+      runs-out c.args.entry.now c.args.later.now c.later.behind.items (c.later.place + c.count_apart-place.result) c.in-Some.f.now (up_to (goal.at.returns-in_err-push-clause-fault c).After-count_apart-place) (found-at _ _ _ c.in-Some.ensures.lookup.0 c.in-Some.ensures.lookup.1)
+          (sym c.apart.ensures ∙ c.if-apart.false) (sym c.stands_behind.ensures ∙ c.if-not-stands_behind.false),
     ))
 
 pub later-preserved : goal.later-preserved
 later-preserved c =
-    let e = c.args.entry.now in
-    let fs : List Entry = c.args.later.now in
     let b : List ℕ = c.later.behind.items in
     let p : ℕ = c.later.place + c.count_apart-place.result in
-    let next = next-behind e fs b p c.in-Some.f.now (up_to (goal.at.later-preserved c).After-count_apart-place)
-    (found-at c.args.later.now (c.later.place + c.count_apart-place.result) c.in-Some.f.now c.in-Some.ensures.lookup.0 c.in-Some.ensures.lookup.1) (sym c.apart.ensures ∙ c.if-apart.false) (sym c.stands_behind.ensures ∙ c.if-not-stands_behind.false) in
-    subst (λ (l : List ℕ). TestedTo e fs l (p + 1)) (ap (λ (k : ℕ). b ++ k ∷ []) (sym c.serial-in-later.ensures) ∙ sym c.in_ok-push.ensures.items) next
+    let next = next-behind c.args.entry.now c.args.later.now b p c.in-Some.f.now (up_to (goal.at.later-preserved c).After-count_apart-place) (found-at _ _ _ c.in-Some.ensures.lookup.0 c.in-Some.ensures.lookup.1) (sym c.apart.ensures ∙ c.if-apart.false) (sym c.stands_behind.ensures ∙ c.if-not-stands_behind.false) in
+    subst (λ (l : List ℕ). TestedTo c.args.entry.now c.args.later.now l (p + 1)) (ap (λ (k : ℕ). b ++ k ∷ []) (sym c.serial-in-later.ensures) ∙ sym c.in_ok-push.ensures.items) next
 
 -- where the loop ends all were tested
 ended : (c : Left-later) → (first_dependent c.args.entry.now c.args.later.now ≡ None) × (c.later.behind.items ≡ serials_behind c.args.entry.now c.args.later.now)

@@ -7,14 +7,13 @@ use Rattle.balise_review.proofs.distances.add_telegram.Goals as goal
 
 pub loop-packet-preserved : goal.loop-packet-preserved
 loop-packet-preserved c =
-    let y = c.args.telegram.now in
     let x = c.in-Some.packet in
     let left = c.next.new.self in
     let here : c.loop-packet.packet-iterator ≡ (c.in-Some.field-0-0, x) ∷ left = c.in-Some.ensures.steps in
     let at : c.in-Ok.place ≡ c.loop-packet.pkt = search rules in
     let i = c.args.id in
     let pig = c.args.pig in
-    let v = version_of y in
+    let v = version_of c.args.telegram.now in
     let n = c.loop-packet.pkt in
     record {
       lines = one_more c.add_packet.new.found.items c.loop-packet.found.items (lines_at i pig n (looked_in v x)) (packet_lines i v pig (n + 1) left) (packet_lines i v pig n c.loop-packet.packet-iterator) _

@@ -9,7 +9,6 @@ use Rattle.balise_review.proofs.links.add_telegram.Goals as goal
 
 pub loop-packet-preserved : goal.loop-packet-preserved
 loop-packet-preserved c =
-    let y = c.args.telegram.now in
     let x = c.in-Some.packet in
     let left = c.next.new.self in
     let here : c.loop-packet.packet-iterator ≡ (c.in-Some.field-0-0, x) ∷ left = c.in-Some.ensures.steps in
@@ -18,7 +17,7 @@ loop-packet-preserved c =
     let i = c.args.id in
     let own = c.args.own in
     let pig = c.args.pig in
-    let k = country_of y in
+    let k = country_of c.args.telegram.now in
     let n = c.loop-packet.pkt in
     let in_force : c.identity-country.result.country ≡ k = search rules in
     record {

@@ -18,14 +18,8 @@ returns-in-Ok-clause-back c =
       c.in-Ok.ensures.1 ∙ ap (λ i. changed_to (effect (0, TurnGroup c.args.g) i groups) c.args.plan.now) own ∙ back_of f (TurnGroup c.args.g) c.args.plan.now c.requires.is,
     )
 
-pub returns-in-Err-clause-back : goal.returns-in-Err-clause-back
-returns-in-Err-clause-back c =
-    let r = turn_free c.args.entry.now c.args.g c.args.plan.now.groups c.requires.is c.requires.last in
-    let d = c.in-Err.ensures.0 in
-    absurd (cc)
-
-pub returns-in-Err-clause-ok : goal.returns-in-Err-clause-ok
-returns-in-Err-clause-ok c =
+pub returns-in-Err : goal.returns-in-Err
+returns-in-Err c =
     let r = turn_free c.args.entry.now c.args.g c.args.plan.now.groups c.requires.is c.requires.last in
     let d = c.in-Err.ensures.0 in
     absurd (cc)

@@ -1,4 +1,6 @@
-use Rattle.std.proofs.Common.{true, false, ◌≡◌, ◌≤◌, ◌+◌, ◌-◌, ◌∙◌, ⊎_elim, ℕ, zero, suc, List, [], ◌∷◌, Some, None, length, map, take, drop, slice_get, refl, sym, ap, subst, arith, add-one, inl, inr}
+use Rattle.std.proofs.Common.{true, false, ◌≡◌, ◌≤◌, ◌+◌, ◌-◌, ◌∙◌, ⊎_elim, ℕ, suc, List, Some, None, length, map, take, drop, slice_get, refl, sym, ap, subst, arith, add-one, inl, inr}
+use Rattle.std.proofs.lemmas.List.{drop-map, take_rest}
+use Rattle.std.proofs.lemmas.Option.{slice_get-get_or, slice_get_within}
 use Rattle.std.proofs.lemmas.Result.{err_from_is_err_and}
 use Rattle.balise_rules.specs.declared.refusal.Refusal.TheVariants.{DependsOn, NoSuchEdit, OutOfMemory}
 use Rattle.balise_rules.specs.Paths.{Entry}
@@ -9,8 +11,6 @@ use Rattle.balise_history.specs.Held.{Edited, Accepts, Refuses}
 use Rattle.balise_history.specs.Lists.{place_of, items_of, Ascends}
 use Rattle.balise_history.specs.Tests.{MayRunOut, RunsOutAmong, StrikeMayRunOut}
 use Rattle.balise_edits.specs.Homes.{number_at}
-use Rattle.balise_history.proofs.Cuts.{got, all-behind}
-use Rattle.balise_history.proofs.HomesKept.{numbers-drop}
 use Rattle.balise_history.proofs.Entries.{none-there, behind-ascends, rising-drop}
 use Rattle.balise_history.proofs.Few.{few-held}
 use Rattle.balise_history.proofs.Taking.{rising-standing, there}
@@ -22,12 +22,6 @@ use Rattle.balise_history.proofs.edited.EditedPlan.strike.Goals.{After-place_of-
 pub place_of-place-requires : goal.place_of-place-requires
 place_of-place-requires c = rw c.standing-standing.ensures (rising-standing c.self.inside.plan.groups c.self.inside.history.standing c.self.inside.history.stack c.self.inside.next c.self.invariant)
 
--- nothing stands after the last place
-past : (es : List Entry) (n : ℕ) (e : Entry) → length es ≤ n → slice_get es n ≡ Some e → ⊥
-past [] n e l g = cc
-past (x ∷ xs) zero e l g = omega arith
-past (x ∷ xs) (suc n) e l g = past xs n e (omega arith) g
-
 -- the place of the serial is that among the entries that stand
 placed : (c : After-place_of-place) → c.place_of-place.result ≡ place_of c.args.serial c.self.inside.history.standing
 placed c = c.place_of-place.ensures.place ∙ ap (place_of c.args.serial) c.standing-standing.ensures
@@ -35,7 +29,7 @@ placed c = c.place_of-place.ensures.place ∙ ap (place_of c.args.serial) c.stan
 stands_there : (c : After-serial) → slice_get c.self.inside.history.standing c.place_of-place.result ≡ Some c.index-standing-place.result
 stands_there c =
     ap (λ (es : List Entry). slice_get es c.place_of-place.result) (sym c.standing-standing.ensures)
-    ∙ got c.standing-standing.result.now c.place_of-place.result c.index-standing-place.result c.if-place-standing.false ∙ ap Some (sym c.index-standing-place.is)
+    ∙ slice_get-get_or c.standing-standing.result.now c.place_of-place.result c.index-standing-place.result c.if-place-standing.false ∙ ap Some (sym c.index-standing-place.is)
 
 has_serial : (c : Else-serial) → c.index-standing-place.result.0.0 ≡ c.args.serial
 has_serial c = sym c.serial.ensures ∙ c.if-serial.false
@@ -48,7 +42,7 @@ later_are : (c : Else-serial) → take (length c.standing-standing.result.now - 
 later_are c =
     let xs : List Entry = c.standing-standing.result.now in
     let n : ℕ = c.place_of-place.result in
-    all-behind xs (n + 1) ∙ ap (λ (m : ℕ). drop m xs) (add-one n) ∙ ap (drop (suc n)) c.standing-standing.ensures
+    take_rest xs (n + 1) ∙ ap (λ (m : ℕ). drop m xs) (add-one n) ∙ ap (drop (suc n)) c.standing-standing.ensures
 
 independent : (c : In_ok-behind) → first_dependent c.index-standing-place.result (later_ones (goal.at.In_ok-behind c).Else-serial) ≡ None
 independent c = ap (first_dependent c.index-standing-place.result) (sym (later_are (goal.at.In_ok-behind c).Else-serial)) ∙ c.in_ok-behind.ensures.independent
@@ -69,7 +63,7 @@ returns-then-place-standing-clause-answers c =
     let up = rising-standing c.self.inside.plan.groups h.standing h.stack c.self.inside.next c.self.invariant in
     let p = placed (goal.at.returns-then-place-standing-clause-answers c).After-place_of-place in
     let l : length h.standing ≤ place_of s h.standing = omega (arith, p, ap (λ (es : List Entry). length es) c.standing-standing.ensures) in
-    let n = none-there s h.standing up (λ e g q. past h.standing (place_of s h.standing) e l g) in
+    let n = none-there s h.standing up (λ e g q. let k = slice_get_within h.standing (place_of s h.standing) e g in omega arith) in
     subst (λ (e : Edited). Refuses (Strike s) e NoSuchEdit e) c.self.view_is (strike-missing c.self.inside.plan h c.self.inside.next s c.self.invariant n)
 
 pub returns-then-serial-clause-answers : goal.returns-then-serial-clause-answers
@@ -174,5 +168,5 @@ serials_behind-requires c =
     let hs : List ℕ = c.homes.result.now in
     let n : ℕ = c.place_of-place.result + 1 in
     record {
-      homes = all-behind hs n ∙ ap (drop n) c.homes.ensures ∙ ap (λ (es : List Entry). drop n (map number_at es)) (sym c.standing-standing.ensures) ∙ sym (numbers-drop n xs) ∙ ap (map number_at) (sym (all-behind xs n));
+      homes = take_rest hs n ∙ ap (drop n) c.homes.ensures ∙ ap (λ (es : List Entry). drop n (map number_at es)) (sym c.standing-standing.ensures) ∙ drop-map number_at n xs ∙ ap (map number_at) (sym (take_rest xs n));
     }

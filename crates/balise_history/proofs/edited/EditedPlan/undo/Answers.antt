@@ -2,10 +2,10 @@ use Rattle.std.proofs.Common.{subst, ◌≡◌, ◌<◌, ◌-◌, ◌∙◌, ℕ
 use Rattle.balise_rules.specs.Paths.{Entry}
 use Rattle.balise_rules.specs.Behind.{serials_behind}
 use Rattle.balise_rules.specs.Session.{first_dependent}
+use Rattle.std.proofs.lemmas.Option.{slice_get-get_or}
 use Rattle.std.proofs.lemmas.Result.{err_from_is_err_and}
 use Rattle.balise_rules.specs.Session.{Undo}
 use Rattle.balise_history.specs.Held.{Edited, Refuses}
-use Rattle.balise_history.proofs.Cuts.{got}
 use Rattle.balise_history.proofs.Answering.{is-last, none-behind, took-out, undo-accepts, undo-wants, view}
 use Rattle.balise_history.proofs.edited.EditedPlan.undo.Goals as goal
 use Rattle.balise_history.proofs.edited.EditedPlan.undo.Goals.{After-serial-serial}
@@ -17,7 +17,7 @@ last_there : (c : After-serial-serial) → slice_get c.self.inside.history.stand
 last_there c =
     let xs : List Entry = c.standing-standing.result.now in
     let l : last_place c < length xs = omega arith in
-    ap (λ (es : List Entry). slice_get es (last_place c)) (sym c.standing-standing.ensures) ∙ got xs (last_place c) c.index-standing-count.result l ∙ ap Some (sym c.index-standing-count.is)
+    ap (λ (es : List Entry). slice_get es (last_place c)) (sym c.standing-standing.ensures) ∙ slice_get-get_or xs (last_place c) c.index-standing-count.result l ∙ ap Some (sym c.index-standing-count.is)
 
 comes_last : (c : After-serial-serial) → suc (last_place c) ≡ length c.self.inside.history.standing
 comes_last c = omega (arith, ap (λ (es : List Entry). length es) c.standing-standing.ensures)

@@ -6,11 +6,9 @@ use Rattle.balise_history.specs.Lists.{items_of}
 use Rattle.balise_history.proofs.edited.journal_entry.last_serial.Goals as goal
 
 last-is : (es : List Entry) (n : ℕ) (e : Entry) → length es ≡ suc n → slice_get es n ≡ Some e → e.0.0 ≡ last_serial (items_of es)
-last-is [] n e l g = absurd (omega arith)
 last-is (x ∷ []) zero e l g = ap (λ (y : Entry). y.0.0) (sym (unsome g))
-last-is (x ∷ []) (suc n) e l g = absurd (omega arith)
-last-is (x ∷ y ∷ ys) zero e l g = absurd (omega arith)
 last-is (x ∷ y ∷ ys) (suc n) e l g = last-is (y ∷ ys) n e (omega arith) g
+last-is es n e l g = absurd (omega arith)
 
 last-of : (es : List Entry) (e : Entry) → Some e ≡ slice_get es (length es - 1) → e.0.0 ≡ last_serial (items_of es)
 last-of [] e g = absurd cc

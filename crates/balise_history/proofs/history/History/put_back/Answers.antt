@@ -1,6 +1,6 @@
 use Rattle.std.proofs.Common.{rules, ◌≡◌, ◌-◌, ◌∙◌, ◌<◌, ◌≤◌, ℕ, suc, List, ◌∷◌, ◌++◌, Some, true, length, map, reverse, take, drop, set, sym, ap, subst, arith, get_or-set_same}
 use Rattle.std.proofs.lemmas.Bool.{false≢true}
-use Rattle.std.proofs.lemmas.List.{length-take, drop_all, append-nil}
+use Rattle.std.proofs.lemmas.List.{append-nil, drop-set-lt, drop_all, drop_at, length-take, take-set, take_at}
 use Rattle.balise_rules.specs.Doing.{done}
 use Rattle.balise_rules.specs.Notes.{noted}
 use Rattle.balise_rules.specs.Paths.{Entry}
@@ -10,7 +10,6 @@ use Rattle.balise_edits.specs.Homes.{number_at}
 use Rattle.balise_edits.specs.Standing.{IsNext, changed_to}
 use Rattle.balise_history.specs.declared.history.Undone.{Undone}
 use Rattle.balise_history.specs.Lists.{History, Gone, gone_of, entries_re_anchored}
-use Rattle.balise_history.proofs.Cuts.{take-before, drop-behind, take-set, drop-set}
 use Rattle.balise_history.proofs.HomesKept.{numbers-cut, numbers-with}
 use Rattle.balise_history.proofs.Stacked.{remaining, remaining-all, remaining-step, top-at}
 use Rattle.balise_history.proofs.history.History.put_back.Goals as goal
@@ -75,11 +74,11 @@ returns-clause-puts g c =
     let w : n ≤ length c.args.self.now.standing = c.requires.1.0 in
     let long : length (take n st) ≡ n = omega (arith, w, length-take n st, ap (λ (es : List Entry). length es) seen) in
     let put : c.insert-2.new.self.items ≡ take n xs ++ e ∷ drop n xs = rw c.unwrap-2.ensures at c.insert-2.ensures.items in
-    let stands = put ∙ ap (λ (l : List Entry). take n l ++ e ∷ drop n l) xs_are ∙ ap (λ (l : List Entry). l ++ e ∷ drop n (take n st ++ hung)) (take-before (take n st) hung n long)
-    ∙ ap (λ (l : List Entry). take n st ++ e ∷ l) (drop-behind (take n st) hung n long) ∙ ap (λ (x : Entry). take n st ++ x ∷ hung) entry
+    let stands = put ∙ ap (λ (l : List Entry). take n l ++ e ∷ drop n l) xs_are ∙ ap (λ (l : List Entry). l ++ e ∷ drop n (take n st ++ hung)) (take_at (take n st) hung n long)
+    ∙ ap (λ (l : List Entry). take n st ++ e ∷ l) (drop_at (take n st) hung n long) ∙ ap (λ (x : Entry). take n st ++ x ∷ hung) entry
     ∙ ap (λ (l : List Entry). take n l ++ done_again ∷ entries_re_anchored (Some (Fresh g.r.0.0.0)) g.r.1 (drop n l)) seen in
     let rest : c.remove-entry.new.self.items ≡ take top sk =
-    c.remove-entry.ensures.items ∙ ap (λ (l : List Undone). l ++ drop (suc top) (set sk top again)) (take-set sk top again) ∙ ap (λ (l : List Undone). take top sk ++ l) (drop-set sk top again ∙ drop_all (suc top) sk (omega arith)) ∙ append-nil (take top sk) in
+    c.remove-entry.ensures.items ∙ ap (λ (l : List Undone). l ++ drop (suc top) (set sk top again)) (take-set sk top again) ∙ ap (λ (l : List Undone). take top sk ++ l) (drop-set-lt (suc top) sk top again (omega arith) ∙ drop_all (suc top) sk (omega arith)) ∙ append-nil (take top sk) in
     let left = sym stack ∙ sym (remaining-all sk (suc top) (omega arith)) ∙ remaining-step sk top u some ∙ ap (λ (x : Gone). x ∷ remaining sk top) (sym (ap gone_of c.index_mut-undone.ensures.value) ∙ is)
     ∙ ap (λ (l : List Undone). g.r ∷ map gone_of (reverse l)) (sym rest) in
     (c.in_ok-again.ensures.done ∙ ap (λ (x : Gone). changed_to (done x.0.0 groups) c.args.plan.now) is, stands, left)

@@ -1,7 +1,8 @@
-use Rattle.std.proofs.Common.{◌≡◌, ◌∙◌, ℕ, List, [], ◌∷◌, ◌++◌, map, reverse, take, ap, arith}
+use Rattle.std.proofs.Common.{◌≡◌, ◌∙◌, ℕ, List, [], ◌∷◌, ◌++◌, map, reverse, take, sym, ap, arith}
+use Rattle.std.proofs.lemmas.List.{map_more}
 use Rattle.balise_history.specs.declared.history.Undone.{Undone}
 use Rattle.balise_history.specs.Lists.{History, Gone, gone_of}
-use Rattle.balise_history.proofs.Stacked.{serial_of, one-more-serial, stacked}
+use Rattle.balise_history.proofs.Stacked.{serial_of, stacked}
 use Rattle.balise_history.proofs.history.History.undone.Goals as goal
 
 pub loop-undone-preserved : goal.loop-undone-preserved
@@ -11,7 +12,7 @@ loop-undone-preserved c =
     let s : c.serial.result ≡ serial_of c.undone-item.result = c.serial.ensures in
     p ∙ ap (λ (ns : List ℕ). ns ++ c.serial.result ∷ []) c.loop-undone.invariant
     ∙ ap (λ (n : ℕ). map serial_of (take c.loop-undone.undone-index us) ++ n ∷ []) (s ∙ ap serial_of c.undone-item.is)
-    ∙ one-more-serial us c.loop-undone.undone-index c.undone-item.result c.loop-undone-test.true
+    ∙ sym (map_more serial_of us c.loop-undone.undone-index c.undone-item.result c.loop-undone-test.true)
 
 pub returns-clause-ok : goal.returns-clause-ok
 returns-clause-ok c =

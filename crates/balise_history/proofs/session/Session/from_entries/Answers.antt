@@ -1,4 +1,5 @@
-use Rattle.std.proofs.Common.{◌≡◌, ◌∙◌, inl, inr, ⊎_elim, ℕ, suc, List, [], ◌∷◌, drop, take, map, length, Option, Some, None, Ok, Err, refl, sym, ap, arith, add-one}
+use Rattle.std.proofs.Common.{◌≡◌, ◌∙◌, inl, inr, ⊎_elim, ℕ, suc, List, [], drop, take, map, length, Option, Some, None, Ok, Err, refl, sym, ap, arith, add-one}
+use Rattle.std.proofs.lemmas.List.{nil_from_length}
 use Rattle.balise_commands.specs.Lines.{line_in}
 use Rattle.balise_commands.specs.declared.line.Line as code
 use Rattle.balise_rules.specs.Opening.{from_entries, with_entries, or_place}
@@ -56,16 +57,12 @@ loop-line-preserved c =
       left = omega (arith, c.loop-line.invariant.left, c.in-Some.ensures.steps.1);
     }
 
-empty : {A : Type 0} (xs : List A) → length xs ≡ 0 → xs ≡ []
-empty [] h = refl
-empty (x ∷ xs) h = absurd (omega arith)
-
 pub returns-clause-ok : goal.returns-clause-ok
 returns-clause-ok c =
     let it = c.loop-line.line-iterator.rest in
     let z = c.in-None.ensures.steps.0 in
     let e : length it.items ≡ 0 = omega (arith, it.ok, z) in
-    c.loop-line.invariant.rest ∙ ap (λ (xs : List code.Line). with_entries c.loop-line.place (map line_in xs) c.loop-line.opening.state) (empty it.items e) ∙ ap (λ (s : Seen). Ok s.state) (sym c.done.ensures)
+    c.loop-line.invariant.rest ∙ ap (λ (xs : List code.Line). with_entries c.loop-line.place (map line_in xs) c.loop-line.opening.state) (nil_from_length it.items e) ∙ ap (λ (s : Seen). Ok s.state) (sym c.done.ensures)
 
 pub returns-clause-changes : goal.returns-clause-changes
 returns-clause-changes c =

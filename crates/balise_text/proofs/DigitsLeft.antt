@@ -74,22 +74,12 @@ two_digits n = digit_of (n / 16) ∷ digit_of (n % 16) ∷ []
 first_byte : (r : List Bool) → 8 ≤ length r → digits_in r ≡ two_digits (num (take 8 r)) ++ digits_in (drop 8 r)
 unfolding digits_in
 first_byte (a ∷ b ∷ c ∷ d ∷ e ∷ f ∷ g ∷ h ∷ r) k = rw (high a b c d e f g h, low a b c d e f g h) refl
-first_byte [] k = absurd (omega arith)
-first_byte (a ∷ []) k = absurd (omega arith)
-first_byte (a ∷ b ∷ []) k = absurd (omega arith)
-first_byte (a ∷ b ∷ c ∷ []) k = absurd (omega arith)
-first_byte (a ∷ b ∷ c ∷ d ∷ []) k = absurd (omega arith)
-first_byte (a ∷ b ∷ c ∷ d ∷ e ∷ []) k = absurd (omega arith)
-first_byte (a ∷ b ∷ c ∷ d ∷ e ∷ f ∷ []) k = absurd (omega arith)
-first_byte (a ∷ b ∷ c ∷ d ∷ e ∷ f ∷ g ∷ []) k = absurd (omega arith)
+first_byte r k = absurd (omega arith)
 
 first_four : (r : List Bool) → 4 ≤ length r → digits_in r ≡ digit_of (num (take 4 r)) ∷ digits_in (drop 4 r)
 unfolding digits_in
 first_four (a ∷ b ∷ c ∷ d ∷ r) k = refl
-first_four [] k = absurd (omega arith)
-first_four (a ∷ []) k = absurd (omega arith)
-first_four (a ∷ b ∷ []) k = absurd (omega arith)
-first_four (a ∷ b ∷ c ∷ []) k = absurd (omega arith)
+first_four r k = absurd (omega arith)
 
 -- the digits that are left, where those of one byte more come
 pub byte_left : (b : List Bool) (i value high low : ℕ) → 8 * i < length b → value ≡ value_at (8 * i) 8 b → high ≡ digit_of (value / 16) → low ≡ digit_of (value % 16)
@@ -97,12 +87,10 @@ pub byte_left : (b : List Bool) (i value high low : ℕ) → 8 * i < length b �
 byte_left b i value high low h v e f =
     let n = fill (length b) in
     let r = drop (8 * i) (padded b) in
-    let more = digits_in (drop (8 * (i + 1)) (padded b)) in
     let is : num (take 8 r) ≡ value = sym (v ∙ same_value b (8 * i) 8 n (omega arith) (omega (arith, h))) in
     let next : drop 8 r ≡ drop (8 * (i + 1)) (padded b) = drop-drop 8 (8 * i) (padded b) ∙ ap (λ (k : ℕ). drop k (padded b)) (omega arith) in
     first_byte r (omega (arith, length_left b n (8 * i), h))
-    ∙ ap (λ x. two_digits (num (take 8 r)) ++ digits_in x) next
-    ∙ ap (λ (m : ℕ). two_digits m ++ more) is ∙ ap (λ (m : ℕ). m ∷ digit_of (value % 16) ∷ more) (sym e) ∙ ap (λ (m : ℕ). high ∷ m ∷ more) (sym f)
+    ∙ (rw (next, is, ← e, ← f) refl)
 
 -- the digits that are left, where one more comes
 pub four_left : (b : List Bool) (i value digit : ℕ) → 4 * i < length b → value ≡ value_at (4 * i) 4 b → digit ≡ digit_of value → digits_in (drop (4 * i) (filled b)) ≡ (digit ∷ []) ++ digits_in (drop (4 * (i + 1)) (filled b))
@@ -112,8 +100,7 @@ four_left b i value digit h v d =
     let is : num (take 4 r) ≡ value = sym (v ∙ same_value b (4 * i) 4 n (omega arith) (omega (arith, h))) in
     let next : drop 4 r ≡ drop (4 * (i + 1)) (filled b) = drop-drop 4 (4 * i) (filled b) ∙ ap (λ (k : ℕ). drop k (filled b)) (omega arith) in
     first_four r (omega (arith, length_left b n (4 * i), h))
-    ∙ ap (λ x. digit_of (num (take 4 r)) ∷ digits_in x) next
-    ∙ ap (λ (m : ℕ). m ∷ digits_in (drop (4 * (i + 1)) (filled b))) (ap digit_of is ∙ sym d)
+    ∙ (rw (next, is, ← d) refl)
 
 no_digits : (r : List Bool) → length r ≡ 0 → digits_in r ≡ []
 unfolding digits_in

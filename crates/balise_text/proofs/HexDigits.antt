@@ -1,5 +1,5 @@
 -- Digits that were printed for bits are read back.
-use Rattle.std.proofs.Common.{◌≡◌, ◌∙◌, ℕ, zero, suc, ◌+◌, ◌*◌, ◌%◌, ◌≤◌, ◌<◌, ◌-◌, ◌==◌, Bool, true, false, List, [], ◌∷◌, ◌++◌, length, drop, Option, Some, Result, Ok, refl, ap, arith, length-append}
+use Rattle.std.proofs.Common.{◌≡◌, ◌∙◌, ℕ, zero, suc, ◌+◌, ◌*◌, ◌%◌, ◌≤◌, ◌<◌, ◌==◌, Bool, true, false, List, [], ◌∷◌, ◌++◌, length, drop, Option, Some, Result, Ok, refl, ap, arith, length-append}
 use Rattle.std.specs.Prelude.{nat_le, nat_lt}
 use Rattle.std.proofs.lemmas.Bool.{le-leb, ltb-false, ltb-true}
 use Rattle.std.proofs.lemmas.Bool.Decides.{nat_tests}
@@ -20,8 +20,7 @@ value_back n h = split_on (nat_lt n 10)
     let small : n < 10 = ltb-true n 10 e in
     let a : nat_le 48 (48 + n) ≡ true = grind (arith, nat_tests) in
     let b : nat_le (48 + n) 57 ≡ true = grind (arith, nat_tests) in
-    let c : 48 + n - 48 ≡ n = omega arith in
-    ap digit_value (let d : digit_of n ≡ 48 + n = rw e refl in d) ∙ (let f : digit_value (48 + n) ≡ Some (48 + n - 48) = rw (a, b) refl in f) ∙ ap Some c)
+    rw (e, a, b) (ap Some (omega arith)))
     (λ e.
     let large : 10 ≤ n = ltb-false n 10 e in
     let a : nat_le 48 (87 + n) ≡ true = grind (arith, nat_tests) in
@@ -30,8 +29,7 @@ value_back n h = split_on (nat_lt n 10)
     let d : nat_le (87 + n) 70 ≡ false = grind (arith, nat_tests) in
     let g : nat_le 97 (87 + n) ≡ true = grind (arith, nat_tests) in
     let i : nat_le (87 + n) 102 ≡ true = grind (arith, nat_tests) in
-    let k : 87 + n - 87 ≡ n = omega arith in
-    ap digit_value (let j : digit_of n ≡ 87 + n = rw e refl in j) ∙ (let f : digit_value (87 + n) ≡ Some (87 + n - 87) = rw (a, b, c, d, g, i) refl in f) ∙ ap Some k)
+    rw (e, a, b, c, d, g, i) (ap Some (omega arith)))
 
 one_back : (a b c d : Bool) (o : Option (List Bool)) (rest : List Bool) → o ≡ Some rest → behind_digit (digit_value (digit_of (num (a ∷ b ∷ c ∷ d ∷ [])))) o ≡ Some (a ∷ b ∷ c ∷ d ∷ rest)
 one_back a b c d o rest e =
@@ -43,10 +41,8 @@ one_back a b c d o rest e =
 pub digits_back : (b : List Bool) → length b % 4 ≡ 0 → digit_bits (digits_in b) ≡ Some b
 unfolding digit_bits digits_in
 digits_back [] h = refl
-digits_back (a ∷ []) h = absurd (omega arith)
-digits_back (a ∷ b ∷ []) h = absurd (omega arith)
-digits_back (a ∷ b ∷ c ∷ []) h = absurd (omega arith)
 digits_back (a ∷ b ∷ c ∷ d ∷ rest) h = one_back a b c d (digit_bits (digits_in rest)) rest (digits_back rest (omega (arith, h)))
+digits_back b h = absurd (omega arith)
 
 at_least : (n : ℕ) → 36 ≤ digit_of n
 at_least n = split_on (nat_lt n 10) (λ e. rw e (omega arith)) (λ e. rw e (omega arith))
@@ -56,19 +52,14 @@ high_digit n w h = rw (le-leb 36 (digit_of n) (at_least n), h) refl
 
 pub digits_high : (b : List Bool) → is_high (digits_in b) ≡ true
 unfolding digits_in
-digits_high [] = refl
-digits_high (a ∷ []) = refl
-digits_high (a ∷ b ∷ []) = refl
-digits_high (a ∷ b ∷ c ∷ []) = refl
 digits_high (a ∷ b ∷ c ∷ d ∷ rest) = high_digit (num (a ∷ b ∷ c ∷ d ∷ [])) (digits_in rest) (digits_high rest)
+digits_high b = refl
 
 pub digits_count : (b : List Bool) → length b % 4 ≡ 0 → 4 * length (digits_in b) ≡ length b
 unfolding digits_in
 digits_count [] h = refl
-digits_count (a ∷ []) h = absurd (omega arith)
-digits_count (a ∷ b ∷ []) h = absurd (omega arith)
-digits_count (a ∷ b ∷ c ∷ []) h = absurd (omega arith)
 digits_count (a ∷ b ∷ c ∷ d ∷ rest) h = let e = digits_count rest (omega (arith, h)) in omega (arith, e)
+digits_count b h = absurd (omega arith)
 
 filled : (b : List Bool) → length (b ++ zeros (fill (length b))) ≡ length b + fill (length b)
 filled b = length-append b (zeros (fill (length b))) ∙ ap (λ (n : ℕ). length b + n) (length-replicate (fill (length b)) false)

@@ -9,7 +9,7 @@ use Rattle.balise_text.specs.declared.head.Version.{Version}
 use Rattle.balise_text.specs.declared.head.Version.TheVariants.{One, Two}
 use Rattle.balise_text.specs.declared.section.Section.{Section}
 use Rattle.balise_text.specs.declared.section.Section.TheVariants.{Entries, Undone}
-use Rattle.balise_text.specs.Words.{Word, words_of, is_digit, all_digits, number_of, or_bad, read_as}
+use Rattle.balise_text.specs.Words.{Word, words_of, is_digit, all_digits, or_bad, read_as}
 use Rattle.balise_text.specs.Texts.{behind_marks}
 use Rattle.balise_text.specs.Entries.{edit_words, noted_words, entry_text, undone_text}
 use Rattle.balise_text.specs.Heads.{head_in}
@@ -27,9 +27,6 @@ differs (b ∷ bs) rest c cs d l k =
     let p = both (is_digit b) (all_digits bs) d in
     let q : (b == c) ≡ false = grind (arith, p.0) in
     rw q refl
-
-not_undone : (w : Word) (ws : List Word) → bytes_eq w (codes "undone") ≡ false → undone_in (w ∷ ws) ≡ None
-not_undone w ws e = rw e refl
 
 -- an entry's line isn't `edits`, and not an undone edit's
 not_edits : (l : Line) → IsNumber l.serial → bytes_eq (entry_text l) (codes "edits") ≡ false
@@ -49,22 +46,16 @@ pub reads_as_printed : ReadsAsPrinted
 reads_as_printed v l p =
     let ws = edit_words l.edit ++ noted_words l.noted in
     let again : words_of (entry_text l) ≡ decimal l.serial ∷ ws = words_again (decimal l.serial) ws (words_high l.serial l.edit l.noted p.0 p.1) in
-    let none : undone_in (words_of (entry_text l)) ≡ None = ap undone_in again ∙ not_undone (decimal l.serial) ws (serial_not_undone l.serial p.0) in
+    let none : undone_in (words_of (entry_text l)) ≡ None = ap undone_in again ∙ (rw (serial_not_undone l.serial p.0) refl) in
     as_line (entry_text l) (Entries v) (EntryLine l) (not_edits l p.0) (entry_in_part v (words_of (entry_text l)) l none (entry_again l p))
-
-head_words : (w : Word) (next : ℕ) → number_of w ≡ Some next → head_in (codes "journal" ∷ codes "2" ∷ w ∷ []) ≡ Some (record { version = Two; next = next })
-head_words w next e = rw e refl
 
 pub head_reads_as_printed : HeadReadsAsPrinted
 head_reads_as_printed next h =
-    ap (λ x. ok_or x BadLine) (ap head_in (words_again (codes "journal") (codes "2" ∷ decimal next ∷ []) (refl, (refl, (decimal_high next h, tt)))) ∙ head_words (decimal next) next (number_of_decimal next h))
-
-undone_words : (w : Word) (s : ℕ) → number_of w ≡ Some s → undone_in (codes "undone" ∷ w ∷ []) ≡ Some s
-undone_words w s e = rw e refl
+    ap (λ ws. ok_or (head_in ws) BadLine) (words_again (codes "journal") (codes "2" ∷ decimal next ∷ []) (refl, (refl, (decimal_high next h, tt)))) ∙ (rw (number_of_decimal next h) refl)
 
 pub undone_reads_as_printed : UndoneReadsAsPrinted
 undone_reads_as_printed s h =
-    let again : undone_in (words_of (undone_text s)) ≡ Some s = ap undone_in (words_again (codes "undone") (decimal s ∷ []) (refl, (decimal_high s h, tt))) ∙ undone_words (decimal s) s (number_of_decimal s h) in
+    let again : undone_in (words_of (undone_text s)) ≡ Some s = ap undone_in (words_again (codes "undone") (decimal s ∷ []) (refl, (decimal_high s h, tt))) ∙ (rw (number_of_decimal s h) refl) in
     (as_line (undone_text s) (Entries Two) (UndoneLine s) refl (rw again refl), as_line (undone_text s) Undone (UndoneLine s) refl (rw again refl))
 
 pub prints_lines : PrintsLines

@@ -1,29 +1,20 @@
 -- What is left of a text that a list gives, one item after another.
-use Rattle.std.proofs.Common.{◌≡◌, ◌∙◌, ℕ, zero, suc, ◌+◌, ◌<◌, ◌≤◌, List, [], ◌∷◌, ◌++◌, codes, length, drop, map, get_or, drop-cons, refl, sym, ap, append_assoc, arith}
-use Rattle.std.proofs.lemmas.List.{append-nil}
+use Rattle.std.proofs.Common.{◌≡◌, ◌∙◌, ℕ, ◌+◌, ◌<◌, ◌≤◌, List, [], ◌∷◌, ◌++◌, codes, length, drop, map, get_or, refl, sym, ap, append_assoc}
+use Rattle.std.proofs.lemmas.List.{append-nil, drop_all, drop_more}
 use Rattle.balise_text.specs.Texts.{Text, text_of, behind_marks}
-
-nothing_left : {X : Type 0} (xs : List X) (i : ℕ) → length xs ≤ i → drop i xs ≡ []
-nothing_left [] zero h = refl
-nothing_left [] (suc i) h = refl
-nothing_left (x ∷ xs) zero h = absurd (omega arith)
-nothing_left (x ∷ xs) (suc i) h = nothing_left xs i (omega arith)
-
-item_left : {X : Type 0} (xs : List X) (i : ℕ) (d : X) → i < length xs → drop i xs ≡ get_or xs i d ∷ drop (i + 1) xs
-item_left xs i d h = let e : suc i ≡ i + 1 = omega arith in drop-cons xs i d h ∙ ap (λ (k : ℕ). get_or xs i d ∷ drop k xs) e
 
 -- Texts one after another.
 
 pub text_left : {X : Type 0} (f : X → Text) (xs : List X) (i : ℕ) (d : X) → i < length xs → text_of (map f (drop i xs)) ≡ f (get_or xs i d) ++ text_of (map f (drop (i + 1) xs))
-text_left f xs i d h = ap (λ ys. text_of (map f ys)) (item_left xs i d h)
+text_left f xs i d h = ap (λ ys. text_of (map f ys)) (drop_more xs i d h)
 
 pub no_text_left : {X : Type 0} (f : X → Text) (xs : List X) (i : ℕ) → length xs ≤ i → text_of (map f (drop i xs)) ≡ []
-no_text_left f xs i h = ap (λ ys. text_of (map f ys)) (nothing_left xs i h)
+no_text_left f xs i h = ap (λ ys. text_of (map f ys)) (drop_all i xs h)
 
 -- Words with a separator before each.
 
 pub word_left : {X : Type 0} (mark : ℕ) (f : X → Text) (xs : List X) (i : ℕ) (d : X) → i < length xs → behind_marks mark (map f (drop i xs)) ≡ mark ∷ (f (get_or xs i d) ++ behind_marks mark (map f (drop (i + 1) xs)))
-word_left mark f xs i d h = ap (λ ys. behind_marks mark (map f ys)) (item_left xs i d h)
+word_left mark f xs i d h = ap (λ ys. behind_marks mark (map f ys)) (drop_more xs i d h)
 
 -- one of them, after its space, and those after it
 pub item_word : {X : Type 0} (f : X → Text) (xs : List X) (i : ℕ) (x : X) → i < length xs → x ≡ get_or xs i x → behind_marks 32 (map f (drop i xs)) ≡ codes " " ++ (f x ++ behind_marks 32 (map f (drop (i + 1) xs)))

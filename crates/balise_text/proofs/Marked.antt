@@ -14,11 +14,6 @@ abbrev pub all_lack : ℕ → List Word → Bool
 all_lack mark [] = true
 all_lack mark (w ∷ ws) = lacks mark w && all_lack mark ws
 
--- the separator stands in none of the words
-abbrev pub AllLack : ℕ → List Word → Type 0
-AllLack mark [] = Unit {0}
-AllLack mark (w ∷ ws) = (lacks mark w ≡ true) × AllLack mark ws
-
 pub lacks-append : (mark : ℕ) (v w : Word) → lacks mark v ≡ true → lacks mark w ≡ true → lacks mark (v ++ w) ≡ true
 lacks-append mark [] w p q = q
 lacks-append mark (b ∷ bs) w p q = by (b == mark) (lacks mark bs) p (λ r. lacks-append mark bs w r q)

@@ -1,12 +1,12 @@
 -- Words that were printed are read back: tags, anchors, neighbours, paths and names.
-use Rattle.std.proofs.Common.{◌≡◌, ℕ, ◌<◌, ◌==◌, ◌&&◌, true, false, [], ◌∷◌, Option, Some, None, decimal, refl, arith}
+use Rattle.std.proofs.Common.{◌≡◌, ℕ, ◌<◌, ◌==◌, true, false, [], ◌∷◌, Option, Some, None, decimal, refl, arith}
 use Rattle.balise_rules.specs.declared.tag.Tag.{Tag}
 use Rattle.balise_rules.specs.declared.tag.Tag.TheVariants.{Base, Fresh}
-use Rattle.balise_text.specs.Words.{Word, is_digit, all_digits, number_of, parts_of}
+use Rattle.balise_text.specs.Words.{Word, is_digit, all_digits}
 use Rattle.balise_text.specs.Places.{tag_text, anchor_text, neighbour_text, telegram_path, packet_path, tag_of, anchor_of, neighbour_of, telegram_path_of, packet_path_of}
 use Rattle.balise_text.specs.Laws.{IsNumber, IsTagNumber, IsSpot}
 use Rattle.balise_text.proofs.Decimals.{digits_of_decimal, number_of_decimal}
-use Rattle.balise_text.proofs.Marked.{lacks, both, parts_marked}
+use Rattle.balise_text.proofs.Marked.{lacks, all_lack, both, parts_marked}
 
 -- No digit is a separator below `0`.
 digits_lack : (mark : ℕ) (w : Word) → mark < 48 → all_digits w ≡ true → lacks mark w ≡ true
@@ -42,26 +42,12 @@ neighbour_read (Some (Fresh n)) h = rw (number_of_decimal n h) refl
 
 -- Paths.
 
-two_parts : (w u v : Word) (g : Tag) (t : ℕ) → parts_of 47 w ≡ u ∷ v ∷ [] → tag_of u ≡ Some g → number_of v ≡ Some t → telegram_path_of w ≡ Some (g, t)
-two_parts w u v g t e p q = rw (e, p, q) refl
-
-three_parts : (w u v x : Word) (g : Tag) (t : ℕ) (q : Tag) → parts_of 47 w ≡ u ∷ v ∷ x ∷ [] → tag_of u ≡ Some g → number_of v ≡ Some t → tag_of x ≡ Some q → packet_path_of w ≡ Some (g, t, q)
-three_parts w u v x g t q e a b c = rw (e, a, b, c) refl
-
-all_two : (mark : ℕ) (u v : Word) → lacks mark u ≡ true → lacks mark v ≡ true → (lacks mark u && (lacks mark v && true)) ≡ true
-all_two mark u v p q = rw (p, q) refl
-
-all_three : (mark : ℕ) (u v w : Word) → lacks mark u ≡ true → lacks mark v ≡ true → lacks mark w ≡ true → (lacks mark u && (lacks mark v && (lacks mark w && true))) ≡ true
-all_three mark u v w p q r = rw (p, q, r) refl
-
 pub telegram_path_read : (g : Tag) (t : ℕ) → IsTagNumber g → IsNumber t → telegram_path_of (telegram_path g t) ≡ Some (g, t)
 telegram_path_read g t h k =
-    two_parts (telegram_path g t) (tag_text g) (decimal t) g t
-    (parts_marked 47 (tag_text g) (decimal t ∷ []) (all_two 47 (tag_text g) (decimal t) (tag_lacks 47 g (omega arith) h) (decimal_lacks 47 t (omega arith) k)))
-    (tag_read g h) (number_of_decimal t k)
+    let lack : all_lack 47 (tag_text g ∷ decimal t ∷ []) ≡ true = rw (tag_lacks 47 g (omega arith) h, decimal_lacks 47 t (omega arith) k) refl in
+    rw (parts_marked 47 (tag_text g) (decimal t ∷ []) lack, tag_read g h, number_of_decimal t k) refl
 
 pub packet_path_read : (g : Tag) (t : ℕ) (p : Tag) → IsTagNumber g → IsNumber t → IsTagNumber p → packet_path_of (packet_path g t p) ≡ Some (g, t, p)
 packet_path_read g t p h k l =
-    three_parts (packet_path g t p) (tag_text g) (decimal t) (tag_text p) g t p
-    (parts_marked 47 (tag_text g) (decimal t ∷ tag_text p ∷ []) (all_three 47 (tag_text g) (decimal t) (tag_text p) (tag_lacks 47 g (omega arith) h) (decimal_lacks 47 t (omega arith) k) (tag_lacks 47 p (omega arith) l)))
-    (tag_read g h) (number_of_decimal t k) (tag_read p l)
+    let lack : all_lack 47 (tag_text g ∷ decimal t ∷ tag_text p ∷ []) ≡ true = rw (tag_lacks 47 g (omega arith) h, decimal_lacks 47 t (omega arith) k, tag_lacks 47 p (omega arith) l) refl in
+    rw (parts_marked 47 (tag_text g) (decimal t ∷ tag_text p ∷ []) lack, tag_read g h, number_of_decimal t k, tag_read p l) refl

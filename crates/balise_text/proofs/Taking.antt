@@ -1,7 +1,7 @@
 -- The parts that are left, where the next one is taken.
-use Rattle.std.proofs.Common.{◌≡◌, ◌∙◌, ℕ, ◌+◌, ◌-◌, List, [], ◌∷◌, Bool, true, false, cond, length, take, drop, Option, Some, None, option_map, refl, sym, ap, arith}
+use Rattle.std.proofs.Common.{◌≡◌, ◌∙◌, ℕ, ◌+◌, ◌-◌, List, [], ◌∷◌, Bool, true, false, cond, length, take, drop, Option, Some, None, option_map, refl, sym, ap}
 use Rattle.std.specs.Prelude.{position, ◌==◌, IsTrue}
-use Rattle.std.proofs.lemmas.List.{take_all, length-drop}
+use Rattle.std.proofs.lemmas.List.{take_rest}
 use Rattle.balise_text.specs.declared.words.Words.{Words}
 use Rattle.balise_text.specs.Words.{Word, no_more, parts_of}
 use Rattle.balise_text.specs.Left.{left}
@@ -13,8 +13,7 @@ found w = position (λ b. b == w.mark) w.text.now
 pub left_more : (w : Words) (i : ℕ) → w.over ≡ false → found w ≡ Some i → left w ≡ take i w.text.now ∷ parts_of w.mark (take (length w.text.now - (i + 1)) (drop (i + 1) w.text.now))
 left_more w i o e =
     let t = w.text.now in
-    let rest : take (length t - (i + 1)) (drop (i + 1) t) ≡ drop (i + 1) t = take_all (length t - (i + 1)) (drop (i + 1) t) (omega (arith, length-drop (i + 1) t)) in
-    ap (λ (b : Bool). cond b [] (parts_of w.mark t)) o ∙ first_part w.mark t i e ∙ ap (λ (x : Word). take i t ∷ parts_of w.mark x) (sym rest)
+    ap (λ (b : Bool). cond b [] (parts_of w.mark t)) o ∙ first_part w.mark t i e ∙ ap (λ (x : Word). take i t ∷ parts_of w.mark x) (sym (take_rest t (i + 1)))
 
 pub left_last : (w : Words) → w.over ≡ false → found w ≡ None → left w ≡ w.text.now ∷ []
 left_last w o e = ap (λ (b : Bool). cond b [] (parts_of w.mark w.text.now)) o ∙ one_part w.mark w.text.now e

@@ -4,7 +4,7 @@ use Rattle.std.specs.Prelude.{◌==◌, nat_le}
 use Rattle.std.proofs.lemmas.Bool.{eqb-true, lt-ltb, le-ltb, ltb-true, ltb-false}
 use Rattle.balise_rules.proofs.Tests.{split_on}
 use Rattle.balise_text.specs.Words.{Word, all_digits, is_digit, most_number, number_of, onto_first, parts_of, taken, value_after, value_from, with_words}
-use Rattle.std.proofs.lemmas.List.{take_all, length-drop}
+use Rattle.std.proofs.lemmas.List.{take_rest}
 use Rattle.balise_text.specs.declared.words.Words.{Words}
 use Rattle.balise_text.specs.Left.{left, up_to}
 
@@ -35,11 +35,7 @@ pub part_before : (mark : ℕ) (w : Word) (n : ℕ) → n ≡ length (up_to mark
 part_before mark w n e h =
     let f : ltb (length (up_to mark w)) (length w) ≡ true = lt-ltb _ _ (omega (arith, e, h)) in
     let s : suc (length (up_to mark w)) ≡ n + 1 = omega (arith, e) in
-    let rest : take (length w - (n + 1)) (drop (n + 1) w) ≡ drop (n + 1) w = take_all (length w - (n + 1)) (drop (n + 1) w) (omega (arith, length-drop (n + 1) w)) in
-    parts_up_to mark w
-    ∙ ap (λ (b : Bool). up_to mark w ∷ cond b (parts_of mark (drop (suc (length (up_to mark w))) w)) []) f
-    ∙ ap (λ (k : ℕ). up_to mark w ∷ parts_of mark (drop k w)) s
-    ∙ ap (λ (x : Word). up_to mark w ∷ parts_of mark x) (sym rest)
+    parts_up_to mark w ∙ (rw (f, s, take_rest w (n + 1)) refl)
 
 -- ---- the number that a text is
 

@@ -4,15 +4,18 @@
 /// exit code for `main` to return. `$rt` is the runtime that `main` is given, and `$program` the program.
 ///
 /// It is a macro since no clause knows what reaches the system: the body is proved in each `main`, over the contracts
-/// of `launch` and of `stop_without_memory`. What is written is held back up to 64 KiB, which is what a pipe takes.
+/// of `launch` and of `stop_without_memory`. What is written is held back up to 64 KiB, which is what a pipe takes, and
+/// input is asked for in pieces of up to so much: the run asks for one line and the bytes of another at the most.
 #[macro_export]
 macro_rules! launch_on_system {
     ($rt:ident, $program:ident) => {{
         let alloc = $rt.alloc();
         let mut errors = $crate::Counted::new($rt.stderr());
-        let exit = match std::io::BufWriter::with_capacity(alloc, 65_536, std::io::writer(&$rt)) {
-            Ok(output) => {
-                let mut reader = $crate::Counted::new($rt.reader());
+        let input = std::io::BufReader::with_capacity(alloc, 65_536, $rt.reader());
+        let output = std::io::BufWriter::with_capacity(alloc, 65_536, std::io::writer(&$rt));
+        let exit = match (input, output) {
+            (Ok(input), Ok(output)) => {
+                let mut reader = $crate::Counted::new(input);
                 let mut writer = $crate::Counted::new(output);
                 let words = std::env::args(&$rt);
                 $crate::launch::<$program, _, _, _>(
@@ -23,7 +26,7 @@ macro_rules! launch_on_system {
                     &mut errors,
                 )
             }
-            Err(_) => $crate::stop_without_memory(&mut errors),
+            _ => $crate::stop_without_memory(&mut errors),
         };
         std::process::ExitCode::from(exit.code)
     }};

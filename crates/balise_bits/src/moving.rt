@@ -40,7 +40,7 @@ pub(crate) fn move_part_at(bytes: &mut [u8], to: usize, at: usize, len: usize)
     move_long_part_at(bytes, to, at, len);
 }
 
-// The same for a part that is moved as one number.
+// Moves a part as one number.
 #[inline(always)]
 fn move_number_at(bytes: &mut [u8], to: usize, at: usize, len: usize)
     requires few { len ≤ 57 }
@@ -52,7 +52,7 @@ fn move_number_at(bytes: &mut [u8], to: usize, at: usize, len: usize)
     put_number_at(bytes, to, len as u32, value);
 }
 
-// The same, in several steps.
+// Moves a part in several steps.
 #[inline(never)]
 fn move_long_part_at(bytes: &mut [u8], to: usize, at: usize, len: usize)
     requires within { at + len ≤ 8 * length bytes.old }

@@ -45,7 +45,7 @@ pub(crate) fn decoded(text: &[u8], out: &mut [u8]) -> bool
     true
 }
 
-// The same for less than a block, which zeros fill.
+// Reads the digits of less than a block, which zeros fill.
 #[inline(never)]
 fn decoded_short(text: &[u8], out: &mut [u8]) -> bool
     requires text { length text.now ≡ 2 * length out.old }
@@ -62,7 +62,7 @@ fn decoded_short(text: &[u8], out: &mut [u8]) -> bool
     good
 }
 
-// The same for one block.
+// Reads the digits of one block.
 #[inline(always)]
 fn decoded_block(text: &[u8], out: &mut [u8]) -> bool
     requires text { length text.now ≡ 32 }
@@ -85,7 +85,7 @@ fn decoded_block(text: &[u8], out: &mut [u8]) -> bool
     good
 }
 
-// The same as `hex_value`, for vector code. It takes more steps, but has no branches.
+// The value of a digit, as `hex_value` has it, for vector code. It takes more steps, but has no branches.
 #[inline(always)]
 fn chosen_value(byte: u8) -> u8
     ensures digit { result < 16 → digit_value byte ≡ Some result }

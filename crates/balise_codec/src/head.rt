@@ -36,7 +36,7 @@ pub fn packet_fault(
     fields_to_fault(alloc, bits, at, at + size, version)
 }
 
-// The same of the first three fields.
+// The fault in the first three fields, and how far they go up to it; none where they have none.
 fn head_fault(alloc: Global, bits: &Bits, at: usize) -> Result<Option<Reach>, LayoutFault>
     requires { at ≤ length bits.now }
     ensures stops { IfOk result (λ r. IfSome r (λ x. HeadStops (drop at bits.now) at x)) }

@@ -71,7 +71,7 @@ impl Home {
         }
     }
 
-    /// The same but for the telegram as one number, so that many can be looked at together.
+    /// Group and extent as one number, so that many can be looked at together.
     pub(crate) fn number(&self) -> u16
         ensures { result ≡ home_number self.now }
     {

@@ -5,7 +5,7 @@
 pub enum Facts {
     /// Of each standing edit, by rising serial: what it changes, what it needs, and the later ones that depend on it.
     Edits,
-    /// The same of the edit of this serial alone, if it stands.
+    /// Of the edit of this serial alone, if it stands, what `Edits` tells of each.
     Edit(u32),
     /// The tags of the groups, telegrams and packets of the plan, in order.
     Tags,

@@ -83,7 +83,7 @@ fn re_anchor_all(entries: &mut [Entry], serials: &[u32], entry: &Entry, on: bool
     }
 }
 
-// The same of those from a place on. Where there are no serials nothing is looked at.
+// Anchors those that stand from a place on. Where there are no serials nothing is looked at.
 fn re_anchor_from(standing: &mut Vec<Entry>, place: usize, serials: &[u32], entry: &Entry, on: bool)
     requires within { place ≤ vec_len standing.old }
     requires rising { Ascends serials.now }

@@ -236,7 +236,7 @@ impl Packet {
         }
     }
 
-    /// The same packet once more.
+    /// A copy of the packet.
     pub fn copy(&self) -> Result<Packet, LayoutFault>
         ensures ok { IfOk result (λ packet. packet ≡ self.now) }
         ensures fault { IsOkUnless result LayoutFault.OutOfMemory }

@@ -19,7 +19,7 @@ pub enum Address {
     Field(Id, u32, u32, Var, u32),
 }
 
-/// The same by tags.
+/// Where something stands, by tags.
 #[derive(Clone, Copy)]
 pub enum Place {
     /// A group.

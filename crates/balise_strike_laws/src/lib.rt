@@ -29,7 +29,7 @@ pub fn strike_under()
     ensures { StrikingUnder }
 {}
 
-/// The same in the words of a session: the edit of a serial, the entries after it, the edits of other serials with their anchors, and its own place among them.
+/// The law of a strike in the words of a session: the edit of a serial, the entries after it, the edits of other serials with their anchors, and its own place among them.
 pub fn strike_in_session()
     ensures { StrikingHere }
 {}

@@ -23,7 +23,7 @@ impl Bits {
         Bits::from_hex_bytes(alloc, text.as_bytes(), len)
     }
 
-    /// The same for the bytes of a text, which need not be characters.
+    /// The bits that `from_hex` reads, of the bytes of a text, which need not be characters.
     pub fn from_hex_bytes(alloc: Global, text: &[u8], len: usize) -> Result<Bits, BitsFault>
         ensures ok { IfOk result (λ b. read_hex len text.now ≡ Ok b) }
         ensures len { IfOk result (λ b. length b ≡ len) }
@@ -49,7 +49,7 @@ impl Bits {
         Bits::digits_in_bytes(alloc, text.as_bytes())
     }
 
-    /// The same for the bytes of a text, which need not be characters.
+    /// The bits that `digits` reads, of the bytes of a text, which need not be characters.
     pub fn digits_in_bytes(alloc: Global, text: &[u8]) -> Result<Bits, BitsFault>
         ensures ok { IfOk result (λ b. read_digits text.now ≡ Ok b) }
         ensures fault { IfErr result (λ e. e ≢ BitsFault.OutOfMemory → read_digits text.now ≡ Err (refusal_of e)) }

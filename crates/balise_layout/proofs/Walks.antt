@@ -91,7 +91,7 @@ failed {S = S} {T = T} e s y z h = (sym is, z, ap (λ (f : LayoutFault). Err (f,
     is : LayoutMismatch ≡ e
     is = ap fault_of h
 
--- a walk has one fault, which does not hang on what is kept
+-- a walk has one fault, which doesn't depend on what is kept
 both_fail : {A B : Type 0} (s : A → ℕ → Var → ℕ → A) (t : B → ℕ → Var → ℕ → B) (form : Form) (a : A) (x : B) (b : List Bool) (e : LayoutFault) (y : A × List Bool) → walk s form (a, b) ≡ Err (e, y) → (e ≡ LayoutMismatch) × (z : B × List Bool) × (walk t form (x, b) ≡ Err (e, z))
 unfolding walk
 both_fail s t done a x b e y h = absurd cc

@@ -4,8 +4,8 @@
 /// exit code for `main` to return. `$rt` is the runtime that `main` is given, and `$program` the program.
 ///
 /// It is a macro since no clause knows what reaches the system: the body is proved in each `main`, over the contracts
-/// of `launch` and of `stop_without_memory`. What is written is held back up to 64 KiB, which is what a pipe takes, and
-/// input is asked for in pieces of up to so much: the run asks for one line and the bytes of another at the most.
+/// of `launch` and of `stop_without_memory`. Output is buffered up to 64 KiB, which is what a pipe takes. Input is read in
+/// pieces of up to 64 KiB, of which the run itself takes 4,097 bytes at most.
 #[macro_export]
 macro_rules! launch_on_system {
     ($rt:ident, $program:ident) => {{

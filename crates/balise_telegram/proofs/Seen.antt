@@ -125,7 +125,7 @@ stands_as x y o e = subst (λ (z : Telegram). StandsFor (packed_of x) (kept_of x
 abbrev pub IsAgain : Contents → Telegram → Type 0
 IsAgain x y = StandsFor (packed_of x) (kept_of x) (seen (packed_of x) (kept_of x)) × (seen (packed_of x) (kept_of x) ≡ y)
 
--- the same where a value was put into the bits
+-- what is held is a telegram again once a value was put into its bits
 pub put_again : (new old : Contents) (y : Telegram) (at w n : ℕ) (v : Var) → packed_of new ≡ put_at at (bits w n) (packed_of old) → w ≡ width_of v → kept_of new ≡ kept_of old → StandsFor (put_at at (bits (width_of v) n) (packed_of old)) (kept_of old) y → IsAgain new y
 put_again new old y at w n v put wide kept o =
     let packed : put_at at (bits (width_of v) n) (packed_of old) ≡ packed_of new = ap (λ (k : ℕ). put_at at (bits k n) (packed_of old)) (sym wide) ∙ sym put in

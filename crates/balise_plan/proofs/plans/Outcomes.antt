@@ -27,7 +27,7 @@ pub record Refused (e : Edit) (plan new : rules.Plan) (r : Refusal) : Type 0 whe
   pub refused : refusal e plan ≡ Some r
   pub is : new ≡ plan
 
--- An edit refused, or memory is wanting.
+-- An edit refused, or out of memory.
 pub record Failed (e : Edit) (plan new : rules.Plan) (r : Refusal) : Type 0 where
   pub why : (r ≡ OutOfMemory) ⊎ (refusal e plan ≡ Some r)
   pub is : new ≡ plan

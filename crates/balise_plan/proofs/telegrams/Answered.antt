@@ -84,7 +84,7 @@ module _ (g : Tag) (t : ℕ) (plan : Plan) (sound : IsSound plan) (ys zs : Group
         by x z h i (Ok b) c j = absurd cc
         by x z h i (Err b) c j = l (record { old = x; next = z; stands = h; cause = b; call = c; fault = (let q : e ≡ refusal_of b = cc in q); is = i })
 
-  -- a refusal of one telegram, or memory is wanting
+  -- a refusal of one telegram, or out of memory
   pub wanting : {A : Type 0} (R : Telegram → Result A TelegramFault → Telegram → Type 0) (why : Option Refusal) (e : Refusal) → Within eqb t no_telegram (Passed (OrWants R)) ys (Err e) zs → (telegram_at g t plan ≡ None → why ≡ Some NoSuchTelegram) →
       ((y z : Telegram) (f : TelegramFault) → telegram_at g t plan ≡ Some y → R y (Err f) z → (why ≡ Some (refusal_of f)) × (z ≡ y)) → ((e ≡ OutOfMemory) ⊎ (why ≡ Some e)) × (set_value (same_tag g) plan zs ≡ plan)
   wanting R why e w lacks refuses = ill (OrWants R) e w (λ l. (inr (lacks l.none ∙ ap Some (sym l.fault)), l.is)) (λ l. by l l.call)

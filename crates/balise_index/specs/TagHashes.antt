@@ -1,5 +1,5 @@
 -- What tags are hashed to. Nothing rests on it but where a map looks first.
-use Rattle.std.specs.Prelude.{ℕ, ◌+◌, ◌*◌, ◌/◌, ◌%◌, ◌^◌, List, length, if◌then◌else◌, nat_eq, nat_lt, slice_index, bit_and, bit_or}
+use Rattle.std.specs.Prelude.{ℕ, ◌+◌, ◌*◌, ◌%◌, ◌^◌, List, length, if◌then◌else◌, nat_eq, nat_lt, slice_index, bit_and, bit_or}
 use Rattle.balise_index.specs.declared.tag_hasher.TagHasher.{TagHasher}
 
 abbrev pub first : TagHasher
@@ -15,4 +15,4 @@ abbrev pub write : TagHasher → List ℕ → TagHasher
 write h bs = record { state = (h.state * 0x9e3779b1 % 2 ^ 64 + number_in bs) % 2 ^ 64 }
 
 abbrev pub finish : TagHasher → ℕ
-finish h = bit_or (bit_and (h.state / 3) 0xffffff) (bit_and (h.state * 0x9e3779b1 % 2 ^ 64) 0xff000000)
+finish h = bit_or (bit_and h.state 0xffffff) (bit_and (h.state * 0x9e3779b1 % 2 ^ 64) 0xff000000)

@@ -12,12 +12,8 @@ pub(crate) type TagMap<V> = IndexMap<u32, V, BuildHasherDefault<TagHasher>>;
 /// What a code is multiplied by for the highest byte of its hash.
 const FACTOR: u64 = 0x9e37_79b1;
 
-/// How many codes one after another are noted at one place.
-const AT_ONE_PLACE: u64 = 3;
-
-/// Hashes a code to a third of itself but for the highest byte, which tells codes at one place apart. So tags one after
-/// another, as those of a plan that is read, are noted in a map at places one after another, three at each: a place has room for
-/// twelve codes, and a map keeps nine for each place, or fewer.
+/// Hashes a code to itself but for the highest byte, which tells codes at one place apart. So tags one after another, as
+/// those of a plan that is read, are noted in a map at places one after another.
 ///
 /// Whoever picks the tags can make their codes collide, as with the hasher that a map has otherwise: its seed is known.
 #[derive(Clone, Copy)]
@@ -52,7 +48,7 @@ impl Hasher for TagHasher {
     ghost finish = { hashes.finish };
 
     fn finish(&self) -> u64 {
-        self.state / AT_ONE_PLACE & 0xff_ffff | self.state.wrapping_mul(FACTOR) & 0xff00_0000
+        self.state & 0xff_ffff | self.state.wrapping_mul(FACTOR) & 0xff00_0000
     }
 
     fn write(&mut self, bytes: &[u8]) {

@@ -15,6 +15,7 @@ use std::alloc::{AllocError, Global};
 
 /// Notes the links of a group, packet by packet, or with `noted` false forgets them, which takes no memory. Where memory
 /// runs out, some of them may be noted.
+#[inline(always)]
 pub(crate) fn set_group(
     alloc: Global,
     index: &mut NameIndex,

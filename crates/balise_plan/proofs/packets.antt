@@ -1,5 +1,5 @@
 -- What taking a packet out makes of a plan and of its indexes.
-use Rattle.std.proofs.Common.{◌≡◌, ◌⊎◌, inl, inr, ℕ, eqb, Option, Some, None, Ok, Err, sym, ap, subst, ◌∙◌, true, false, cond, ◌&&◌, Result, arith, [], ◌∷◌}
+use Rattle.std.proofs.Common.{◌≡◌, ◌⊎◌, inl, inr, ℕ, eqb, Option, Some, None, Ok, Err, refl, ◌+◌, sym, ap, subst, ◌∙◌, true, false, cond, ◌&&◌, Result, arith, [], ◌∷◌}
 use Rattle.std.specs.Map.{set_value}
 use Rattle.std.specs.Prelude.{is_none, option_map, option_and_then, unwrap_or}
 use Rattle.balise_rules.specs.declared.tag.Tag.{Tag}
@@ -8,8 +8,8 @@ use Rattle.balise_rules.specs.Tagged.{find, put_before, without, move}
 use Rattle.balise_rules.specs.Tags.{same_tag}
 use Rattle.balise_rules.specs.Packet.{Packet, IsSpelt}
 use Rattle.balise_rules.specs.Telegram.{Telegram, version_of}
-use Rattle.balise_rules.specs.Plan.{Group, telegram_at, country_of}
-use Rattle.balise_rules.specs.Doing.{refusal, when, first_of}
+use Rattle.balise_rules.specs.Plan.{Group, IsSound, telegram_at, country_of}
+use Rattle.balise_rules.specs.Doing.{refusal, when, first_of, no_group, no_telegram as lacks}
 use Rattle.balise_rules.specs.Notes.{noted}
 use Rattle.balise_rules.specs.Edits.{telegram_after}
 use Rattle.balise_rules.specs.declared.tagged_edit.TaggedEdit.TheVariants.{DeletePacket, MovePacket}
@@ -18,27 +18,30 @@ use Rattle.balise_rules.proofs.Cases.{unsome, found}
 use Rattle.balise_rules.proofs.Lists.{find-without, find-without_same}
 use Rattle.balise_telegram.specs.Faults.{refusal_of}
 use Rattle.balise_telegram.specs.Changes.{OrWants, InsertsOrWants}
-use Rattle.balise_telegram.specs.Moving.{TakesOut, insert_refusal, Shifts, ShiftsBefore, moved_before}
+use Rattle.balise_telegram.specs.Moving.{TakesOut, insert_refusal, moved_before}
 use Rattle.balise_rules.specs.Names.{links_of}
 use Rattle.balise_index.specs.declared.link_place.LinkPlace.{LinkPlace}
 use Rattle.balise_index.specs.NameIndex.{held, IndexOf, Keeps}
 use Rattle.balise_plan.specs.GroupLinks.{links_from, listed, KeepsOthers, SetsAll}
-use Rattle.balise_plan.specs.Within.{Within, Passed, no_telegram}
+use Rattle.balise_plan.specs.Within.{Within}
 use Rattle.balise_plan.specs.Held.{IsHeld, Plan}
-use Rattle.balise_plan.proofs.telegrams.Replaced.{held-put, with_telegram, held-kept}
-use Rattle.balise_plan.proofs.telegrams.Answered.{well, by-telegram, at-group, spoken, wanting}
-use Rattle.balise_plan.proofs.plans.Outcomes.{Outcome, Failed, to-groups}
-use Rattle.balise_plan.proofs.telegrams.Edits.{delete-at, delete-other, delete-refused, here, put-refused, move-at, move-other, move-refused, before-refused}
-use Rattle.balise_plan.proofs.telegrams.Sound.{packet-taken, fits-in, packet-put, Movable, movable, moved-after, moved-before, rebuilt, stands-other}
+use Rattle.balise_plan.specs.InTelegram.{Call, ChangesTelegram, InTelegram, IsHarmless, Made, Missing, Refused, with_telegram}
+use Rattle.balise_plan.proofs.telegrams.Replaced.{held-put, held-kept}
+use Rattle.balise_plan.proofs.telegrams.Answered.{by-telegram, at-group, spoken}
+use Rattle.balise_plan.proofs.plans.Outcomes.{counted, Outcome, Failed, to-groups}
+use Rattle.balise_plan.proofs.telegrams.Edits.{delete-at, delete-other, deletes, first-more, here, missing, put-refused, move-at, move-other, moves, moves-before, standing}
+use Rattle.balise_plan.proofs.telegrams.Sound.{packet-taken, fits-in, packet-put, Movable, movable, packet-moved, rebuilt, stands-other}
 use Rattle.balise_plan.proofs.naming.OfPacket.{forgotten, added, none-noted}
 use Rattle.balise_rules.specs.declared.identity.Id.{Id}
 use Rattle.balise_rules.specs.Back.{in_packets, with_packets}
 use Rattle.balise_telegram.specs.declared.fault.TelegramFault.{TelegramFault}
+use Rattle.balise_telegram.specs.declared.fault.TelegramFault.TheVariants.{OutOfMemory as WantsMemory}
+use Rattle.balise_rules.specs.declared.tag.Tag.TheVariants.{Base}
 use Rattle.balise_index.specs.declared.spot.Spot.{Spot}
 use Rattle.balise_plan.proofs.naming.GroupLists.{taken_back}
 use Rattle.balise_plan.specs.PutsIn.{PutsIn, no_telegram as no_telegram_for, passed, ShiftsIn}
 use Rattle.balise_index.specs.AtSpot.{put_in, spot_stands}
-use Rattle.balise_plan.specs.Spots.{put_refusal, shift_refusal, shifted}
+use Rattle.balise_plan.specs.Spots.{put_refusal, shift_refusal, shifted, ShiftsPacket}
 use Rattle.balise_plan.proofs.items.Inserted.{put-between, between-other, between-itself}
 use Rattle.balise_rules.specs.Accepting.{Accepted, AcceptedAt, AcceptedIn}
 use Rattle.balise_rules.proofs.Moved.{find-move}
@@ -52,34 +55,35 @@ use Rattle.balise_rules.specs.Plan as rules
 module _ (plan : rules.Plan) (ids : IndexOf Tag) (names : IndexOf (set.BTreeSet LinkPlace)) (held_is : IsHeld ids names plan) (g : Tag) (t : ℕ) (p : Tag) (ys : Group) (here : find same_tag g plan ≡ Some ys) where
   -- no telegram stands there
   pub untold : None ≡ option_map country_of (find eqb t ys) → refusal (DeletePacket g t p) plan ≡ Some refusals.NoSuchTelegram
-  untold e = delete-refused g t plan ys here p None (at-group g t plan held_is.sound ys ys here None (let none : find eqb t ys ≡ None = grind arith in none))
+  untold e = first-more _ _ _ _ (missing g t plan ys here None (at-group g t plan held_is.sound ys ys here None (let none : find eqb t ys ≡ None = grind arith in none)))
 
-  module _ (zs : Group) where
-    pub untaken : (e : Refusal) → Within eqb t no_telegram (Passed (OrWants (TakesOut p))) ys (Err e) zs → Failed (DeletePacket g t p) plan (set_value (same_tag g) plan zs) e
-    untaken e w =
-        let r = wanting g t plan held_is.sound ys zs here (TakesOut p) (refusal (DeletePacket g t p) plan) e w (delete-refused g t plan ys here p None)
-        (λ y z f s q. (delete-refused g t plan ys here p (Some y) s ∙ ap (λ (o : Option Packet). first_of (when (is_none o) refusals.NoSuchPacket ∷ [])) q.0 ∙ ap (λ k. Some (refusal_of k)) (sym q.1), q.2)) in
-        record { why = r.0; is = r.1 }
+  module _ {R : Call (Packet × Option Tag)} (f : (y z : Telegram) (r : Result (Packet × Option Tag) TelegramFault) → R y r z → OrWants (TakesOut p) y r z) {groups : rules.Plan} where
+    pub untaken : {e : Refusal} → InTelegram g t R plan (Err e) (groups ≡ plan) (λ z. groups ≡ with_telegram g t z plan) → Failed (DeletePacket g t p) plan groups e
+    untaken {e} (Missing m c q s) = let d : e ≡ m = cc in record { why = inr (first-more _ _ _ _ c ∙ ap Some (sym d)); is = s }
+    untaken {e} (Refused m y z h c q s) = let d : e ≡ refusal_of m = cc in rw d (by (f y z (Err m) c))
+      where
+        by : ((m ≡ WantsMemory) × (z ≡ y)) ⊎ TakesOut p y (Err m) z → Failed (DeletePacket g t p) plan groups (refusal_of m)
+        by (inl k) = record { why = inl (ap refusal_of k.0); is = s k.1 }
+        by (inr k) = record { why = inr (standing g t plan (deletes p) y h ∙ ap (λ (o : Option Packet). first_of (when (is_none o) refusals.NoSuchPacket ∷ [])) k.0 ∙ ap (λ l. Some (refusal_of l)) (sym k.1)); is = s k.2 }
+    untaken (Made a y z h c q s) = absurd cc
 
-    module _ (a : Packet × Option Tag) (w : Within eqb t no_telegram (Passed (OrWants (TakesOut p))) ys (Ok a) zs) (c : ℕ) (told : Some c ≡ option_map country_of (find eqb t ys)) where
-      country-is : (y : Telegram) → telegram_at g t plan ≡ Some y → c ≡ country_of y
-      country-is y e = unsome (told ∙ ap (option_map country_of) (sym (ap (option_and_then (find eqb t)) here) ∙ e))
-
-      pub taken : (x : Packet) → x ≡ a.0 → (after : IndexOf (set.BTreeSet LinkPlace)) → SetsAll false (links_from g t p 0 (links_of c x)) names after →
-          Outcome (DeletePacket g t p) ids after plan (set_value (same_tag g) plan zs)
-      taken x lent after f =
-          let l = well g t plan held_is.sound ys zs here (OrWants (TakesOut p)) a w in
-          let own = (noted (DeletePacket g t p) plan).own in
-          let ok : refusal (DeletePacket g t p) plan ≡ None = delete-refused g t plan ys here p (Some l.old) l.stands ∙ ap (λ (o : Option Packet). first_of (when (is_none o) refusals.NoSuchPacket ∷ [])) l.call.0 in
-          let at : l.next ≡ telegram_after (0, DeletePacket g t p) own g t l.old = l.call.2 ∙ delete-at own g t p l.old in
-          let gone : find same_tag p l.next.packets ≡ None = ap (λ (y : Telegram). find same_tag p y.packets) l.call.2 ∙ find-without_same same_tag p l.old.packets in
-          record {
-            accepted = ok;
-            is = l.is ∙ by-telegram (telegram_after (0, DeletePacket g t p) own) g t plan held_is.sound l.old l.next l.stands at (delete-other own g t p);
-            held = subst (IsHeld ids after) (sym l.is) (held-put plan held_is.sound g t l.old l.next l.stands (packet-taken p (Ok a) l.old l.next l.call) ids names held_is p None gone
-                (λ r d. ap (λ (y : Telegram). find same_tag r y.packets) l.call.2 ∙ find-without tag_test r p d l.old.packets) after
-                (forgotten g t p plan held_is.sound l.old l.stands names after held_is.named a.0 l.call.0 (subst (λ (d : ℕ). SetsAll false (links_from g t p 0 (links_of d a.0)) names after) (country-is l.old l.stands) (subst (λ (z : Packet). SetsAll false (links_from g t p 0 (links_of c z)) names after) lent f))));
-          }
+    pub taken : {a : Packet × Option Tag} (c : ℕ) → Some c ≡ option_map country_of (find eqb t ys) → InTelegram g t R plan (Ok a) (groups ≡ plan) (λ z. groups ≡ with_telegram g t z plan) →
+        (x : Packet) → x ≡ a.0 → (after : IndexOf (set.BTreeSet LinkPlace)) → SetsAll false (links_from g t p 0 (links_of c x)) names after → Outcome (DeletePacket g t p) ids after plan groups
+    taken c told (Missing m d q s) x lent after n = absurd cc
+    taken c told (Refused m y z h d q s) x lent after n = absurd cc
+    taken {a} c told (Made b y z h d q s) x lent after n =
+        let k = f y z (Ok b) d in
+        let own = (noted (DeletePacket g t p) plan).own in
+        let is : x ≡ b.0 = let same : a ≡ b = cc in lent ∙ ap (λ (w : Packet × Option Tag). w.0) same in
+        let country : c ≡ country_of y = unsome (told ∙ ap (option_map country_of) (sym (ap (option_and_then (find eqb t)) here) ∙ h)) in
+        let gone : find same_tag p z.packets ≡ None = ap (λ (u : Telegram). find same_tag p u.packets) k.2 ∙ find-without_same same_tag p y.packets in
+        record {
+          accepted = standing g t plan (deletes p) y h ∙ ap (λ (o : Option Packet). first_of (when (is_none o) refusals.NoSuchPacket ∷ [])) k.0;
+          is = s ∙ by-telegram (telegram_after (0, DeletePacket g t p) own) g t plan held_is.sound y z h (k.2 ∙ delete-at own g t p y) (delete-other own g t p);
+          held = subst (IsHeld ids after) (sym s) (held-put plan held_is.sound g t y z h (packet-taken p (Ok b) y z k) ids names held_is p None gone
+              (λ r d. ap (λ (u : Telegram). find same_tag r u.packets) k.2 ∙ find-without tag_test r p d y.packets) after
+              (forgotten g t p plan held_is.sound y h names after held_is.named b.0 k.0 (subst (λ (d : ℕ). SetsAll false (links_from g t p 0 (links_of d b.0)) names after) country (subst (λ (w : Packet). SetsAll false (links_from g t p 0 (links_of c w)) names after) is n))));
+        }
 
 -- ---- What putting a packet in makes of a plan and of its indexes
 
@@ -199,51 +203,59 @@ same-before p n y w r =
     (λ d q. ap (λ u. find same_tag u (put_before same_tag n (p, w.packet) (without same_tag p ps))) q ∙ between-itself b (find-without_same same_tag p ps) ∙ sym (ap (λ u. find same_tag u ps) q ∙ w.found))
     (λ d. between-other b r d ∙ find-without tag_test r p d ps)
 
+-- and after an anchor
+same-after : (p : Tag) (b : Option Tag) (y : Telegram) → AcceptedIn (MovePacket (Base 0) 0 p b) y → (r : Tag) → find same_tag r (move same_tag p b y.packets) ≡ find same_tag r y.packets
+same-after p b y w r =
+    split_keys tag_test r p
+    (λ d q. ap (λ u. find same_tag u (move same_tag p b y.packets)) q ∙ find-move_same p b w.0.0 y.packets w.0.1 w.1 w.2 ∙ sym (ap (λ u. find same_tag u y.packets) q ∙ w.0.1))
+    (λ d. find-move tag_test r p b d y.packets)
+
 -- ---- in the plan
 
--- A packet moved, and the indexes for what this makes.
-pub record ShiftOutcome (g : Tag) (t : ℕ) (p : Tag) (s : Spot Tag) (ids : IndexOf Tag) (names : IndexOf (set.BTreeSet LinkPlace)) (plan new : rules.Plan) : Type 0 where
-  pub accepted : shift_refusal g t p s plan ≡ None
-  pub is : new ≡ shifted g t p s plan
-  pub held : IsHeld ids names new
+module _ (g : Tag) (t : ℕ) (p : Tag) where
+  -- refused, it leaves the telegram
+  left : (s : Spot Tag) (y z : Telegram) (e : TelegramFault) → OrWants (ShiftsIn s p) y (Err e) z → z ≡ y
+  left s y z e (inl c) = c.1
+  left (After b) y z e (inr c) = c.1
+  left (Before n) y z e (inr c) = c.1
 
--- A packet not moved.
-pub record ShiftFailed (g : Tag) (t : ℕ) (p : Tag) (s : Spot Tag) (plan new : rules.Plan) (r : Refusal) : Type 0 where
-  pub why : (r ≡ refusals.OutOfMemory) ⊎ (shift_refusal g t p s plan ≡ Some r)
-  pub is : new ≡ plan
+  -- each packet that is found stays
+  same : (s : Spot Tag) (plan : rules.Plan) → IsSound plan → (y z : Telegram) (a : Option Tag) → telegram_at g t plan ≡ Some y → OrWants (ShiftsIn s p) y (Ok a) z → (r : Tag) → find same_tag r z.packets ≡ find same_tag r y.packets
+  same (After b) plan sound y z a h c r =
+      let accepted : Accepted (MovePacket g t p b) plan = (refused_exactly (MovePacket g t p b) plan sound).0 (standing g t plan (moves p b) y h ∙ c.0) in
+      ap (λ (x : Telegram). find same_tag r x.packets) c.2 ∙ same-after p b y (subst (AcceptedAt (MovePacket g t p b)) h accepted.1) r
+  same (Before n) plan sound y z a h c r = ap (λ (x : Telegram). find same_tag r x.packets) c.2 ∙ same-before p n y (movable p n y c.0) r
 
-module _ (plan : rules.Plan) (ids : IndexOf Tag) (names : IndexOf (set.BTreeSet LinkPlace)) (held_is : IsHeld ids names plan) (g : Tag) (t : ℕ) (p : Tag) where
-  pub unmoved : (s : Spot Tag) (ys zs : Group) → find same_tag g plan ≡ Some ys → (e : Refusal) → Within eqb t no_telegram (Passed (OrWants (ShiftsIn s p))) ys (Err e) zs → ShiftFailed g t p s plan (set_value (same_tag g) plan zs) e
-  unmoved (After a) ys zs h e w =
-      let r = wanting g t plan held_is.sound ys zs h (Shifts p a) (shift_refusal g t p (After a) plan) e w (move-refused g t plan ys h p a None) (λ y z f s q. (move-refused g t plan ys h p a (Some y) s ∙ q.0, q.1)) in
-      record { why = r.0; is = r.1 }
-  unmoved (Before n) ys zs h e w =
-      let r = wanting g t plan held_is.sound ys zs h (ShiftsBefore p n) (shift_refusal g t p (Before n) plan) e w (before-refused g t plan ys h p n None) (λ y z f s q. (before-refused g t plan ys h p n (Some y) s ∙ q.0, q.1)) in
-      record { why = r.0; is = r.1 }
+  -- why it is refused
+  missed : (s : Spot Tag) (plan : rules.Plan) (e : Refusal) → first_of (no_group g plan ∷ lacks g t plan ∷ []) ≡ Some e → shift_refusal g t p s plan ≡ Some e
+  missed (After b) plan e m = first-more _ _ _ e m
+  missed (Before n) plan e m = first-more _ _ _ e m
 
-  pub moved : (s : Spot Tag) (ys zs : Group) → find same_tag g plan ≡ Some ys → (a : Option Tag) → Within eqb t no_telegram (Passed (OrWants (ShiftsIn s p))) ys (Ok a) zs → ShiftOutcome g t p s ids names plan (set_value (same_tag g) plan zs)
-  moved (After b) ys zs h a w =
-      let l = well g t plan held_is.sound ys zs h (OrWants (Shifts p b)) a w in
+  refused : (s : Spot Tag) (plan : rules.Plan) (y z : Telegram) (e : TelegramFault) → telegram_at g t plan ≡ Some y → OrWants (ShiftsIn s p) y (Err e) z → (refusal_of e ≡ refusals.OutOfMemory) ⊎ (shift_refusal g t p s plan ≡ Some (refusal_of e))
+  refused s plan y z e h (inl c) = inl (ap refusal_of c.0)
+  refused (After b) plan y z e h (inr c) = inr (standing g t plan (moves p b) y h ∙ c.0)
+  refused (Before n) plan y z e h (inr c) = inr (standing g t plan (moves-before p n) y h ∙ c.0)
+
+  -- and what it makes
+  made : (s : Spot Tag) (plan : rules.Plan) → IsSound plan → (y z : Telegram) (a : Option Tag) → telegram_at g t plan ≡ Some y → OrWants (ShiftsIn s p) y (Ok a) z → (shift_refusal g t p s plan ≡ None) × (with_telegram g t z plan ≡ shifted g t p s plan)
+  made (After b) plan sound y z a h c =
       let own = (noted (MovePacket g t p b) plan).own in
-      let ok : refusal (MovePacket g t p b) plan ≡ None = move-refused g t plan ys h p b (Some l.old) l.stands ∙ l.call.0 in
-      let accepted : Accepted (MovePacket g t p b) plan = (refused_exactly (MovePacket g t p b) plan held_is.sound).0 ok in
-      let inside : AcceptedIn (MovePacket g t p b) l.old = subst (AcceptedAt (MovePacket g t p b)) l.stands accepted.1 in
-      let same : (r : Tag) → find same_tag r (move same_tag p b l.old.packets) ≡ find same_tag r l.old.packets = λ r.
-      split_keys tag_test r p
-      (λ d q. ap (λ u. find same_tag u (move same_tag p b l.old.packets)) q ∙ find-move_same p b inside.0.0 l.old.packets inside.0.1 inside.1 inside.2 ∙ sym (ap (λ u. find same_tag u l.old.packets) q ∙ inside.0.1))
-      (λ d. find-move tag_test r p b d l.old.packets) in
-      record {
-        accepted = ok;
-        is = l.is ∙ by-telegram (telegram_after (0, MovePacket g t p b) own) g t plan held_is.sound l.old l.next l.stands (l.call.2 ∙ move-at own g t p b l.old) (move-other own g t p b);
-        held = subst (IsHeld ids names) (sym l.is) (held-kept plan held_is.sound g t l.old l.next l.stands (moved-after p b (Ok a) l.old l.next l.call) ids names held_is (λ r. ap (λ (y : Telegram). find same_tag r y.packets) l.call.2 ∙ same r));
-      }
-  moved (Before n) ys zs h a w =
-      let l = well g t plan held_is.sound ys zs h (OrWants (ShiftsBefore p n)) a w in
-      let y = l.old in
-      record {
-        accepted = before-refused g t plan ys h p n (Some y) l.stands ∙ l.call.0;
-        is = l.is ∙ by-telegram (λ a b d. cond (same_tag g a && eqb t b) (with_packets d (moved_before p n d.packets)) d) g t plan held_is.sound y l.next l.stands
-            (l.call.2 ∙ ap (λ b. cond b (with_packets y (moved_before p n y.packets)) y) (sym (here g t)))
-            (λ a b d e. ap (λ b. cond b (with_packets d (moved_before p n d.packets)) d) e);
-        held = subst (IsHeld ids names) (sym l.is) (held-kept plan held_is.sound g t y l.next l.stands (moved-before p n (Ok a) y l.next l.call) ids names held_is (λ r. ap (λ (b : Telegram). find same_tag r b.packets) l.call.2 ∙ same-before p n y (movable p n y l.call.0) r));
-      }
+      (standing g t plan (moves p b) y h ∙ c.0, by-telegram (telegram_after (0, MovePacket g t p b) own) g t plan sound y z h (c.2 ∙ move-at own g t p b y) (move-other own g t p b))
+  made (Before n) plan sound y z a h c = (
+    standing g t plan (moves-before p n) y h ∙ c.0,
+    by-telegram (λ g' u d. cond (same_tag g g' && eqb t u) (with_packets d (moved_before p n d.packets)) d) g t plan sound y z h
+        (c.2 ∙ ap (λ b. cond b (with_packets y (moved_before p n y.packets)) y) (sym (here g t))) (λ g' u d e. ap (λ b. cond b (with_packets d (moved_before p n d.packets)) d) e),
+  )
+
+  module _ (s : Spot Tag) {R : Call (Option Tag)} (f : (y z : Telegram) (r : Result (Option Tag) TelegramFault) → R y r z → OrWants (ShiftsIn s p) y r z) where
+    pub shift-harmless : (plan : rules.Plan) → IsHarmless g t plan R
+    shift-harmless plan = record {
+      sound = λ y z r c. packet-moved s p r y z (f y z r c);
+      stays = λ y z e c. left s y z e (f y z (Err e) c);
+      held = λ y z a h c ids names k. let d = f y z (Ok a) c in held-kept plan k.sound g t y z h (packet-moved s p (Ok a) y z d) ids names k (same s plan k.sound y z a h d);
+    }
+
+    pub shift-does : {old new : Plan} {r : Result (Option Tag) Refusal} → IsSound old.groups → ChangesTelegram g t R old r new → ShiftsPacket g t p s old r new
+    shift-does {old} sound (Missing e m q w) = rw (q, w) (inr (missed s old.groups e m), refl)
+    shift-does {old} sound (Refused e y z h c q w) = let d = f y z (Err e) c in rw (q, w (left s y z e d)) (refused s old.groups y z e h d, refl)
+    shift-does {old} sound (Made a y z h c q w) = let k = made s old.groups sound y z a h (f y z (Ok a) c) in rw (q, w) (k.0, ap (λ gs. counted gs (old.changes + 1)) k.1)

@@ -39,6 +39,7 @@ use Rattle.balise_plan.specs.PacketLinks.{is_in}
 use Rattle.balise_plan.specs.Relinking.{AddsReal, ForgetsOther}
 use Rattle.balise_plan.specs.Walks.{changed, in_group}
 use Rattle.balise_plan.specs.Held.{IsHeld}
+use Rattle.balise_plan.specs.InTelegram.{with_telegram}
 use Rattle.balise_plan.proofs.fields.Levels.{set-is}
 use Rattle.balise_plan.proofs.items.Places.{value-each}
 use Rattle.balise_plan.proofs.naming.Identities.{country-each, id_in_packet, id-parts}
@@ -48,7 +49,7 @@ use Rattle.balise_plan.proofs.naming.Relinked.{relinked}
 use Rattle.balise_plan.proofs.naming.Walking.{place}
 use Rattle.balise_plan.proofs.plans.Outcomes.{Outcome}
 use Rattle.balise_plan.proofs.telegrams.Answered.{at-group, written}
-use Rattle.balise_plan.proofs.telegrams.Replaced.{held-put, with_telegram}
+use Rattle.balise_plan.proofs.telegrams.Replaced.{held-put}
 use Rattle.balise_plan.proofs.telegrams.Sound.{element-changed}
 use Rattle.balise_plan.proofs.telegrams.Edits.{set-refused}
 

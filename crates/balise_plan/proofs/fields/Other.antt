@@ -1,6 +1,5 @@
 -- What setting a field that isn't a number of a link leaves of the indexes.
-use Rattle.std.proofs.Common.{◌≡◌, ℕ, Bool, true, false, cond, eqb, ◌&&◌, Some, None, Ok, Err, refl, sym, ap, subst, ◌∙◌, arith}
-use Rattle.std.specs.Map.{set_value}
+use Rattle.std.proofs.Common.{◌≡◌, ℕ, Bool, true, false, cond, ◌+◌, eqb, ◌&&◌, Some, None, Result, Ok, Err, refl, sym, ap, subst, ◌∙◌, arith}
 use Rattle.std.proofs.lemmas.Bool.{true≢false}
 use Rattle.std.proofs.lemmas.Iterator.Adapters.{option_map_id}
 use Rattle.balise_rules.specs.declared.tag.Tag.{Tag}
@@ -11,11 +10,11 @@ use Rattle.balise_rules.specs.declared.variable.Var.TheVariants.{NidBg, NidC}
 use Rattle.balise_rules.specs.Variables.{steers}
 use Rattle.balise_rules.specs.Tagged.{find}
 use Rattle.balise_rules.specs.Tags.{Key, is_of, same_tag, same_var, same_key}
-use Rattle.balise_rules.specs.Plan.{Group, IsSound, country_of}
+use Rattle.balise_rules.specs.Plan.{IsSound, country_of, telegram_at}
 use Rattle.balise_rules.specs.Names.{is_real, country_at}
 use Rattle.balise_rules.specs.Packet.{Packet}
 use Rattle.balise_rules.specs.Accepting.{Accepted}
-use Rattle.balise_rules.specs.Doing.{refusal}
+use Rattle.balise_rules.specs.Doing.{done, refusal}
 use Rattle.balise_rules.specs.Notes.{noted}
 use Rattle.balise_rules.specs.Edits.{effect, field_after, telegram_after, head_after, group_after}
 use Rattle.balise_rules.specs.declared.tagged_edit.TaggedEdit.TheVariants.{SetVar, SetHead}
@@ -23,19 +22,20 @@ use Rattle.balise_rules.proofs.Tests.{split_on, var_test}
 use Rattle.balise_edit_laws.proofs.Refusing.{refused_exactly}
 use Rattle.balise_edit_laws.proofs.SoundKept.{groups_kept, sound_parts}
 use Rattle.balise_index.specs.declared.link_place.LinkPlace.{LinkPlace}
-use Rattle.balise_plan.specs.Held.{IsHeld}
-use Rattle.balise_plan.proofs.plans.Outcomes.{Outcome, Refused}
+use Rattle.balise_plan.specs.Held.{DoesAlways, IsHeld, Plan}
+use Rattle.balise_plan.proofs.plans.Outcomes.{counted}
 use Rattle.balise_plan.proofs.renumbering.Plans.{telegram-each}
 use Rattle.balise_plan.proofs.turned.Plans.{tags-kept}
 use Rattle.balise_plan.proofs.naming.Identities.{id_at, is_the, named-is, id-after}
 use Rattle.balise_index.specs.NameIndex.{IndexOf}
 use Rattle.balise_rules.specs.Telegram.{Telegram}
-use Rattle.balise_telegram.specs.Setting.{SetsHead, SetsField}
-use Rattle.balise_plan.specs.Within.{Within, Passed, no_telegram}
+use Rattle.balise_telegram.specs.declared.fault.TelegramFault.{TelegramFault}
+use Rattle.balise_telegram.specs.Setting.{SetsHead, SetsField, with_field}
+use Rattle.balise_plan.specs.InTelegram.{Call, ChangesTelegram, IsHarmless, Made, Missing, Refused, with_telegram}
 use Rattle.balise_plan.proofs.telegrams.Replaced.{held-kept}
-use Rattle.balise_plan.proofs.telegrams.Sound.{head-set}
-use Rattle.balise_plan.proofs.telegrams.Answered.{well, ill, by-telegram}
-use Rattle.balise_plan.proofs.telegrams.Edits.{head-at, head-other, head-refused, set-refused, set-at, set-other}
+use Rattle.balise_plan.proofs.telegrams.Sound.{field-set, head-set}
+use Rattle.balise_plan.proofs.telegrams.Answered.{by-telegram}
+use Rattle.balise_plan.proofs.telegrams.Edits.{first-more, head-at, head-other, heads, set-at, set-other, sets, standing}
 use Rattle.std.specs.BTreeSet as set
 use Rattle.balise_rules.specs.Plan as rules
 
@@ -77,39 +77,37 @@ module _ (plan : rules.Plan) (ids : IndexOf Tag) (names : IndexOf (set.BTreeSet 
     named = λ q w. held_is.named q w ∙ named-is q w plan ∙ ap (λ o. is_real q && is_the q o) (sym (id_new w)) ∙ sym (named-is q w new);
   }
 
-module _ (plan : rules.Plan) (ids : IndexOf Tag) (names : IndexOf (set.BTreeSet LinkPlace)) (held_is : IsHeld ids names plan) (g : Tag) (t : ℕ) (p : Tag) (v : Var) (k n : ℕ) (ys zs : Group) (here : find same_tag g plan ≡ Some ys) where
-  pub not-set : (e : Refusal) → Within eqb t no_telegram (Passed (SetsField p v k n)) ys (Err e) zs → Refused (SetVar g t p v k n) plan (set_value (same_tag g) plan zs) e
-  not-set e w =
-      ill g t plan held_is.sound ys zs here (SetsField p v k n) e w
-      (λ l. record { refused = set-refused g t plan ys here p v k n None l.none ∙ ap Some (sym l.fault); is = l.is })
-      (λ l. record { refused = set-refused g t plan ys here p v k n (Some l.old) l.stands ∙ l.call.0 ∙ ap Some (sym l.fault); is = l.is l.call.1 })
+module _ (g : Tag) (t : ℕ) (p : Tag) (v : Var) (k n : ℕ) {R : Call ℕ} (f : (y z : Telegram) (r : Result ℕ TelegramFault) → R y r z → SetsField p v k n y r z) where
+  field-after : (plan : rules.Plan) → IsSound plan → (y z : Telegram) → telegram_at g t plan ≡ Some y → z ≡ with_field p v k n y → with_telegram g t z plan ≡ done (0, SetVar g t p v k n) plan
+  field-after plan sound y z s e = let own = (noted (SetVar g t p v k n) plan).own in by-telegram (telegram_after (0, SetVar g t p v k n) own) g t plan sound y z s (e ∙ set-at own g t p v k n y) (set-other own g t p v k n)
 
-  pub is-set : same_var v NidBg ≡ false → (was : ℕ) → Within eqb t no_telegram (Passed (SetsField p v k n)) ys (Ok was) zs → Outcome (SetVar g t p v k n) ids names plan (set_value (same_tag g) plan zs)
-  is-set apart was w =
-      let own = (noted (SetVar g t p v k n) plan).own in
-      let l = well g t plan held_is.sound ys zs here (SetsField p v k n) was w in
-      let ok = set-refused g t plan ys here p v k n (Some l.old) l.stands ∙ l.call.0 in
-      let e : set_value (same_tag g) plan zs ≡ effect (0, SetVar g t p v k n) own plan =
-      l.is ∙ by-telegram (telegram_after (0, SetVar g t p v k n) own) g t plan held_is.sound l.old l.next l.stands (l.call.2 ∙ set-at own g t p v k n l.old) (set-other own g t p v k n) in
-      record { accepted = ok; is = e; held = subst (IsHeld ids names) (sym e) (set_held plan ids names held_is g t p v k n own ok apart) }
+  pub field-harmless : same_var v NidBg ≡ false → (plan : rules.Plan) → IsHarmless g t plan R
+  field-harmless apart plan = record {
+    sound = λ y z r c. field-set p v k n r y z (f y z r c);
+    stays = λ y z e c. (f y z (Err e) c).1;
+    held = λ y z a s c ids names h. let d = f y z (Ok a) c in
+        subst (IsHeld ids names) (sym (field-after plan h.sound y z s d.2)) (set_held plan ids names h g t p v k n (noted (SetVar g t p v k n) plan).own (standing g t plan (sets p v k n) y s ∙ d.0) apart);
+  }
+
+  pub field-does : {old new : Plan} {r : Result ℕ Refusal} → IsSound old.groups → ChangesTelegram g t R old r new → DoesAlways (SetVar g t p v k n) old r new
+  field-does sound (Missing e m q w) = rw (q, w) (first-more _ _ _ e m, refl)
+  field-does {old} sound (Refused e y z s c q w) = let d = f y z (Err e) c in rw (q, w d.1) (standing g t old.groups (sets p v k n) y s ∙ d.0, refl)
+  field-does {old} sound (Made a y z s c q w) = let d = f y z (Ok a) c in rw (q, w) (standing g t old.groups (sets p v k n) y s ∙ d.0, ap (λ gs. counted gs (old.changes + 1)) (field-after old.groups sound y z s d.2))
 
 -- ---- What setting a field of a header makes of a plan and of its indexes
 
-module _ (plan : rules.Plan) (ids : IndexOf Tag) (names : IndexOf (set.BTreeSet LinkPlace)) (held_is : IsHeld ids names plan) (g : Tag) (t : ℕ) (v : Var) (n : ℕ) (ys zs : Group) (here : find same_tag g plan ≡ Some ys) where
-  pub refused : (e : Refusal) → Within eqb t no_telegram (Passed (SetsHead v n)) ys (Err e) zs → Refused (SetHead g t v n) plan (set_value (same_tag g) plan zs) e
-  refused e w =
-      ill g t plan held_is.sound ys zs here (SetsHead v n) e w
-      (λ l. record { refused = head-refused g t plan ys here v n None l.none ∙ ap Some (sym l.fault); is = l.is })
-      (λ l. record { refused = head-refused g t plan ys here v n (Some l.old) l.stands ∙ l.call.0 ∙ ap Some (sym l.fault); is = l.is l.call.1 })
+module _ (g : Tag) (t : ℕ) (v : Var) (n : ℕ) {R : Call ℕ} (f : (y z : Telegram) (r : Result ℕ TelegramFault) → R y r z → SetsHead v n y r z) where
+  pub head-harmless : (plan : rules.Plan) → IsHarmless g t plan R
+  head-harmless plan = record {
+    sound = λ y z r c. head-set v n r y z (f y z r c);
+    stays = λ y z e c. (f y z (Err e) c).1;
+    held = λ y z a s c ids names h. let d = f y z (Ok a) c in held-kept plan h.sound g t y z s (head-set v n (Ok a) y z d) ids names h (λ p. ap (λ (x : Telegram). find same_tag p x.packets) d.2);
+  }
 
-  pub answered : (was : ℕ) → Within eqb t no_telegram (Passed (SetsHead v n)) ys (Ok was) zs → Outcome (SetHead g t v n) ids names plan (set_value (same_tag g) plan zs)
-  answered was w =
-      let l = well g t plan held_is.sound ys zs here (SetsHead v n) was w in
-      let own = (noted (SetHead g t v n) plan).own in
-      let ok : refusal (SetHead g t v n) plan ≡ None = head-refused g t plan ys here v n (Some l.old) l.stands ∙ l.call.0 in
-      let at : l.next ≡ telegram_after (0, SetHead g t v n) own g t l.old = l.call.2 ∙ head-at own g t v n l.old in
-      record {
-        accepted = ok;
-        is = l.is ∙ by-telegram (telegram_after (0, SetHead g t v n) own) g t plan held_is.sound l.old l.next l.stands at (head-other own g t v n);
-        held = subst (IsHeld ids names) (sym l.is) (held-kept plan held_is.sound g t l.old l.next l.stands (head-set v n (Ok was) l.old l.next l.call) ids names held_is (λ p. ap (λ (y : Telegram). find same_tag p y.packets) l.call.2));
-      }
+  pub head-does : {old new : Plan} {r : Result ℕ Refusal} → IsSound old.groups → ChangesTelegram g t R old r new → DoesAlways (SetHead g t v n) old r new
+  head-does sound (Missing e m q w) = rw (q, w) (first-more _ _ _ e m, refl)
+  head-does {old} sound (Refused e y z s c q w) = let d = f y z (Err e) c in rw (q, w d.1) (standing g t old.groups (heads v n) y s ∙ d.0, refl)
+  head-does {old} sound (Made a y z s c q w) =
+      let d = f y z (Ok a) c in
+      let own = (noted (SetHead g t v n) old.groups).own in
+      rw (q, w) (standing g t old.groups (heads v n) y s ∙ d.0, ap (λ gs. counted gs (old.changes + 1)) (by-telegram (telegram_after (0, SetHead g t v n) own) g t old.groups sound y z s (d.2 ∙ head-at own g t v n y) (head-other own g t v n)))

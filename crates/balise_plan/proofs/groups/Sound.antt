@@ -26,10 +26,10 @@ use Rattle.balise_index.specs.declared.link_place.LinkPlace.{LinkPlace}
 use Rattle.balise_index.specs.Places.{among}
 use Rattle.balise_plan.specs.declared.links.change.Change.{Change}
 use Rattle.balise_plan.specs.declared.links.change.Change.TheVariants.{Flip, Name}
+use Rattle.balise_plan.specs.InTelegram.{Replaces}
 use Rattle.balise_plan.specs.Links.{named_at, named_in_packet, named_in_telegram}
 use Rattle.balise_plan.specs.Walks.{FitsTotals, turned_group, turned_in, with_number, renumbered_heads}
 use Rattle.balise_plan.proofs.renumbering.Fields.{renumber-is}
-use Rattle.balise_plan.proofs.telegrams.Sound.{Replaces}
 use Rattle.balise_plan.proofs.turned.Fields.{turn-is}
 use Rattle.balise_plan.proofs.naming.Walking.{all-flip, all-id, all-name, all-same, all_fields, among_after}
 use Rattle.balise_plan.proofs.items.OneChanged.{Standing, each_at, found_at}

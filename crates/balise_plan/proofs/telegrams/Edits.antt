@@ -1,5 +1,5 @@
 -- Edits of one telegram: what each makes of it, and why each is refused.
-use Rattle.std.proofs.Common.{◌≡◌, ℕ, Bool, true, false, cond, not, eqb, ◌&&◌, List, [], ◌∷◌, Option, Some, sym, ap, ◌∙◌, arith}
+use Rattle.std.proofs.Common.{◌≡◌, ℕ, Bool, true, false, cond, not, eqb, ◌&&◌, List, [], ◌∷◌, Option, Some, None, sym, ap, ◌∙◌, arith}
 use Rattle.std.specs.Prelude.{option_and_then, is_none, nat_lt}
 use Rattle.std.proofs.lemmas.Bool.{and_from}
 use Rattle.balise_rules.specs.declared.tag.Tag.{Tag}
@@ -14,18 +14,18 @@ use Rattle.balise_rules.specs.Forms.{Fields}
 use Rattle.balise_rules.specs.Packet.{Packet, field_of, width}
 use Rattle.balise_rules.specs.Telegram.{Telegram, room}
 use Rattle.balise_rules.specs.Plan.{Group, Plan, telegram_at}
-use Rattle.balise_rules.specs.Doing.{refusal, first_of, when, too_wide, in_telegram, same_place}
+use Rattle.balise_rules.specs.Doing.{refusal, first_of, when, no_group, no_telegram, too_wide, in_telegram, same_place}
 use Rattle.balise_rules.specs.Back.{with_packets}
 use Rattle.balise_rules.specs.Edits.{telegram_after, packet_after}
 use Rattle.balise_rules.specs.declared.tagged_edit.TaggedEdit.TheVariants.{SetVar, SetHead, DeletePacket, MovePacket}
 use Rattle.balise_rules.proofs.Tests.{split_on, tag_test, nat_test}
+use Rattle.balise_rules.proofs.Found.{in_group}
 use Rattle.balise_rules.proofs.Each.{each-id, each-same}
 use Rattle.balise_telegram.specs.Setting.{with_field, with_head}
 use Rattle.balise_telegram.specs.Moving.{same_place_before}
 use Rattle.balise_index.specs.declared.spot.Spot.{Spot}
-use Rattle.balise_index.specs.declared.spot.Spot.TheVariants.{Before}
 use Rattle.balise_index.specs.AtSpot.{spot_stands}
-use Rattle.balise_plan.specs.Spots.{put_refusal, shift_refusal as plan_shift_refusal}
+use Rattle.balise_plan.specs.Spots.{put_refusal}
 use Rattle.balise_plan.proofs.fields.Levels.{set-packet}
 use Rattle.balise_plan.proofs.naming.Walking.{parts}
 use Rattle.balise_plan.proofs.naming.Walking as walking
@@ -107,24 +107,28 @@ abbrev pub moves-before : Tag → Option Tag → Bool → Option Telegram → Op
 moves-before p n none o = first_of (when none NoSuchGroup ∷ when (is_none o) NoSuchTelegram ∷ when (is_none (option_and_then (λ (y : Telegram). find same_tag p y.packets) o)) NoSuchPacket
     ∷ when (in_telegram o (λ y. not (stands same_tag n y.packets))) NoSuchPacket ∷ when (in_telegram o (same_place_before p n)) SamePlace ∷ [])
 
+abbrev pub misses : Bool → Option Telegram → Option Refusal
+misses none o = first_of (when none NoSuchGroup ∷ when (is_none o) NoSuchTelegram ∷ [])
+
+-- what is the first of two refusals is the first of more
+pub first-more : (a b : Option Refusal) (rs : List (Option Refusal)) (e : Refusal) → first_of (a ∷ b ∷ []) ≡ Some e → first_of (a ∷ b ∷ rs) ≡ Some e
+first-more (Some x) b rs e h = h
+first-more None (Some y) rs e h = h
+first-more None None rs e h = absurd cc
+
 module _ (g : Tag) (t : ℕ) (plan : Plan) (ys : Group) (group : find same_tag g plan ≡ Some ys) where
   by-telegram-of : (r : Bool → Option Telegram → Option Refusal) (o : Option Telegram) → telegram_at g t plan ≡ o → r (is_none (find same_tag g plan)) (telegram_at g t plan) ≡ r false o
   by-telegram-of r o e = ap (λ b. r b (telegram_at g t plan)) (ap is_none group) ∙ ap (r false) e
 
-  pub head-refused : (v : Var) (n : ℕ) (o : Option Telegram) → telegram_at g t plan ≡ o → refusal (SetHead g t v n) plan ≡ heads v n false o
-  head-refused v n = by-telegram-of (heads v n)
+  pub missing : (o : Option Telegram) → telegram_at g t plan ≡ o → first_of (no_group g plan ∷ no_telegram g t plan ∷ []) ≡ misses false o
+  missing = by-telegram-of misses
 
   pub set-refused : (p : Tag) (v : Var) (k n : ℕ) (o : Option Telegram) → telegram_at g t plan ≡ o → refusal (SetVar g t p v k n) plan ≡ sets p v k n false o
   set-refused p v k n = by-telegram-of (sets p v k n)
 
-  pub delete-refused : (p : Tag) (o : Option Telegram) → telegram_at g t plan ≡ o → refusal (DeletePacket g t p) plan ≡ deletes p false o
-  delete-refused p = by-telegram-of (deletes p)
-
-  pub move-refused : (p : Tag) (a : Option Tag) (o : Option Telegram) → telegram_at g t plan ≡ o → refusal (MovePacket g t p a) plan ≡ moves p a false o
-  move-refused p a = by-telegram-of (moves p a)
-
-  pub before-refused : (p : Tag) (n : Option Tag) (o : Option Telegram) → telegram_at g t plan ≡ o → plan_shift_refusal g t p (Before n) plan ≡ moves-before p n false o
-  before-refused p n = by-telegram-of (moves-before p n)
-
   pub put-refused : (s : Spot Tag) (x : Packet) (o : Option Telegram) → telegram_at g t plan ≡ o → put_refusal g t s x plan ≡ puts s x false o
   put-refused s x = by-telegram-of (puts s x)
+
+-- where the telegram stands, its group does too
+pub standing : (g : Tag) (t : ℕ) (plan : Plan) (r : Bool → Option Telegram → Option Refusal) (y : Telegram) → telegram_at g t plan ≡ Some y → r (is_none (find same_tag g plan)) (telegram_at g t plan) ≡ r false (Some y)
+standing g t plan r y s = let i = in_group g t plan y s in by-telegram-of g t plan i.group i.has_group r (Some y) s

@@ -27,15 +27,11 @@ use Rattle.balise_index.specs.NameIndex.{held, IndexOf}
 use Rattle.balise_plan.specs.Links.{named_at, named_in_packet, named_in_telegram}
 use Rattle.balise_plan.specs.PacketLinks.{is_in}
 use Rattle.balise_plan.specs.Held.{IsHeld, tag_named}
+use Rattle.balise_plan.specs.InTelegram.{Replaces, with_telegram}
 use Rattle.balise_plan.proofs.groups.Sound.{each-kept}
 use Rattle.balise_plan.proofs.renumbering.Plans.{telegram-each}
-use Rattle.balise_plan.proofs.telegrams.Sound.{Replaces}
 use Rattle.balise_plan.proofs.turned.Plans.{tags-kept}
 use Rattle.balise_plan.proofs.naming.OfGroup.{by-cond}
-
--- the plan with this telegram at a place
-abbrev pub with_telegram : Tag → ℕ → Telegram → rules.Plan → rules.Plan
-with_telegram g t z plan = each (λ h us. each (λ u x. cond (same_tag g h && eqb t u) z x) us) plan
 
 map_const : {A : Type 0} (b : Bool) (y z : A) (o : Option A) → (b ≡ true → o ≡ Some y) → option_map (λ x. cond b z x) o ≡ cond b (Some z) o
 map_const b y z o h = grind arith

@@ -38,14 +38,11 @@ use Rattle.balise_index.specs.declared.spot.Spot.TheVariants.{After, Before}
 use Rattle.balise_index.specs.AtSpot.{put_in, spot_stands}
 use Rattle.balise_plan.specs.declared.links.change.Change.{Change}
 use Rattle.balise_plan.specs.declared.links.change.Change.TheVariants.{Name, Flip}
+use Rattle.balise_plan.specs.InTelegram.{Replaces}
 use Rattle.balise_plan.specs.PutsIn.{PutsIn, ShiftsIn}
 use Rattle.balise_plan.specs.Walks.{changed, FitsName}
 use Rattle.balise_plan.proofs.items.Inserted.{put-between, between-distinct, between-all, between-used}
 use Rattle.balise_plan.proofs.telegrams.Edits.{head-at, set-at, delete-at, move-at}
-
--- whatever place is asked of the one, the other is sound there too
-abbrev pub Replaces : Telegram → Telegram → Type 0
-Replaces y z = (i : Id) (last n : ℕ) → IsSoundTelegram i last n y → IsSoundTelegram i last n z
 
 pub stays : (y z : Telegram) → z ≡ y → Replaces y z
 stays y z e i last n s = subst (IsSoundTelegram i last n) (sym e) s

@@ -5,51 +5,35 @@ ghost use Rattle.balise_plan.specs.Walks.{changed, in_group, with_number, FitsNa
 ghost use Rattle.std.specs.Prelude.{eqb, ◌≡◌, ◌≢◌, ◌<◌, ◌^◌, IfOk, IfErr};
 ghost use Rattle.balise_rules.specs.Plan.{reserved};
 ghost use Rattle.balise_plan.specs.ElementIn.{ElementIn, NoElement};
-ghost use Rattle.balise_telegram.specs.Setting.{SetsField, SetsHead};
-ghost use Rattle.balise_telegram.specs.Changes.{OrWants};
-ghost use Rattle.balise_telegram.specs.Moving.{TakesOut};
+ghost use Rattle.balise_plan.specs.InTelegram.{Replaces};
+ghost use Rattle.balise_rules.specs.Telegram.{Telegram};
+ghost use Rattle.std.specs.Fn.{FnOnceReturnsAtMut};
 
 use crate::group::{Group, Telegrams};
 use crate::links::change::Change;
 use balise_rules::{Id, Refusal, Tag, Var};
-use balise_telegram::Packet;
+use balise_telegram::{Telegram, TelegramFault};
 
 impl Group {
-    /// Sets a field of a packet of one telegram.
-    pub(crate) fn set_field(
+    /// Changes one telegram by a call that leaves it sound in its place, and passes on what that answers.
+    #[inline(always)]
+    pub(crate) fn in_telegram<A, F: FnOnce(&mut Telegram) -> Result<A, TelegramFault> + Drop>(
         &mut self,
         t: u32,
-        p: Tag,
-        var: Var,
-        k: u32,
-        value: u32,
-    ) -> Result<u32, Refusal>
-        ensures { Within eqb t no_telegram (Passed (SetsField p var k value)) self.old result self.new }
+        change: F,
+    ) -> Result<A, Refusal>
+        requires callable { F.IsAlwaysCallable change }
+        requires sound { (y z : Telegram) (r : _) → FnOnceReturnsAtMut F.FnOnce change y r z → Replaces y z }
+        ensures { Within eqb t no_telegram (Passed (FnOnceReturnsAtMut F.FnOnce change)) self.old result self.new }
     {
         let Some(i) = self.telegrams.place_of(t) else {
             return Err(Refusal::NoSuchTelegram);
         };
         let telegram = &mut self.telegrams[i];
-        let old = match telegram.set_field(p, var, k, value) {
-            Ok(old) => old,
-            Err(fault) => return Err(fault.refusal()),
-        };
-        Ok(old)
-    }
-
-    /// Sets a field of the header of one telegram.
-    pub(crate) fn set_head(&mut self, t: u32, var: Var, value: u32) -> Result<u32, Refusal>
-        ensures { Within eqb t no_telegram (Passed (SetsHead var value)) self.old result self.new }
-    {
-        let Some(i) = self.telegrams.place_of(t) else {
-            return Err(Refusal::NoSuchTelegram);
-        };
-        let telegram = &mut self.telegrams[i];
-        let old = match telegram.set_head(var, value) {
-            Ok(old) => old,
-            Err(fault) => return Err(fault.refusal()),
-        };
-        Ok(old)
+        match change(telegram) {
+            Ok(answer) => Ok(answer),
+            Err(fault) => Err(fault.refusal()),
+        }
     }
 
     /// The identity of element `k`, from 0, of a packet of one telegram.
@@ -69,21 +53,6 @@ impl Group {
             return Err(Refusal::NoSuchVariable);
         };
         Ok(id)
-    }
-
-    /// Takes a packet out of one telegram.
-    pub(crate) fn take_packet(&mut self, t: u32, p: Tag) -> Result<(Packet, Option<Tag>), Refusal>
-        ensures { Within eqb t no_telegram (Passed (OrWants (TakesOut p))) self.old result self.new }
-    {
-        let Some(i) = self.telegrams.place_of(t) else {
-            return Err(Refusal::NoSuchTelegram);
-        };
-        let telegram = &mut self.telegrams[i];
-        let taken = match telegram.take(p) {
-            Ok(taken) => taken,
-            Err(fault) => return Err(fault.refusal()),
-        };
-        Ok(taken)
     }
 
     /// Changes one element. Takes no memory.

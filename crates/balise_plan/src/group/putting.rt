@@ -1,4 +1,4 @@
-//! A packet put into one telegram of a group, or moved in it.
+//! A packet put into one telegram of a group.
 
 ghost use Rattle.std.specs.Prelude.{◌≡◌, None, Some, eqb, option_map};
 ghost use Rattle.balise_rules.specs.Packet.{IsSpelt};
@@ -6,14 +6,13 @@ ghost use Rattle.balise_rules.specs.Plan.{country_of};
 ghost use Rattle.balise_rules.specs.Tagged.{find as under};
 ghost use Rattle.balise_rules.specs.Tags.{same_tag};
 ghost use Rattle.balise_rules.specs.Telegram.{version_of, Telegram};
-ghost use Rattle.balise_plan.specs.PutsIn.{PutsIn, ShiftsIn, no_telegram};
-ghost use Rattle.balise_plan.specs.Within.{Within, Passed, no_telegram as lacking};
-ghost use Rattle.balise_telegram.specs.Changes.{OrWants};
+ghost use Rattle.balise_plan.specs.PutsIn.{PutsIn, no_telegram};
+ghost use Rattle.balise_plan.specs.Within.{Within};
 
 use crate::group::Group;
 use balise_index::Spot;
 use balise_rules::{Refusal, Tag, Var};
-use balise_telegram::{Packet, Telegram, TelegramFault};
+use balise_telegram::{Packet, Telegram};
 
 impl Group {
     /// NID_C of one telegram, of 10 bits.
@@ -45,26 +44,6 @@ impl Group {
         let telegram = &mut self.telegrams[i];
         put(telegram, spot, p, packet)
     }
-
-    /// Moves a packet within one telegram.
-    pub(crate) fn shift_packet(
-        &mut self,
-        t: u32,
-        p: Tag,
-        spot: Spot<Tag>,
-    ) -> Result<Option<Tag>, Refusal>
-        ensures { Within eqb t lacking (Passed (OrWants (ShiftsIn spot p))) self.old result self.new }
-    {
-        let Some(i) = self.telegrams.place_of(t) else {
-            return Err(Refusal::NoSuchTelegram);
-        };
-        let telegram = &mut self.telegrams[i];
-        let next = match shift(telegram, p, spot) {
-            Ok(next) => next,
-            Err(fault) => return Err(fault.refusal()),
-        };
-        Ok(next)
-    }
 }
 
 fn put(
@@ -84,14 +63,5 @@ fn put(
     match answer {
         Ok(()) => Ok(()),
         Err((fault, packet)) => Err((fault.refusal(), packet)),
-    }
-}
-
-fn shift(telegram: &mut Telegram, p: Tag, spot: Spot<Tag>) -> Result<Option<Tag>, TelegramFault>
-    ensures { OrWants (ShiftsIn spot p) telegram.old result telegram.new }
-{
-    match spot {
-        Spot::After(anchor) => telegram.shift_after(p, anchor),
-        Spot::Before(next) => telegram.shift_before(p, next),
     }
 }

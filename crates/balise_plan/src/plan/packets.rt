@@ -8,7 +8,9 @@ ghost use Rattle.balise_rules.specs.Plan.{telegram_at};
 ghost use Rattle.balise_rules.specs.Tagged.{find};
 ghost use Rattle.balise_rules.specs.Tags.{same_tag};
 ghost use Rattle.balise_rules.specs.Telegram.{Telegram, version_of};
+ghost use Rattle.balise_telegram.specs.Changes.{OrWants};
 ghost use Rattle.balise_plan.specs.Held.{Does, MayChange};
+ghost use Rattle.balise_plan.specs.PutsIn.{ShiftsIn};
 ghost use Rattle.balise_plan.specs.Spots.{PutsPacket, ShiftsPacket};
 
 use crate::links::packet::{forget_packet, set_packet};
@@ -16,7 +18,7 @@ use crate::packet_place::PacketPlace;
 use crate::plan::Plan;
 use balise_index::Spot;
 use balise_rules::{Refusal, Tag};
-use balise_telegram::Packet;
+use balise_telegram::{Packet, Telegram, TelegramFault};
 
 impl Plan {
     /// Puts a packet into a telegram under a tag that is new there. The packet is spelt in the telegram's version.
@@ -77,7 +79,7 @@ impl Plan {
         let Some(country) = group.country(t) else {
             return Err(Refusal::NoSuchTelegram);
         };
-        let (taken, next) = match group.take_packet(t, p) {
+        let (taken, next) = match group.in_telegram(t, |telegram| telegram.take(p)) {
             Ok(taken) => taken,
             Err(fault) => return Err(fault),
         };
@@ -106,14 +108,16 @@ impl Plan {
         ensures shifts { ShiftsPacket g t p spot self.old result self.new }
         ensures next { IfOk result (λ n. (noted (MovePacket g t p None) self.old.groups).before ≡ n) }
     {
-        let Some(group) = self.groups.get_mut(g) else {
-            return Err(Refusal::NoSuchGroup);
-        };
-        let next = match group.shift_packet(t, p, spot) {
-            Ok(next) => next,
-            Err(fault) => return Err(fault),
-        };
-        self.changes += 1;
-        Ok(next)
+        self.in_telegram(g, t, |telegram| shift(telegram, p, spot))
+    }
+}
+
+// Moves a packet of a telegram to a spot.
+fn shift(telegram: &mut Telegram, p: Tag, spot: Spot<Tag>) -> Result<Option<Tag>, TelegramFault>
+    ensures { OrWants (ShiftsIn spot p) telegram.old result telegram.new }
+{
+    match spot {
+        Spot::After(anchor) => telegram.shift_after(p, anchor),
+        Spot::Before(next) => telegram.shift_before(p, next),
     }
 }

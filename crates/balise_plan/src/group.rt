@@ -18,15 +18,15 @@ use std::marker::Model;
 /// Telegrams under their tags. Most groups have one.
 pub(crate) type Telegrams = OneOrMore<Telegram>;
 
-const _: () = prove!(size_of::<Telegram>() == 40);
-
-const _: () = prove!(size_of::<Telegrams>() == 48);
-
 /// A group. It is sound.
 #[derive(Drop)]
 pub struct Group {
     telegrams: Telegrams,
 }
+
+const _: () = prove!(size_of::<Telegram>() == 40);
+
+const _: () = prove!(size_of::<Group>() == 48);
 
 impl Model for Group {
     ghost use Rattle.balise_rules.specs.Plan as rules;

@@ -39,7 +39,7 @@ use Rattle.balise_telegram.specs.declared.fault.TelegramFault.TheVariants.{OutOf
 use Rattle.balise_rules.specs.declared.tag.Tag.TheVariants.{Base}
 use Rattle.balise_index.specs.declared.spot.Spot.{Spot}
 use Rattle.balise_plan.proofs.naming.GroupLists.{taken_back}
-use Rattle.balise_plan.specs.PutsIn.{PutsIn, no_telegram as no_telegram_for, passed, ShiftsIn}
+use Rattle.balise_plan.specs.PutsIn.{MayStand, PutsIn, no_telegram as no_telegram_for, passed, ShiftsIn}
 use Rattle.balise_index.specs.AtSpot.{put_in, spot_stands}
 use Rattle.balise_plan.specs.Spots.{put_refusal, shift_refusal, shifted, ShiftsPacket}
 use Rattle.balise_plan.proofs.items.Inserted.{put-between, between-other, between-itself}
@@ -106,14 +106,13 @@ pub record PutFailed (g : Tag) (t : ℕ) (s : Spot Tag) (x : Packet) (plan new :
   pub back : e.1 ≡ x
   pub is : new ≡ plan
 
--- the tag is new, and the packet spelt, where the telegram stands
-pub record MayPut (g : Tag) (t : ℕ) (p : Tag) (x : Packet) (plan : rules.Plan) : Type 0 where
-  pub fresh : (y : Telegram) → telegram_at g t plan ≡ Some y → find same_tag p y.packets ≡ None
-  pub spelt : (y : Telegram) → telegram_at g t plan ≡ Some y → IsSpelt (version_of y) x
+-- the packet may stand where the telegram does
+abbrev pub MayPut : Tag → ℕ → Tag → Packet → rules.Plan → Type 0
+MayPut g t p x plan = (y : Telegram) → telegram_at g t plan ≡ Some y → MayStand p x y
 
-pub may-put : (g : Tag) (t : ℕ) (p : Tag) (x : Packet) {plan : rules.Plan} {n : ℕ} {old : Plan} → ◌≡◌ {A = Plan} (record { groups = plan; changes = n }) old →
+pub may-put : (g : Tag) (t : ℕ) (p : Tag) (x : Packet) {plan : rules.Plan} {n : ℕ} {old : Plan} → counted plan n ≡ old →
     ((y : Telegram) → telegram_at g t old.groups ≡ Some y → find same_tag p y.packets ≡ None) → ((y : Telegram) → telegram_at g t old.groups ≡ Some y → IsSpelt (version_of y) x) → MayPut g t p x plan
-may-put g t p x v fresh spelt = to-groups (MayPut g t p x) v (record { fresh = fresh; spelt = spelt })
+may-put g t p x v fresh spelt = to-groups (MayPut g t p x) v (λ y h. record { fresh = fresh y h; spelt = spelt y h })
 
 module _ (plan : rules.Plan) (ids : IndexOf Tag) (names : IndexOf (set.BTreeSet LinkPlace)) (held_is : IsHeld ids names plan) (g : Tag) (t : ℕ) (s : Spot Tag) (p : Tag) (x : Packet) (ys : Group) (group : find same_tag g plan ≡ Some ys)
     (may : MayPut g t p x plan) where
@@ -133,7 +132,7 @@ module _ (plan : rules.Plan) (ids : IndexOf Tag) (names : IndexOf (set.BTreeSet 
     -- none of its links is noted
     none-put : (q : Id) (w : LinkPlace) → listed q w (links_from g t p 0 (links_of c x)) ≡ true → held names q w ≡ false
     none-put = subst (λ (d : ℕ). (q : Id) (w : LinkPlace) → listed q w (links_from g t p 0 (links_of d x)) ≡ true → held names q w ≡ false) (sym there.2)
-        (none-noted g t p plan held_is.sound there.0 there.1 names names held_is.named x (may.fresh there.0 there.1) (may.spelt there.0 there.1).numbered)
+        (let can = may there.0 there.1 in none-noted g t p plan held_is.sound there.0 there.1 names names held_is.named x can.fresh can.spelt.numbered)
 
     -- what was noted of them, in part or all, and forgotten again
     pub kept-put : (a b : Packet) → a ≡ x → b ≡ x → (mid after : IndexOf (set.BTreeSet LinkPlace)) → KeepsOthers (links_from g t p 0 (links_of c a)) names mid → SetsAll false (links_from g t p 0 (links_of c b)) mid after → Keeps names after
@@ -175,8 +174,7 @@ module _ (plan : rules.Plan) (ids : IndexOf Tag) (names : IndexOf (set.BTreeSet 
           by y z h r (Ok v) k i j =
               let f = fits-in (spot_stands s y.packets) x y k.0 in
               let inside = put-between s (p, x) y.packets f.0 in
-              let absent = may.fresh y h in
-              let word = may.spelt y h in
+              let can = may y h in
               let country : c ≡ country_of y = there.2 ∙ ap country_of (unsome (sym there.1 ∙ h)) in
               let body : (r : Tag) → find same_tag r z.packets ≡ find same_tag r (put_in s (p, x) y.packets) = λ r. ap (λ (b : Telegram). find same_tag r b.packets) k.1 in
               record {
@@ -184,10 +182,10 @@ module _ (plan : rules.Plan) (ids : IndexOf Tag) (names : IndexOf (set.BTreeSet 
                 is = j ∙ by-telegram (λ a b d. cond (same_tag g a && eqb t b) (with_packets d (put_in s (p, x) d.packets)) d) g t plan held_is.sound y z h
                     (k.1 ∙ ap (λ b. cond b (with_packets y (put_in s (p, x) y.packets)) y) (sym (here g t)))
                     (λ a b d n. ap (λ b. cond b (with_packets d (put_in s (p, x) d.packets)) d) n);
-                held = subst (IsHeld ids after) (sym j) (held-put plan held_is.sound g t y z h (packet-put s p x (Ok u) y z absent word r) ids names held_is p (Some x)
-                    (body p ∙ between-itself inside absent)
+                held = subst (IsHeld ids after) (sym j) (held-put plan held_is.sound g t y z h (packet-put s p x (Ok u) y z can r) ids names held_is p (Some x)
+                    (body p ∙ between-itself inside can.fresh)
                     (λ r d. body r ∙ between-other inside r d) after
-                    (added g t p plan held_is.sound y h names after held_is.named x absent word.numbered (subst (λ (d : ℕ). SetsAll true (links_from g t p 0 (links_of d x)) names after) country adds)));
+                    (added g t p plan held_is.sound y h names after held_is.named x can.fresh can.spelt.numbered (subst (λ (d : ℕ). SetsAll true (links_from g t p 0 (links_of d x)) names after) country adds)));
               }
 
 -- ---- What moving a packet to a spot makes of a plan and of its indexes

@@ -39,7 +39,7 @@ use Rattle.balise_index.specs.AtSpot.{put_in, spot_stands}
 use Rattle.balise_plan.specs.declared.links.change.Change.{Change}
 use Rattle.balise_plan.specs.declared.links.change.Change.TheVariants.{Name, Flip}
 use Rattle.balise_plan.specs.InTelegram.{Replaces}
-use Rattle.balise_plan.specs.PutsIn.{PutsIn, ShiftsIn}
+use Rattle.balise_plan.specs.PutsIn.{MayStand, PutsIn, ShiftsIn}
 use Rattle.balise_plan.specs.Walks.{changed, FitsName}
 use Rattle.balise_plan.proofs.items.Inserted.{put-between, between-distinct, between-all, between-used}
 use Rattle.balise_plan.proofs.telegrams.Edits.{head-at, set-at, delete-at, move-at}
@@ -132,15 +132,15 @@ kept s p x o last m y d there roomy absent word =
     let b = put-between s (p, x) y.packets there in
     other-packets y (put_in s (p, x) y.packets) d (between-distinct b absent d.tags) (between-all b (IsSpelt (version_of y)) word d.packets) (omega (arith, r, f, between-used b))
 
-pub packet-put : (s : Spot Tag) (p : Tag) (x : Packet) (r : Result Unit (Refusal × Packet)) (y z : Telegram) → find same_tag p y.packets ≡ None → IsSpelt (version_of y) x → PutsIn s p x y r z → Replaces y z
-packet-put s p x r y z absent word c = by c.answer c.call
+pub packet-put : (s : Spot Tag) (p : Tag) (x : Packet) (r : Result Unit (Refusal × Packet)) (y z : Telegram) → MayStand p x y → PutsIn s p x y r z → Replaces y z
+packet-put s p x r y z may c = by c.answer c.call
   where
     by : (a : Result Unit (TelegramFault × Packet)) → InsertsOrWants (spot_stands s y.packets) x (put_in s (p, x) y.packets) y a z → Replaces y z
     by (Err f) (inl k) = stays y z k.2
     by (Err f) (inr k) = stays y z k.2
     by (Ok u) k =
         let f = fits-in (spot_stands s y.packets) x y k.0 in
-        λ o last m d. subst (IsSoundTelegram o last m) (sym k.1) (kept s p x o last m y d f.0 f.1 absent word)
+        λ o last m d. subst (IsSoundTelegram o last m) (sym k.1) (kept s p x o last m y d f.0 f.1 may.fresh may.spelt)
 
 -- ---- a packet taken out
 

@@ -1,12 +1,10 @@
 //! A packet put into one telegram of a group.
 
-ghost use Rattle.std.specs.Prelude.{◌≡◌, None, Some, eqb, option_map};
-ghost use Rattle.balise_rules.specs.Packet.{IsSpelt};
+ghost use Rattle.std.specs.Prelude.{◌≡◌, Some, eqb, option_map};
 ghost use Rattle.balise_rules.specs.Plan.{country_of};
 ghost use Rattle.balise_rules.specs.Tagged.{find as under};
-ghost use Rattle.balise_rules.specs.Tags.{same_tag};
-ghost use Rattle.balise_rules.specs.Telegram.{version_of, Telegram};
-ghost use Rattle.balise_plan.specs.PutsIn.{PutsIn, no_telegram};
+ghost use Rattle.balise_rules.specs.Telegram.{Telegram};
+ghost use Rattle.balise_plan.specs.PutsIn.{MayStand, PutsIn, no_telegram};
 ghost use Rattle.balise_plan.specs.Within.{Within};
 
 use crate::group::Group;
@@ -34,8 +32,7 @@ impl Group {
         p: Tag,
         packet: Packet,
     ) -> Result<(), (Refusal, Packet)>
-        requires new { (y : Telegram) → under eqb t self.old ≡ Some y → under same_tag p y.packets ≡ None }
-        requires spelt { (y : Telegram) → under eqb t self.old ≡ Some y → IsSpelt (version_of y) packet }
+        requires { (y : Telegram) → under eqb t self.old ≡ Some y → MayStand p packet y }
         ensures { Within eqb t (no_telegram packet) (PutsIn spot p packet) self.old result self.new }
     {
         let Some(i) = self.telegrams.place_of(t) else {
@@ -52,8 +49,7 @@ fn put(
     p: Tag,
     packet: Packet,
 ) -> Result<(), (Refusal, Packet)>
-    requires new { under same_tag p telegram.old.packets ≡ None }
-    requires spelt { IsSpelt (version_of telegram.old) packet }
+    requires { MayStand p packet telegram.old }
     ensures { PutsIn spot p packet telegram.old result telegram.new }
 {
     let answer = match spot {

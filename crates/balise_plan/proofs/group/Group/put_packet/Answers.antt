@@ -15,16 +15,12 @@ pub returns-in_default : goal.returns-in_default
 returns-in_default c = at_none eqb c.args.t c.self.inside.telegrams c.args.self.now c.self.view_is c.in_default.ensures _ _
 
 pub put-requires : goal.put-requires
-put-requires c =
-    let y = c.index_mut-telegram.result.now in
-    let stands = found_at nat_test (here (goal.at.put-requires c).After-index_mut-telegram) in
-    record { new = c.requires.new y stands; spelt = c.requires.spelt y stands }
+put-requires c = c.requires _ (found_at nat_test (here (goal.at.put-requires c).After-index_mut-telegram))
 
 pub invariant_of-self : goal.invariant_of-self
 invariant_of-self c =
-    let y = c.index_mut-telegram.result.now in
     let p = here (goal.at.invariant_of-self c).After-index_mut-telegram in
-    sound_at p c.self.invariant _ (packet-put c.args.spot c.args.p c.args.packet c.put.result y _ (c.requires.new y (found_at nat_test p)) (c.requires.spelt y (found_at nat_test p)) c.put.ensures)
+    sound_at p c.self.invariant _ (packet-put c.args.spot c.args.p c.args.packet c.put.result _ _ (c.requires _ (found_at nat_test p)) c.put.ensures)
 
 pub returns : goal.returns
 returns c = at_place nat_test (here (goal.at.returns c).After-index_mut-telegram) c.self.invariant.tags _ _ _ _ c.put.ensures

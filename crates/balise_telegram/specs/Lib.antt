@@ -2,6 +2,7 @@ pub mod HeaderFields
 pub mod Reading
 pub mod Faults
 pub mod Setting
+pub mod Linking
 pub mod Moving
 pub mod Packed
 pub mod Changes

@@ -61,7 +61,8 @@ impl Header {
         requires { 50 ≤ length bits.now }
         ensures { result ≡ is_balise (read_header bits.now) }
     {
-        (bits.number(0, 1) == 1) & (bits.number(8, 1) == 0)
+        let first = bits.number(0, 9);
+        (first / 256 == 1) & (first % 2 == 0)
     }
 
     /// M_VERSION of the header in the first 50 of a telegram's bits.

@@ -155,6 +155,7 @@ impl Telegram {
 
     /// The packet at a place in the order, from 0, lent, with its tag. A loop over all packets takes `packets`, which
     /// doesn't begin at the first packet each time.
+    #[inline(always)]
     pub fn at(&self, i: usize) -> Option<(PacketTag, PacketRef<'_>)>
         ensures { result ≡ slice_get self.now.packets i }
     {
@@ -242,13 +243,15 @@ impl Telegram {
         }
     }
 
-    // The packet at a place, lent.
+    // The packet at a place, lent. Inlined, so that nothing is read for one that isn't looked at.
+    #[inline(always)]
     fn lent(&self, place: Place) -> PacketRef<'_>
         requires place { IsPlace self.now place }
         requires stands { place.index < length self.now.packets }
         ensures { (x : Tag × Packet) → slice_get self.now.packets place.index ≡ Some x → result ≡ x.1 }
     {
-        PacketRef::new(self.packed(), place.at, self.version())
+        let bits = self.packed();
+        PacketRef::of_head(bits, place.at, self.version(), bits.number(place.at, 23))
     }
 
     // The place after the packet at a place.

@@ -59,6 +59,28 @@ impl<'a> Iterator for Packets<'a> {
 
 impl<'a> FusedIterator for Packets<'a> {}
 
+impl<'a> Packets<'a> {
+    ghost use Rattle.std.specs.Prelude.{◌∷◌, IfNone, IfSome};
+    ghost use Rattle.balise_telegram.specs.Linking.{NameNothing, PassesOver};
+
+    /// The next packet that may have elements, of packets 5 and 136 (SUBSET-026, 7.4.2), with its tag, lent. Those before
+    /// it, which name no identity, are passed over, and nothing is put together for them.
+    #[inline(always)]
+    pub fn next_linking(&mut self) -> Option<(PacketTag, PacketRef<'a>)>
+        ensures none { IfNone result (NameNothing self.old) }
+        ensures some { IfSome result (λ r. PassesOver self.old ((r.0, r.1) ∷ self.new)) }
+    {
+        'packets: loop {
+            let Some((tag, packet)) = self.next() else {
+                return None;
+            };
+            if packet.has_elements() {
+                return Some((tag, packet));
+            }
+        }
+    }
+}
+
 impl Telegram {
     /// Its packets in order, each with its tag, lent.
     pub fn packets(&self) -> Packets<'_>

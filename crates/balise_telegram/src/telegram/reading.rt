@@ -5,6 +5,7 @@ ghost use Rattle.balise_rules.specs.declared.tag.Tag.{Tag};
 ghost use Rattle.balise_rules.specs.Packet.{Packet};
 ghost use Rattle.balise_rules.specs.Telegram.{read_packets, read_telegram};
 ghost use Rattle.balise_telegram.specs.Faults.{refusal_of};
+ghost use Rattle.balise_telegram.specs.Packed.{IsTelegram};
 
 use crate::fault::TelegramFault;
 use crate::header::Header;
@@ -17,18 +18,13 @@ impl Telegram {
     ///
     /// Refused in this order: `BadLength`, `NotABalise`, then by the first packet that isn't one `NoEnd`, `PacketZero`,
     /// `PacketCut` or `LayoutMismatch`.
+    #[inline(always)]
     pub fn of_bits(bits: Bits) -> Result<Telegram, TelegramFault>
         ensures ok { IfOk result (λ t. read_telegram bits ≡ Ok t) }
         ensures memory { IfErr result (λ e. e ≢ TelegramFault.OutOfMemory) }
         ensures fault { IfErr result (λ e. read_telegram bits ≡ Err (refusal_of e)) }
     {
-        if (bits.len() != 210) & (bits.len() != 830) {
-            return Err(TelegramFault::BadLength);
-        }
-        if !Header::is_balise_in(&bits) {
-            return Err(TelegramFault::NotABalise);
-        }
-        check_packets(&bits, Header::version_in(&bits))?;
+        check(&bits)?;
         Ok(Telegram {
             contents: Contents::Read(bits),
         })
@@ -42,6 +38,23 @@ impl Telegram {
     {
         Telegram::of_bits(bits.copy()?)
     }
+}
+
+// Sees whether some bits are a telegram, or the first fault. Out of line, so that the bits aren't moved on their way.
+#[inline(never)]
+fn check(bits: &Bits) -> Result<(), TelegramFault>
+    ensures ok { IfOk result (λ _. IsTelegram bits.now) }
+    ensures memory { IfErr result (λ e. e ≢ TelegramFault.OutOfMemory) }
+    ensures fault { IfErr result (λ e. read_telegram bits.now ≡ Err (refusal_of e)) }
+{
+    if (bits.len() != 210) & (bits.len() != 830) {
+        return Err(TelegramFault::BadLength);
+    }
+    if !Header::is_balise_in(bits) {
+        return Err(TelegramFault::NotABalise);
+    }
+    check_packets(bits, Header::version_in(bits))?;
+    Ok(())
 }
 
 // Sees whether packets stand in a telegram's bits, up to packet 255, or the first fault.

@@ -70,6 +70,22 @@ fn have_elements(telegram: &Telegram) -> bool {
     same
 }
 
+/// The places of those that have elements.
+const LINKING: [u32; 4] = [0, 1, 7, 8];
+
+/// Whether these are the packets that are gone to, and then none.
+fn goes_to_linking(telegram: &Telegram) -> bool {
+    let mut packets = telegram.packets();
+    let mut same = true;
+    for place in &LINKING {
+        same &= match packets.next_linking() {
+            Some((tag, packet)) => (tag == PacketTag::Base(*place)) & packet.has_elements(),
+            None => false,
+        };
+    }
+    same & packets.next_linking().is_none()
+}
+
 /// Moves the last of ten packets there and back.
 fn edit_last(rt: &impl Abort, telegram: &mut Telegram) {
     assert!(rt; telegram.shift_after(PacketTag::Base(9), None) == Ok(None));
@@ -77,9 +93,9 @@ fn edit_last(rt: &impl Abort, telegram: &mut Telegram) {
 }
 
 fn check_elements(rt: &impl Abort, telegram: &mut Telegram) {
-    assert!(rt; have_elements(telegram));
+    assert!(rt; have_elements(telegram) & goes_to_linking(telegram));
     edit_last(rt, telegram);
-    assert!(rt; have_elements(telegram));
+    assert!(rt; have_elements(telegram) & goes_to_linking(telegram));
 }
 
 #[test]

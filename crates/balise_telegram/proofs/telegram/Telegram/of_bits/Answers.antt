@@ -1,32 +1,11 @@
-use Rattle.std.proofs.Common.{◌≡◌, ◌∙◌, Result, Err, IfErr, refl, sym, subst}
-use Rattle.balise_rules.specs.Telegram.{read_header, read_telegram, Telegram}
-use Rattle.balise_telegram.specs.declared.fault.TelegramFault.{TelegramFault}
-use Rattle.balise_telegram.specs.Faults.{refusal_of}
-use Rattle.balise_telegram.specs.Packed.{telegram_of, IsTelegram}
+use Rattle.balise_rules.specs.Telegram.{read_telegram}
+use Rattle.balise_telegram.specs.Packed.{telegram_of}
 use Rattle.balise_telegram.proofs.PackedPlaces.{held_read}
 use Rattle.balise_telegram.proofs.Seen.{read_one}
-use Rattle.balise_telegram.proofs.Passing.{error_is}
-use Rattle.balise_telegram.proofs.TelegramsRead.{bad_length, no_balise, packets_fail, packets_read}
 use Rattle.balise_telegram.proofs.telegram.Telegram.of_bits.Goals as goal
 
-pub returns-then-len-clause-fault : goal.returns-then-len-clause-fault
-returns-then-len-clause-fault c = bad_length c.args.bits c.len.result c.len-2.result c.len.ensures c.len-2.ensures c.if-len.true
-
-pub returns-then-not-is_balise_in-clause-fault : goal.returns-then-not-is_balise_in-clause-fault
-returns-then-not-is_balise_in-clause-fault c = no_balise c.args.bits c.len.result c.len-2.result c.len.ensures c.len-2.ensures c.if-len.false (sym c.is_balise_in.ensures ∙ c.if-not-is_balise_in.true)
-
-pub returns-in_err-check_packets-clause-fault : goal.returns-in_err-check_packets-clause-fault
-returns-in_err-check_packets-clause-fault c =
-    let b = c.args.bits in
-    let fault = c.in_err-check_packets.field-0.0 in
-    subst (λ (r : Result Telegram TelegramFault). IfErr r (λ e. read_telegram b ≡ Err (refusal_of e))) (sym (error_is c.from_residual.result fault c.from_residual.ensures))
-    (packets_fail b c.len.result c.len-2.result (read_header b) c.version_in.result (refusal_of fault) c.len.ensures c.len-2.ensures c.if-len.false refl c.version_in.ensures (sym c.is_balise_in.ensures ∙ c.if-not-is_balise_in.false) c.in_err-check_packets.ensures.fault)
-
-held : (c : goal.In_ok-check_packets) → IsTelegram c.args.bits
-held c = let r = c.in_ok-check_packets.ensures.ok in packets_read c.args.bits c.len.result c.len-2.result (read_header c.args.bits) c.version_in.result r.0 c.len.ensures c.len-2.ensures c.if-len.false refl c.version_in.ensures (sym c.is_balise_in.ensures ∙ c.if-not-is_balise_in.false) r.1
-
 pub invariant_of-result : goal.invariant_of-result
-invariant_of-result c = let b = c.args.bits in read_one b (telegram_of (read_telegram b)) (held_read b (held c))
+invariant_of-result c = let b = c.args.bits in read_one b (telegram_of (read_telegram b)) (held_read b c.in_ok-check.ensures.ok)
 
 pub returns-clause-ok : goal.returns-clause-ok
-returns-clause-ok c = held c
+returns-clause-ok c = c.in_ok-check.ensures.ok

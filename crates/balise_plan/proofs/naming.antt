@@ -6,5 +6,6 @@ pub mod LinksAt
 pub mod OfGroup
 pub mod OfPacket
 pub mod Parts
+pub mod Past
 pub mod Relinked
 pub mod Walking

@@ -6,7 +6,7 @@ ghost use Rattle.balise_plan.specs.GroupLinks.{links_in_group, links_in_packets,
 ghost use Rattle.balise_index.specs.NameIndex.{names_of, tags_of};
 
 use crate::group::Group;
-use crate::links::packet::set_packet;
+use crate::links::packet::set_linking;
 use crate::packet_place::PacketPlace;
 use balise_index::NameIndex;
 use balise_rules::Tag;
@@ -59,13 +59,16 @@ fn set_telegram(
     ensures tags { tags_of index.new ≡ tags_of index.old }
 {
     let country = telegram.identity().country;
-    for (p, packet) in telegram.packets() {
+    let mut packets = telegram.packets();
+    'packets: loop {
+        let Some((p, packet)) = packets.next_linking() else {
+            return Ok(());
+        };
         let place = PacketPlace {
             group: g,
             telegram: t,
             packet: p,
         };
-        set_packet(alloc, index, place, country, &packet, noted)?;
+        set_linking(alloc, index, place, country, &packet, noted)?;
     }
-    Ok(())
 }

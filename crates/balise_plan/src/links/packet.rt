@@ -46,10 +46,10 @@ pub(crate) fn forget_packet(
     let _ = set_packet(alloc, index, place, country, packet, false);
 }
 
-// Notes or forgets the links of a packet that has elements. Out of line, so that a packet without any takes no stack for
-// them.
+/// Notes or forgets the links of a packet that has elements. Out of line, so that a packet without any takes no stack for
+/// them.
 #[inline(never)]
-fn set_linking(
+pub(crate) fn set_linking(
     alloc: Global,
     index: &mut NameIndex,
     place: PacketPlace,
@@ -62,7 +62,7 @@ fn set_linking(
     ensures never { noted ≡ false → IsOk result }
     ensures tags { tags_of index.new ≡ tags_of index.old }
 {
-    match packet.few_elements(country) {
+    match &packet.few_elements(country) {
         Some(few) => set_elements(alloc, index, place, few.as_slice(), noted),
         None => set_many(alloc, index, place, country, packet, noted),
     }

@@ -38,10 +38,13 @@ fn add_telegram(names: &mut Vec<Id>, telegram: &Telegram) -> Result<(), Refusal>
     ensures fault { IsOkUnless result Refusal.OutOfMemory }
 {
     let country = telegram.identity().country;
-    for (_, packet) in telegram.packets() {
+    let mut packets = telegram.packets();
+    'packets: loop {
+        let Some((_, packet)) = packets.next_linking() else {
+            return Ok(());
+        };
         add_packet(names, &packet, country)?;
     }
-    Ok(())
 }
 
 /// Adds those that a packet names in a telegram of this country.

@@ -75,44 +75,29 @@ pub(crate) fn check_each_bit(rt: &impl Abort, bits: &Bits, to: usize, at: usize,
     }
 }
 
-// Two places, and the length of what is moved from each to the other.
-type Move = (usize, usize, usize);
-
-// In a telegram of 830 bits.
-const LONG: &[Move] = &[
-    (58, 50, 772),
-    (146, 50, 684),
-    (79, 50, 751),
-    (51, 50, 779),
-    (0, 1, 829),
-    (400, 3, 401),
-    (0, 0, 830),
+// How many bits there are, two places, and the length of what is moved from each to the other: in a telegram of 830
+// bits, and in 4,096 bits, where the bits are moved in several steps.
+const MOVES: &[(usize, usize, usize, usize)] = &[
+    (830, 58, 50, 772),
+    (830, 146, 50, 684),
+    (830, 79, 50, 751),
+    (830, 51, 50, 779),
+    (830, 0, 1, 829),
+    (830, 400, 3, 401),
+    (830, 0, 0, 830),
+    (4096, 11, 3, 4000),
+    (4096, 14, 3, 4001),
+    (4096, 1019, 3, 3048),
+    (4096, 0, 1016, 3049),
 ];
-
-// In 4,096 bits: places and lengths for which the bits are moved in several steps.
-const LONGEST: &[Move] = &[
-    (11, 3, 4000),
-    (14, 3, 4001),
-    (1019, 3, 3048),
-    (0, 1016, 3049),
-];
-
-fn check_moves(rt: &impl Abort, alloc: Global, width: usize, moves: &[Move]) {
-    let bits = mixed(rt, alloc, width);
-    for (one, other, len) in moves {
-        check_each_bit(rt, &bits, *one, *other, *len);
-        check_each_bit(rt, &bits, *other, *one, *len);
-    }
-}
 
 #[test]
 fn long_parts_are_moved(rt: HostRuntime) {
-    check_moves(&rt, rt.alloc(), 830, LONG);
-}
-
-#[test]
-fn the_longest_parts_are_moved(rt: HostRuntime) {
-    check_moves(&rt, rt.alloc(), 4096, LONGEST);
+    for (width, one, other, len) in MOVES {
+        let bits = mixed(&rt, rt.alloc(), *width);
+        check_each_bit(&rt, &bits, *one, *other, *len);
+        check_each_bit(&rt, &bits, *other, *one, *len);
+    }
 }
 
 // Lengths about which bits are put in another way: one number, several, bytes.

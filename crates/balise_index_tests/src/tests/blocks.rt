@@ -63,17 +63,13 @@ fn put_within(rt: &impl Abort, both: &mut Both, from: u32, to: u32) {
     }
 }
 
-/// A block that fills, and one more tag.
-fn check_filled(rt: &impl Abort, both: &mut Both) {
-    put_last(rt, both, 0, 512);
-    assert!(rt; both.are_same());
-    put_last(rt, both, 512, 513);
-    assert!(rt; both.are_same());
-}
-
 #[test]
 fn a_block_fills_and_another_begins(rt: HostRuntime) {
-    check_filled(&rt, &mut Both::new(rt.alloc()));
+    let mut both = Both::new(rt.alloc());
+    put_last(&rt, &mut both, 0, 512);
+    assert!(&rt; both.are_same());
+    put_last(&rt, &mut both, 512, 513);
+    assert!(&rt; both.are_same());
 }
 
 /// A full block that is split by a tag put in at a place.

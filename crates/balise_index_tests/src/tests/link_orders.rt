@@ -146,19 +146,23 @@ fn a_place_above_255_is_refused(rt: HostRuntime) {
     }
 }
 
-/// Places with the largest telegram, packet and element of which three stand by themselves, and two, and places just past
-/// them.
+/// A packet's place with the largest telegram and element of which two or three places stand by themselves.
+fn largest(group: Tag, packet: Tag) -> LinkPlace {
+    place(group, 7, packet, 31)
+}
+
+/// Places with the largest packet of which three stand by themselves, and two, and places just past them.
 fn edges() -> [LinkPlace; 12] {
     let (base, fresh) = (Tag::Base(4294967295), Tag::Fresh(4294967295));
     [
-        place(base, 7, Tag::Base(63), 31),
-        place(base, 7, Tag::Fresh(63), 31),
-        place(fresh, 7, Tag::Base(63), 31),
-        place(fresh, 7, Tag::Fresh(63), 31),
+        largest(base, Tag::Base(63)),
+        largest(base, Tag::Fresh(63)),
+        largest(fresh, Tag::Base(63)),
+        largest(fresh, Tag::Fresh(63)),
         place(base, 0, Tag::Base(64), 0),
         place(fresh, 0, Tag::Fresh(64), 0),
-        place(base, 7, Tag::Base(4194303), 31),
-        place(fresh, 7, Tag::Fresh(4194303), 31),
+        largest(base, Tag::Base(4194303)),
+        largest(fresh, Tag::Fresh(4194303)),
         place(base, 8, Tag::Base(0), 0),
         place(base, 0, Tag::Base(4194304), 0),
         place(fresh, 0, Tag::Fresh(4194304), 0),

@@ -74,12 +74,12 @@ fn is_turned(map: &OrderedMap<u32>, count: u32) -> bool {
 fn fill_map(rt: &impl Abort, alloc: Global, memory: Memory) {
     let mut map = OrderedMap::new(alloc);
     let held = put_up_to(&mut map, 1025);
-    assert!(rt; is_doubled(&map, held));
     check_held(rt, memory, held, 1025);
+    assert!(rt; is_doubled(&map, held));
     let mut turned = OrderedMap::new(alloc);
     let held = put_first_up_to(&mut turned, 700);
-    assert!(rt; is_turned(&turned, held));
     check_held(rt, memory, held, 700);
+    assert!(rt; is_turned(&turned, held));
 }
 
 #[test]
@@ -120,8 +120,8 @@ fn fill_identities(rt: &impl Abort, alloc: Global, memory: Memory) {
     let mut n: u32 = 0;
     for id in &ids {
         if !put_under(&mut map, *id, n) {
-            assert!(rt; has_first(&map, &ids, n));
             check_held(rt, memory, n, 6);
+            assert!(rt; has_first(&map, &ids, n));
             return;
         }
         n = n.saturating_add(1);
@@ -172,8 +172,8 @@ fn put_far_up_to(map: &mut IdentityMap<u32>, count: u32) -> u32 {
 fn fill_far(rt: &impl Abort, alloc: Global, memory: Memory) {
     let mut map = IdentityMap::new(alloc);
     let held = put_far_up_to(&mut map, 60);
-    assert!(rt; has_far(&map, held, 60));
     check_held(rt, memory, held, 60);
+    assert!(rt; has_far(&map, held, 60));
 }
 
 #[test]
@@ -212,8 +212,8 @@ fn insert_up_to(alloc: Global, links: &mut Links, count: u32, lowest: u32) -> u3
 fn grow_links(rt: &impl Abort, alloc: Global, memory: Memory, lowest: u32) {
     let mut links = Links::new();
     let held = insert_up_to(alloc, &mut links, 100, lowest);
-    assert!(rt; is_first(&links, held, lowest));
     check_held(rt, memory, held, 100);
+    assert!(rt; is_first(&links, held, lowest));
 }
 
 /// Grows sets that begin a list with their fourth place, with their third one, and with their second one.
@@ -256,11 +256,11 @@ fn are_tagged(index: &NameIndex, count: u32) -> bool {
 fn fill_index(rt: &impl Abort, alloc: Global, memory: Memory) {
     let mut index = NameIndex::new(alloc);
     let named = name(&mut index, alloc, id(7, 3), 0, 70);
+    check_held(rt, memory, named, 70);
     assert!(rt; named_from(&index, id(7, 3), 0, named) & index.tag(id(7, 3)).is_none());
     let tagged = tags_up_to(&mut index, 40);
-    assert!(rt; are_tagged(&index, tagged) & named_from(&index, id(7, 3), 0, named));
-    check_held(rt, memory, named, 70);
     check_held(rt, memory, tagged, 40);
+    assert!(rt; are_tagged(&index, tagged) & named_from(&index, id(7, 3), 0, named));
 }
 
 #[test]

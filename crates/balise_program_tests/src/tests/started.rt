@@ -32,7 +32,7 @@ impl Program for CountsWords {
         _alloc: Global,
         asked: u8,
         _reader: &mut Counted<R>,
-        _writer: &mut Counted<BufWriter<W>>,
+        _writer: &mut Buffered<W>,
     ) -> Exit {
         Exit {
             code: asked,
@@ -41,74 +41,76 @@ impl Program for CountsWords {
     }
 }
 
-type Text = Counted<Vec<u8>>;
+type Buffered<W> = Counted<BufWriter<W>>;
 
-/// Words, and the code, the fault and the text for errors that they end with.
-const ROWS: &[(&[&str], u8, Option<Refusal>, &str)] = &[
-    (&["counts"], 1, None, ""),
-    (&["counts", "--more"], 2, None, ""),
-    (&[], 3, Some(Refusal::OutOfMemory), "fault 30 OutOfMemory\n"),
+/// The code, the fault and the text for errors that a program ends with.
+type End = (u8, Option<Refusal>, &'static str);
+
+const NO_MEMORY: End = (3, Some(Refusal::OutOfMemory), "fault 30 OutOfMemory\n");
+
+const BAD_TEXT: End = (64, None, "error: an argument is not UTF-8\n");
+
+/// Words, and how they end.
+const ROWS: &[(&[&str], End)] = &[
+    (&["counts"], (1, None, "")),
+    (&["counts", "--more"], (2, None, "")),
+    (&[], NO_MEMORY),
 ];
 
-fn check_end(rt: &impl Abort, exit: Exit, errors: &Text, wanted: (u8, Option<Refusal>, &str)) {
-    assert!(rt; exit.code == wanted.0);
-    assert!(rt; exit.fault == wanted.1);
-    assert!(rt; errors.inner().as_slice() == wanted.2.as_bytes());
+/// The words that a program is started with, or those of the system, or why they can't be had.
+enum Words<'a> {
+    Given(&'a [&'a str]),
+    OfSystem(io::Result<Args>),
 }
 
-fn buffered(rt: &impl Abort, alloc: Global) -> Counted<BufWriter<Vec<u8>>> {
+fn buffered(rt: &impl Abort, alloc: Global) -> Buffered<Vec<u8>> {
     Counted::new(BufWriter::new(alloc, Vec::new(alloc)).expect(rt, "memory"))
 }
 
-fn start_row(rt: &impl Abort, alloc: Global, words: &[&str], errors: &mut Text) -> Exit {
+fn exit_of(rt: &impl Abort, alloc: Global, words: Words, errors: &mut Counted<Vec<u8>>) -> Exit {
     let mut reader = Counted::new(b"".as_slice());
     let mut writer = buffered(rt, alloc);
-    start::<CountsWords, _, _, _>(alloc, words, &mut reader, &mut writer, errors)
+    match words {
+        Words::Given(words) => {
+            start::<CountsWords, _, _, _>(alloc, words, &mut reader, &mut writer, errors)
+        }
+        Words::OfSystem(words) => {
+            launch::<CountsWords, _, _, _>(alloc, words, &mut reader, &mut writer, errors)
+        }
+    }
+}
+
+/// That the program ends so with these words.
+fn check_end(rt: &impl Abort, alloc: Global, words: Words, end: &End) {
+    let mut errors = Counted::new(Vec::new(alloc));
+    let exit = exit_of(rt, alloc, words, &mut errors);
+    assert!(rt; (exit.code == end.0) & (exit.fault == end.1));
+    assert!(rt; errors.inner().as_slice() == end.2.as_bytes());
 }
 
 #[test]
 fn words_are_asked_and_done(rt: HostRuntime) {
-    for (words, code, fault, text) in ROWS.iter() {
-        let mut errors = Counted::new(Vec::new(rt.alloc()));
-        let exit = start_row(&rt, rt.alloc(), *words, &mut errors);
-        check_end(&rt, exit, &errors, (*code, *fault, *text));
+    for (words, end) in ROWS.iter() {
+        check_end(&rt, rt.alloc(), Words::Given(*words), end);
     }
-}
-
-fn launch_row(rt: &impl Abort, alloc: Global, words: io::Result<Args>, errors: &mut Text) -> Exit {
-    let mut reader = Counted::new(b"".as_slice());
-    let mut writer = buffered(rt, alloc);
-    launch::<CountsWords, _, _, _>(alloc, words, &mut reader, &mut writer, errors)
 }
 
 #[test]
 fn words_of_the_system(rt: HostRuntime) {
-    for (words, code, fault, text) in ROWS.iter() {
-        let mut errors = Counted::new(Vec::new(rt.alloc()));
+    for (words, end) in ROWS.iter() {
         let words = arguments(rt.alloc(), *words).expect(&rt, "memory");
-        let exit = launch_row(&rt, rt.alloc(), Ok(words), &mut errors);
-        check_end(&rt, exit, &errors, (*code, *fault, *text));
+        check_end(&rt, rt.alloc(), Words::OfSystem(Ok(words)), end);
     }
 }
 
-/// That a command line that can't be had ends the program so, without a run.
-fn check_no_words(
-    rt: &impl Abort,
-    alloc: Global,
-    kind: ErrorKind,
-    wanted: (u8, Option<Refusal>, &str),
-) {
-    let mut errors = Counted::new(Vec::new(alloc));
-    let exit = launch_row(rt, alloc, Err(io::Error::from(kind)), &mut errors);
-    check_end(rt, exit, &errors, wanted);
+/// That the program ends so, without a run, where the words of the system can't be had for this reason.
+fn check_no_words(rt: &impl Abort, alloc: Global, kind: ErrorKind, end: &End) {
+    check_end(rt, alloc, Words::OfSystem(Err(io::Error::from(kind))), end);
 }
 
 #[test]
 fn no_words(rt: HostRuntime) {
-    let alloc = rt.alloc();
-    let none = (3, Some(Refusal::OutOfMemory), "fault 30 OutOfMemory\n");
-    check_no_words(&rt, alloc, ErrorKind::OutOfMemory, none);
-    let bad = (64, None, "error: an argument is not UTF-8\n");
-    check_no_words(&rt, alloc, ErrorKind::InvalidInput, bad);
-    check_no_words(&rt, alloc, ErrorKind::InvalidData, bad);
+    check_no_words(&rt, rt.alloc(), ErrorKind::OutOfMemory, &NO_MEMORY);
+    check_no_words(&rt, rt.alloc(), ErrorKind::InvalidInput, &BAD_TEXT);
+    check_no_words(&rt, rt.alloc(), ErrorKind::InvalidData, &BAD_TEXT);
 }

@@ -86,28 +86,33 @@ fn help(rt: HostRuntime) {
 }
 
 /// Arguments that aren't known, or given twice.
-const OTHERS: &[&[&str]] = &[
-    &["baliseplan", "--loud"],
-    &["baliseplan", "-q"],
-    &["baliseplan", "--quiet=true"],
-    &["baliseplan", "--qui"],
-    &["baliseplan", "plan"],
-    &["baliseplan", "-"],
-    &["baliseplan", ""],
-    &["baliseplan", "--quiet", "--quiet"],
-    &["baliseplan", "--", "--quiet"],
-    &["baliseplan", "--loud", "--help"],
-    &["baliseplan", "--version"],
-    &["baliseplan", "-V"],
-    &["baliseplan", "--quiet", "--version"],
-    &["baliseplan", "-V", "--help"],
+const OTHERS: &[&str] = &[
+    "baliseplan --loud",
+    "baliseplan -q",
+    "baliseplan --quiet=true",
+    "baliseplan --qui",
+    "baliseplan plan",
+    "baliseplan -",
+    "baliseplan --quiet --quiet",
+    "baliseplan -- --quiet",
+    "baliseplan --loud --help",
+    "baliseplan --version",
+    "baliseplan -V",
+    "baliseplan --quiet --version",
+    "baliseplan -V --help",
 ];
+
+fn check_other(rt: &impl Abort, alloc: Global, words: &[&str]) {
+    assert!(rt; is_other(&flags(alloc, words)));
+}
 
 #[test]
 fn others(rt: HostRuntime) {
-    for words in OTHERS.iter() {
-        assert!(rt; is_other(&flags(rt.alloc(), *words)));
+    for line in OTHERS.iter() {
+        let words = words_of(&rt, rt.alloc(), *line);
+        check_other(&rt, rt.alloc(), words.as_slice());
     }
+    check_other(&rt, rt.alloc(), &["baliseplan", ""]);
 }
 
 // What the user is shown, as clap lays it out.

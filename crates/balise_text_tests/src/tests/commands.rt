@@ -109,24 +109,12 @@ fn edits_of_groups_are_read(rt: HostRuntime) {
     assert!(rt; is_turn(&read_request(alloc, b"turn 5.100")));
 }
 
-fn is_undo(answer: &Answer) -> bool {
-    matches!(answer, Ok(Request::Undo))
-}
-
-fn is_redo(answer: &Answer) -> bool {
-    matches!(answer, Ok(Request::Redo))
-}
-
-fn is_strike(answer: &Answer) -> bool {
-    matches!(answer, Ok(Request::Strike(0)))
-}
-
 #[test]
 fn other_commands_are_read(rt: HostRuntime) {
     let alloc = rt.alloc();
-    assert!(rt; is_undo(&read_request(alloc, b"undo")));
-    assert!(rt; is_redo(&read_request(alloc, b"redo")));
-    assert!(rt; is_strike(&read_request(alloc, b"strike 0")));
+    assert!(rt; matches!(read_request(alloc, b"undo"), Ok(Request::Undo)));
+    assert!(rt; matches!(read_request(alloc, b"redo"), Ok(Request::Redo)));
+    assert!(rt; matches!(read_request(alloc, b"strike 0"), Ok(Request::Strike(0))));
 }
 
 /// Whether a line is refused for this reason.

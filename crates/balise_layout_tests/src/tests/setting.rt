@@ -5,6 +5,10 @@ use crate::tests::packets::{
     check_digits, packet_of,
 };
 use balise_layout::LayoutFault::{NoSuchVariable, Steering, ValueTooWide};
+use balise_layout::Var::{
+    DGradient, DLink, GA, LPacket, MLeveltr, NIter, NidBg, NidC, NidNtc, NidTsr, QDiff, QDir,
+    QNewcountry, VDiff, VTsr,
+};
 use balise_layout::{LayoutFault, Packet, Var};
 use balise_rules::Refusal;
 use std::alloc::Global;
@@ -16,40 +20,28 @@ type Setting = (&'static str, u32, Var, u32, u32);
 // A setting, the old value, and the packet with the new one.
 const ROWS: [(Setting, u32, &str); 11] = [
     (
-        (LINKS, 33, Var::NidBg, 1, 150),
+        (LINKS, 33, NidBg, 1, 150),
         100,
         "0540ec812c80c0322302064004b630",
     ),
-    ((LINK, 33, Var::DLink, 0, 600), 500, "05408a825800c98c00"),
-    ((GRADIENTS, 33, Var::GA, 1, 7), 255, "15409c8000828409601c"),
+    ((LINK, 33, DLink, 0, 600), 500, "05408a825800c98c00"),
+    ((GRADIENTS, 33, GA, 1, 7), 255, "15409c8000828409601c"),
     (
-        (SPEEDS, 33, Var::VDiff, 2, 31),
+        (SPEEDS, 33, VDiff, 2, 31),
         30,
         "1b40fa80002810659224107d062180f8",
     ),
     (
-        (SPEEDS, 16, Var::QDir, 0, 2),
+        (SPEEDS, 16, QDir, 0, 2),
         1,
         "1b80fa80002810659224107d062180f0",
     ),
-    (
-        (LEVELS, 33, Var::NidNtc, 0, 22),
-        9,
-        "2940b2806422c00c82000a00",
-    ),
-    (
-        (RESTRICTION, 16, Var::VTsr, 0, 127),
-        8,
-        "41408e8280c80258fe",
-    ),
-    ((REVOCATION, 33, Var::NidTsr, 0, 9), 5, "42403e12"),
-    ((INFILL, 33, Var::NidBg, 0, 150), 100, "88404c0258"),
-    (
-        (INFILL_ABROAD, 16, Var::NidBg, 0, 16383),
-        100,
-        "88406101bfff",
-    ),
-    ((OPAQUE, 33, Var::QDir, 0, 3), 0, "2cc041a5"),
+    ((LEVELS, 33, NidNtc, 0, 22), 9, "2940b2806422c00c82000a00"),
+    ((RESTRICTION, 16, VTsr, 0, 127), 8, "41408e8280c80258fe"),
+    ((REVOCATION, 33, NidTsr, 0, 9), 5, "42403e12"),
+    ((INFILL, 33, NidBg, 0, 150), 100, "88404c0258"),
+    ((INFILL_ABROAD, 16, NidBg, 0, 16383), 100, "88406101bfff"),
+    ((OPAQUE, 33, QDir, 0, 3), 0, "2cc041a5"),
 ];
 
 fn check_set(rt: &impl Abort, packet: &mut Packet, row: &(Setting, u32, &str)) {
@@ -72,20 +64,20 @@ fn fields_are_read_and_set(rt: HostRuntime) {
 }
 
 const REFUSED: [(Setting, LayoutFault); 14] = [
-    ((LINKS, 33, Var::NidBg, 2, 5), NoSuchVariable),
-    ((LINKS, 33, Var::NidC, 1, 7), NoSuchVariable),
-    ((GRADIENTS, 33, Var::DGradient, 2, 1), NoSuchVariable),
-    ((SPEEDS, 16, Var::VDiff, 0, 1), NoSuchVariable),
-    ((LEVELS, 33, Var::NidNtc, 1, 3), NoSuchVariable),
-    ((INFILL, 33, Var::NidC, 0, 6), NoSuchVariable),
-    ((LINKS, 33, Var::NidC, 0, 7), Steering),
-    ((GRADIENTS, 33, Var::NIter, 0, 2), Steering),
-    ((SPEEDS, 33, Var::QDiff, 0, 1), Steering),
-    ((LEVELS, 33, Var::MLeveltr, 0, 2), Steering),
-    ((INFILL_ABROAD, 33, Var::QNewcountry, 0, 0), Steering),
-    ((OPAQUE, 33, Var::LPacket, 0, 9999), Steering),
-    ((LINKS, 33, Var::NidBg, 0, 16384), ValueTooWide),
-    ((REVOCATION, 33, Var::NidTsr, 0, 4294967295), ValueTooWide),
+    ((LINKS, 33, NidBg, 2, 5), NoSuchVariable),
+    ((LINKS, 33, NidC, 1, 7), NoSuchVariable),
+    ((GRADIENTS, 33, DGradient, 2, 1), NoSuchVariable),
+    ((SPEEDS, 16, VDiff, 0, 1), NoSuchVariable),
+    ((LEVELS, 33, NidNtc, 1, 3), NoSuchVariable),
+    ((INFILL, 33, NidC, 0, 6), NoSuchVariable),
+    ((LINKS, 33, NidC, 0, 7), Steering),
+    ((GRADIENTS, 33, NIter, 0, 2), Steering),
+    ((SPEEDS, 33, QDiff, 0, 1), Steering),
+    ((LEVELS, 33, MLeveltr, 0, 2), Steering),
+    ((INFILL_ABROAD, 33, QNewcountry, 0, 0), Steering),
+    ((OPAQUE, 33, LPacket, 0, 9999), Steering),
+    ((LINKS, 33, NidBg, 0, 16384), ValueTooWide),
+    ((REVOCATION, 33, NidTsr, 0, 4294967295), ValueTooWide),
 ];
 
 fn check_refused(rt: &impl Abort, alloc: Global, setting: &Setting, fault: LayoutFault) {

@@ -372,13 +372,9 @@ fn check_each_not_moved(rt: &impl Abort, telegram: &mut Telegram) {
     }
 }
 
-fn check_not_moved(rt: &impl Abort, alloc: Global) {
-    for is_edited in &EDITED {
-        check_each_not_moved(rt, &mut two_packets(rt, alloc, *is_edited));
-    }
-}
-
 #[test]
 fn says_why_a_packet_is_not_moved(rt: HostRuntime) {
-    check_not_moved(&rt, rt.alloc());
+    for is_edited in &EDITED {
+        check_each_not_moved(&rt, &mut two_packets(&rt, rt.alloc(), *is_edited));
+    }
 }

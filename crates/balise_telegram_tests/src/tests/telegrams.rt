@@ -238,16 +238,13 @@ fn set_heads(rt: &impl Abort, telegram: &mut Telegram) -> bool {
 }
 
 fn check_set(rt: &impl Abort, telegram: &mut Telegram) {
-    assert!(rt; set_fields(rt, telegram) & set_heads(rt, telegram));
-}
-
-fn check_set_of_each(rt: &impl Abort, alloc: Global) {
-    for is_edited in &EDITED {
-        check_set(rt, &mut two_packets(rt, alloc, *is_edited));
-    }
+    assert!(rt; set_fields(rt, telegram));
+    assert!(rt; set_heads(rt, telegram));
 }
 
 #[test]
 fn sets_variables_of_packets_and_of_the_header(rt: HostRuntime) {
-    check_set_of_each(&rt, rt.alloc());
+    for is_edited in &EDITED {
+        check_set(&rt, &mut two_packets(&rt, rt.alloc(), *is_edited));
+    }
 }

@@ -22,23 +22,27 @@ const TSR_6: &str = "42403e0c";
 
 const TSR_9: &str = "42403e12";
 
-const SET: &str = "a1007f80a03250900f84a1201f07ffffffffffffffffffffffffc0";
-
-const COUNTED: &str = "a1007f00a03250900f84a1201f07ffffffffffffffffffffffffc0";
-
-const EXCHANGED: &str = "a1007f00a03250900f83a1201f09ffffffffffffffffffffffffc0";
-
 const PUT: &str = "a1007f00a03250900f83a1201f0642403e13ffffffffffffffffc0";
 
 const MOVED_ON: &str = "a1007f00a03250900f83a1201f0942403e0dffffffffffffffffc0";
 
-const TAKEN: &str = "a1007f00a03250900f83a1201f06ffffffffffffffffffffffffc0";
-
 /// A change of each kind in a telegram, its answer, and the telegram then.
 const IN_A_TELEGRAM: &[(Step, Answer, &str)] = &[
-    (Field(FIRST, 0, FIVE, Var::NidTsr, 0, 9), Old(5), SET),
-    (Head(FIRST, 0, Var::MMcount, 254), Old(255), COUNTED),
-    (Shift(FIRST, 0, SEVEN, After(None)), Next(None), EXCHANGED),
+    (
+        Field(FIRST, 0, FIVE, Var::NidTsr, 0, 9),
+        Old(5),
+        "a1007f80a03250900f84a1201f07ffffffffffffffffffffffffc0",
+    ),
+    (
+        Head(FIRST, 0, Var::MMcount, 254),
+        Old(255),
+        "a1007f00a03250900f84a1201f07ffffffffffffffffffffffffc0",
+    ),
+    (
+        Shift(FIRST, 0, SEVEN, After(None)),
+        Next(None),
+        "a1007f00a03250900f83a1201f09ffffffffffffffffffffffffc0",
+    ),
     (Put(FIRST, 0, Before(Some(FIVE)), NEW, TSR_6), Done, PUT),
     (
         Shift(FIRST, 0, NEW, After(Some(FIVE))),
@@ -51,7 +55,11 @@ const IN_A_TELEGRAM: &[(Step, Answer, &str)] = &[
         Next(Some(FIVE)),
         MOVED_ON,
     ),
-    (Take(FIRST, 0, FIVE), Next(Some(NEW)), TAKEN),
+    (
+        Take(FIRST, 0, FIVE),
+        Next(Some(NEW)),
+        "a1007f00a03250900f83a1201f06ffffffffffffffffffffffffc0",
+    ),
     (Put(FIRST, 0, After(Some(NEW)), FIVE, TSR_9), Done, PUT),
 ];
 

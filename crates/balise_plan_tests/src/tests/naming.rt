@@ -3,7 +3,7 @@
 use crate::tests::digits::{ABROAD, EMPTY, FIRST, INFILL, LINKING, REVOCATION, SECOND, THREE};
 use crate::tests::steps::Answer::{Done, Next, Old, Refused};
 use crate::tests::steps::Step::{Field, Put, PutGroup, Rename, Take, TakeGroup, Turn};
-use crate::tests::steps::{Answer, Row, follow_each, follow_one, follow_over, shown_plan_of};
+use crate::tests::steps::{Answer, Row, Step, follow_each, follow_one, follow_over, shown_plan_of};
 use balise_plan::Refusal::{NoSuchVariable, NumberTaken, Steering, ValueTooWide};
 use balise_plan::{GroupTag, PacketTag, Plan, Spot, Var};
 use std::alloc::Global;
@@ -160,24 +160,20 @@ const FURTHER_AFTER: &str = "a1007f80a09650900f8282a045412c0064c603fffffffffffff
 
 const SET_BACK: &str = "a1007f80a09650900f8282a04540fa0064c603ffffffffffffffc0";
 
+const SET_600: Step = Field(SECOND, 0, PACKET, Var::DLink, 0, 600);
+
+const SET_500: Step = Field(SECOND, 0, PACKET, Var::DLink, 0, 500);
+
 /// A distance is set, and set back after other changes.
 const DISTANCES: &[Row] = &[
-    (
-        Field(SECOND, 0, PACKET, Var::DLink, 0, 600),
-        Old(500),
-        &[EMPTY, FURTHER],
-    ),
+    (SET_600, Old(500), &[EMPTY, FURTHER]),
     (Rename(SECOND, 300), Old(101), &[EMPTY, FURTHER_TOO]),
     (
         Put(SECOND, 0, Spot::After(None), THIRD_NEW, "42403e0a"),
         Done,
         &[EMPTY, FURTHER_AFTER],
     ),
-    (
-        Field(SECOND, 0, PACKET, Var::DLink, 0, 500),
-        Old(600),
-        &[EMPTY, SET_BACK],
-    ),
+    (SET_500, Old(600), &[EMPTY, SET_BACK]),
 ];
 
 #[test]

@@ -102,13 +102,15 @@ fn padding_stays(rt: HostRuntime) {
     follow_over(&rt, rt.alloc(), &[COLOURED], PADDED);
 }
 
-/// A packet 44 that a telegram of 210 bits has room for, and no other with it.
-const LARGEST: &str = "2c813000000000000000000000000000000000";
-
+/// A telegram of 210 bits with a packet 44 that it has room for, and for no other with it.
 const FULL: &str = "a1007f80a0324b204c000000000000000000000000000000003fc0";
 
 const WIDE: &[Row] = &[
-    (Insert(FIRST, None, LARGEST), Ok(()), &[FULL]),
+    (
+        Insert(FIRST, None, "2c813000000000000000000000000000000000"),
+        Ok(()),
+        &[FULL],
+    ),
     (Insert(FIRST, Some(NEW), "42403e0a"), Err(NoRoom), &[FULL]),
     (Move(NEW, None), Err(SamePlace), &[FULL]),
 ];
@@ -136,8 +138,6 @@ fn a_speed_profile(rt: HostRuntime) {
     follow_over(&rt, rt.alloc(), &[EMPTY], SPEEDS);
 }
 
-const OLD: &str = "90007f80a0327fffffffffffffffffffffffffffffffffffffffc0";
-
 const OLD_PUT: &str = "90007f80a03246d03ea0000a04196489041f4188603dffffffffc0";
 
 /// In version 1.0 a packet 27 isn't known.
@@ -157,7 +157,8 @@ const UNKNOWN: &[Row] = &[
 
 #[test]
 fn an_unknown_profile(rt: HostRuntime) {
-    follow_over(&rt, rt.alloc(), &[OLD], UNKNOWN);
+    let old = "90007f80a0327fffffffffffffffffffffffffffffffffffffffc0";
+    follow_over(&rt, rt.alloc(), &[old], UNKNOWN);
 }
 
 const COUNTED: &str = "a1007f00a03250900f82ffffffffffffffffffffffffffffffffc0";

@@ -60,7 +60,9 @@ impl<'a> Iterator for Packets<'a> {
 impl<'a> FusedIterator for Packets<'a> {}
 
 impl<'a> Packets<'a> {
-    ghost use Rattle.std.specs.Prelude.{◌∷◌, IfNone, IfSome};
+    ghost use Rattle.std.specs.Prelude.{◌∷◌, ◌⊎◌, IfNone, IfSome};
+    ghost use Rattle.balise_rules.specs.Packet.{value};
+    ghost use Rattle.balise_rules.specs.declared.variable.Var.TheVariants.{NidPacket};
     ghost use Rattle.balise_telegram.specs.Linking.{NameNothing, PassesOver};
 
     /// The next packet that may have elements, of packets 5 and 136 (SUBSET-026, 7.4.2), with its tag, lent. Those before
@@ -69,6 +71,7 @@ impl<'a> Packets<'a> {
     pub fn next_linking(&mut self) -> Option<(PacketTag, PacketRef<'a>)>
         ensures none { IfNone result (NameNothing self.old) }
         ensures some { IfSome result (λ r. PassesOver self.old ((r.0, r.1) ∷ self.new)) }
+        ensures linking { IfSome result (λ r. (value NidPacket 0 r.1.fields ≡ 5) ⊎ (value NidPacket 0 r.1.fields ≡ 136)) }
     {
         'packets: loop {
             let Some((tag, packet)) = self.next() else {

@@ -62,7 +62,7 @@ const FACTS_ROWS: &[Row<'static>] = &[
     Row(Call::Facts(3, 1), EDITED, 64, b""),
 ];
 
-const EXPLAINED: &[Row<'static>] = &[
+const FIELDS_ROWS: &[Row<'static>] = &[
     Row(Call::Explain, DIGITS, 0, FIELDS),
     Row(
         Call::Explain,
@@ -71,9 +71,6 @@ const EXPLAINED: &[Row<'static>] = &[
         b"fault 4 SpareBits - 31 zero\n",
     ),
     Row(Call::Explain, b"", 0, b""),
-];
-
-const SPELT: &[Row<'static>] = &[
     Row(Call::Spell, FIELDS, 0, DIGITS),
     Row(
         Call::Spell,
@@ -144,13 +141,8 @@ fn tells_facts(rt: HostRuntime) {
 }
 
 #[test]
-fn explains_digits(rt: HostRuntime) {
-    check_all(&rt, rt.alloc(), EXPLAINED);
-}
-
-#[test]
-fn spells_fields(rt: HostRuntime) {
-    check_all(&rt, rt.alloc(), SPELT);
+fn explains_digits_and_spells_fields(rt: HostRuntime) {
+    check_all(&rt, rt.alloc(), FIELDS_ROWS);
 }
 
 #[test]

@@ -1,13 +1,15 @@
 -- Only packets 5 and 136 have elements: what is of another form names nothing.
-use Rattle.std.proofs.Common.{◌≡◌, ℕ, zero, suc, Bool, true, false, cond, eqb, List, [], ◌∷◌, Option, Some, None, refl, ap, ◌∙◌}
+use Rattle.std.proofs.Common.{◌≡◌, ℕ, zero, suc, Bool, true, false, ◌&&◌, ◌||◌, cond, eqb, List, [], ◌∷◌, Option, Some, None, refl, sym, ap, subst, ◌∙◌}
+use Rattle.std.proofs.lemmas.Bool.{eqb-true}
 use Rattle.balise_rules.specs.declared.variable.Var.TheVariants.{NidBg}
 use Rattle.balise_rules.specs.Tags.{same_var, is_of}
 use Rattle.balise_rules.specs.Forms.{Form, done, shut, never, valued, repeat, Fields, Matches}
-use Rattle.balise_rules.specs.Packets.{counted, gradient, gradients, difference, section, speeds, level, levels, restriction, revocation, known_body}
+use Rattle.balise_rules.specs.Packets.{is_known, major, counted, gradient, gradients, difference, section, speeds, level, levels, restriction, revocation, known_body}
 use Rattle.balise_rules.specs.Packet.{Packet}
 use Rattle.balise_rules.specs.Names.{links_among, links_of}
 use Rattle.balise_layout.specs.Held.{headed, Holds}
-use Rattle.balise_layout.specs.Layouts.{form_of, takes, next_by, next_of, Nameless}
+use Rattle.balise_rules.proofs.Tests.{split_on}
+use Rattle.balise_layout.specs.Layouts.{form_of, layout_in, takes, next_by, next_of, Nameless}
 
 -- ---- what forms are made of
 
@@ -89,6 +91,30 @@ nameless_66 = nameless_revocation shut tt
 pub nameless_kept : Nameless (form_of None)
 unfolding form_of
 nameless_kept = tt
+
+-- of the other numbers a version knows none but these
+nameless_or : (n k : ℕ) → Nameless (form_of (Some k)) → (eqb n k ≡ false → Nameless (form_of (Some n))) → Nameless (form_of (Some n))
+nameless_or n k is other = split_on (eqb n k) (λ e. subst (λ (m : ℕ). Nameless (form_of (Some m))) (sym (eqb-true n k e)) is) other
+
+neither : (b : Bool) → (b && (false || false)) ≡ false
+neither true = refl
+neither false = refl
+
+unknown : (version n : ℕ) → eqb n 5 ≡ false → eqb n 136 ≡ false → eqb n 21 ≡ false → eqb n 27 ≡ false → eqb n 41 ≡ false → eqb n 65 ≡ false → eqb n 66 ≡ false → is_known version n ≡ false
+unfolding is_known
+unknown version n a b c d e f g = rw (a, c, f, g, b, d, e) (neither (eqb (major version) 2))
+
+nameless_known : (version n : ℕ) → eqb n 5 ≡ false → eqb n 136 ≡ false → is_known version n ≡ true → Nameless (form_of (Some n))
+nameless_known version n linking infill known =
+    nameless_or n 21 nameless_21 (λ c. nameless_or n 27 nameless_27 (λ d. nameless_or n 41 nameless_41 (λ e. nameless_or n 65 nameless_65 (λ f. nameless_or n 66 nameless_66 (λ g.
+    let none : true ≡ false = sym known ∙ unknown version n linking infill c d e f g in absurd cc)))))
+
+-- whatever the version makes of a number, but of 5 and 136
+pub nameless_numbered : (version n : ℕ) → (n ≡ 5 → ⊥) → (n ≡ 136 → ⊥) → Nameless (form_of (layout_in version n))
+unfolding layout_in
+nameless_numbered version n linking infill =
+    split_on (eqb n 5) (λ e. absurd (linking (eqb-true n 5 e))) (λ a. split_on (eqb n 136) (λ e. absurd (infill (eqb-true n 136 e))) (λ b.
+    split_on (is_known version n) (λ e. rw e (nameless_known version n a b e)) (λ e. rw e nameless_kept)))
 
 nameless_next : (own : Option ℕ) → Nameless (form_of own) → (n : ℕ) → Nameless (next_of own n)
 unfolding next_by

@@ -1,6 +1,6 @@
 //! The kinds of packets: the known ones, and those that are kept bit for bit.
 
-ghost use Rattle.std.specs.Prelude.{◌≡◌, ◌⊎◌, Some, false, is_some, true};
+ghost use Rattle.std.specs.Prelude.{◌≡◌, ◌⊎◌, ℕ, Some, false, is_some, true};
 ghost use Rattle.balise_rules.specs.Packets.{is_known};
 ghost use Rattle.balise_layout.specs.Reading.{Ends};
 ghost use Rattle.balise_layout.specs.Held.{headed};
@@ -103,6 +103,16 @@ impl PacketKind {
             PacketKind::Opaque => Opaque::walk_whole(walker),
         }
     }
+}
+
+/// Whether packets of this number may have elements, which name identities: those of packets 5 and 136 do
+/// (SUBSET-026, 7.4.2).
+#[tactic(auto, using(crate::proofs::Nameless::nameless_numbered))]
+pub fn may_have_elements(number: u32) -> bool
+    ensures none { result ≡ false → (version : ℕ) → Nameless (form_of (layout_in version number)) }
+    ensures some { result ≡ true → (number ≡ 5) ⊎ (number ≡ 136) }
+{
+    matches!(number, 5 | 136)
 }
 
 /// Whether a packet is known in a version.

@@ -25,7 +25,7 @@ pub use collect::Collect;
 pub use elements::{Elements, MOST_ELEMENTS};
 pub use fault::LayoutFault;
 pub use few::FewIdentities;
-pub use kind::{PacketKind, is_known};
+pub use kind::{PacketKind, is_known, may_have_elements};
 pub use layout::Layout;
 pub use packet::Packet;
 pub use packet_ref::PacketRef;

@@ -5,7 +5,7 @@ use crate::tests::packets::{
     check_digits, check_fields, packet_of,
 };
 use balise_bits::Bits;
-use balise_layout::{Id, Packet, PacketRef, Var};
+use balise_layout::{Id, Packet, PacketRef, Var, may_have_elements};
 use std::alloc::Global;
 use std::process::Abort;
 
@@ -73,6 +73,14 @@ fn packets_are_copied(rt: HostRuntime) {
     for row in &ROWS {
         check_copies(&rt, rt.alloc(), row.0, row.1);
     }
+}
+
+#[test]
+fn packets_5_and_136_may_have_elements(rt: HostRuntime) {
+    for number in 0..256 {
+        assert!(&rt; may_have_elements(number) == ((number == 5) | (number == 136)));
+    }
+    assert!(&rt; !may_have_elements(5 + 256) & !may_have_elements(u32::MAX));
 }
 
 // That packet 66 is read from bit 50 on.

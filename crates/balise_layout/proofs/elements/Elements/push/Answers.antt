@@ -17,8 +17,7 @@ returns-then-self-lt-MOST_ELEMENTS c =
 pub returns-else-self-lt-MOST_ELEMENTS : goal.returns-else-self-lt-MOST_ELEMENTS
 returns-else-self-lt-MOST_ELEMENTS c =
     let n = c.self.inside.count in
-    let ids = c.self.inside.identities in
     let held = c.args.self.now in
-    let l : length held ≡ n = ap length (sym c.self.view_is) ∙ length-take-le n ids (omega (arith, c.self.invariant)) in
+    let l : length held ≡ n = ap length (sym c.self.view_is) ∙ length-take-le n c.self.inside.identities (omega (arith, c.self.invariant)) in
     let full : length held ≡ 32 = omega (arith, l, c.self.invariant, c.if-self-lt-MOST_ELEMENTS.false) in
     sym (take-append-le most_elements held (c.args.id ∷ []) (omega (arith, full)) ∙ take_all most_elements held (omega (arith, full)))

@@ -26,9 +26,8 @@ returns-then-dir-lt2-clause-turned c =
 pub returns-then-dir-lt2-clause-spelt : goal.returns-then-dir-lt2-clause-spelt
 unfolding width_of steers
 returns-then-dir-lt2-clause-spelt c = λ version s.
-    let p = c.args.self.now in
     let fit : 1 - c.number-dir.result < 2 ^ 2 = omega arith in
-    spelt_still version c.args.self.now _ QDir 0 (1 - c.number-dir.result) refl fit (c.put_field.ensures 0 (dir_stands c.bits.ensures.0 c.bits.result.now p c.bits.ensures.1)) s
+    spelt_still version c.args.self.now _ QDir 0 (1 - c.number-dir.result) refl fit (c.put_field.ensures 0 (dir_stands c.bits.ensures.0 c.bits.result.now c.args.self.now c.bits.ensures.1)) s
 
 pub returns-else-dir-lt2-clause-turned : goal.returns-else-dir-lt2-clause-turned
 returns-else-dir-lt2-clause-turned c =

@@ -10,9 +10,8 @@ use Rattle.balise_layout.proofs.walker.WalkerWalk.take.Goals as goal
 pub returns : goal.returns
 returns g c = λ next.
     let r = c.self.inside in
-    let w = c.width-width.result in
     ap (walk g.V.Visit.step (valued c.args.var next)) (sym c.self.view_is)
-    ∙ walk_step g.V.Visit.step c.args.var next r.visitor c.see.new.self r.bits r.at r.end w c.number-value.result c.width-width.ensures.width c.self.invariant.1 (omega arith) c.number-value.ensures c.in_ok-see.ensures
+    ∙ walk_step g.V.Visit.step c.args.var next r.visitor c.see.new.self r.bits r.at r.end c.width-width.result c.number-value.result c.width-width.ensures.width c.self.invariant.1 (omega arith) c.number-value.ensures c.in_ok-see.ensures
 
 pub returns-then-left-width : goal.returns-then-left-width
 returns-then-left-width g c = λ next _.

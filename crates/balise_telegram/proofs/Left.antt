@@ -22,7 +22,7 @@ some_left [] (suc i) t e = absurd cc
 some_left (p ∷ ps) zero t e = let same : t ≡ p.0 = cc in (p.1, omega arith, ap (λ (k : Tag). Some (k, p.1)) (sym same))
 some_left (p ∷ ps) (suc i) t e = let l = some_left ps i t e in (l.0, (let h = l.1 in omega (arith, h)), l.2)
 
-left : (ps : Packets) (i : ℕ) (x : Tag × Packet) → slice_get ps i ≡ Some x → drop i ps ≡ x ∷ drop (suc i) ps
+pub left : (ps : Packets) (i : ℕ) (x : Tag × Packet) → slice_get ps i ≡ Some x → drop i ps ≡ x ∷ drop (suc i) ps
 left [] zero x e = absurd cc
 left [] (suc i) x e = absurd cc
 left (p ∷ ps) zero x e = let same : p ≡ x = cc in ap (λ (k : Tag × Packet). k ∷ ps) same

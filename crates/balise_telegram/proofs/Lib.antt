@@ -10,6 +10,7 @@ pub mod Settings
 pub mod HeaderSet
 pub mod HeaderForms
 pub mod Passing
+mod PassingOver
 pub mod Placing
 pub mod Shifting
 pub mod ShiftingBefore

@@ -1,6 +1,6 @@
 -- Going over the packets of the bits that a telegram shows.
 -- From what is shown, cut after so many packets.
-use Rattle.std.proofs.Common.{◌≡◌, ◌∙◌, ℕ, ◌+◌, ◌*◌, ◌<◌, ◌≤◌, Bool, false, eqb, List, [], ◌∷◌, ◌++◌, length, take, drop, get_or, slice_get, Some, Ok, refl, sym, ap, subst, append_assoc, length-append, arith}
+use Rattle.std.proofs.Common.{◌≡◌, ◌∙◌, ℕ, ◌+◌, ◌*◌, ◌<◌, ◌≤◌, Bool, false, eqb, List, [], ◌∷◌, ◌++◌, length, take, drop, get_or, slice_get, Some, Ok, option_map, refl, sym, ap, subst, append_assoc, length-append, arith}
 use Rattle.std.specs.Prelude.{All}
 use Rattle.std.proofs.lemmas.List.{drop_at, drop-drop, take-append-drop, take_all, length-drop, length-take-le, get_or-drop}
 use Rattle.std.proofs.lemmas.List.Elements.{All-head, All-tail, All-take, All-drop}
@@ -10,12 +10,14 @@ use Rattle.balise_rules.specs.Bits.{num, ones, part}
 use Rattle.balise_rules.specs.Forms.{spelling}
 use Rattle.balise_rules.specs.Packet.{Packet, bits_of, width, IsSpelt, length_said, read_first}
 use Rattle.balise_rules.specs.Telegram.{Telegram, header, version_of, used, packets_bits, shown, read_header}
+use Rattle.balise_rules.proofs.Cases.{unsome}
 use Rattle.balise_rules.proofs.PacketAgain.{front_of, first_again, said_again}
 use Rattle.balise_rules.proofs.TelegramAgain.{fixed_length, header_again}
 use Rattle.balise_rules.proofs.TelegramRead.{header_fixed}
 use Rattle.balise_rules.proofs.TelegramShown.{used_is}
 use Rattle.balise_telegram.specs.declared.telegram.walking.Place.{Place}
 use Rattle.balise_telegram.specs.Shown.{IsPlace, IsShown, Passes}
+use Rattle.balise_telegram.proofs.Left.{some_left}
 use Rattle.balise_telegram.proofs.PackedPlaces.{length_within}
 use Rattle.balise_telegram.proofs.Tagging.{Packets}
 use Rattle.balise_telegram.proofs.Using.{used-take}
@@ -210,3 +212,12 @@ one_after b y p q n s is below size index far =
     let z = next_below b y p.index p.at s is.1 below in
     let far_ = ap (λ (k : ℕ). used (take k y.packets)) index in
     (omega (arith, index, below), omega (arith, far, size, z.size, z.further, is.1, far_))
+
+-- the packet with this tag is read there
+pub lent_with : (b : List Bool) (y : Telegram) (p : Place) (version : ℕ) (tag : Tag) → IsShown b y → IsPlace y p → version ≡ version_of y → Some tag ≡ option_map (λ (q : Tag × Packet). q.0) (slice_get y.packets p.index) →
+    (x : Packet) × (after : List Bool) × (slice_get y.packets p.index ≡ Some (tag, x)) × (read_first version (drop p.at b) ≡ Ok (x, after))
+lent_with b y p version tag s is v e =
+    let l = some_left y.packets p.index tag e in
+    let t = lent_at b y p.index p.at version s l.1 is.1 v in
+    let same : t.0.1 ≡ l.0 = ap (λ (q : Tag × Packet). q.1) (unsome (sym t.2 ∙ l.2)) in
+    (l.0, t.1, l.2, t.3 ∙ ap (λ (x : Packet). Ok (x, t.1)) same)

@@ -5,7 +5,7 @@ ghost use Rattle.std.specs.Prelude.{◌≡◌};
 
 use crate::PacketTag;
 use crate::telegram::Telegram;
-use crate::telegram::walking::{Place, first, head_at};
+use crate::telegram::walking::{Place, first, head_at, to_linking};
 use balise_layout::PacketRef;
 use std::iter::FusedIterator;
 use std::marker::Model;
@@ -73,14 +73,19 @@ impl<'a> Packets<'a> {
         ensures some { IfSome result (λ r. PassesOver self.old ((r.0, r.1) ∷ self.new)) }
         ensures linking { IfSome result (λ r. (value NidPacket 0 r.1.fields ≡ 5) ⊎ (value NidPacket 0 r.1.fields ≡ 136)) }
     {
-        'packets: loop {
-            let Some((tag, packet)) = self.next() else {
-                return None;
-            };
-            if packet.has_elements() {
-                return Some((tag, packet));
-            }
-        }
+        let telegram = self.telegram;
+        let packed = telegram.packed();
+        let (place, head) = to_linking(packed, self.place);
+        self.place = place;
+        let Some(head) = head else {
+            return None;
+        };
+        let Some(tag) = telegram.tag_there(place) else {
+            return None;
+        };
+        let packet = PacketRef::of_head(packed, place.at, self.version, head);
+        self.place = telegram.after_lent(place, &packet);
+        Some((tag, packet))
     }
 }
 

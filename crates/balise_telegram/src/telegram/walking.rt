@@ -3,9 +3,10 @@
 ghost use Rattle.std.specs.Prelude.{◌≡◌, ◌≤◌, ◌<◌, ◌+◌, IfNone, IfSome, length};
 ghost use Rattle.balise_rules.specs.Bits.{num, part};
 ghost use Rattle.balise_rules.specs.Telegram.{used, Telegram};
+ghost use Rattle.balise_telegram.specs.Linking.{Reaches};
 ghost use Rattle.balise_telegram.specs.Shown.{IsPlace, IsShown, Passes};
 
-use balise_layout::Bits;
+use balise_layout::{Bits, may_have_elements};
 
 /// A place before a packet, or before packet 255: how many packets stand before it, and the bit at which it is.
 #[derive(Clone, Copy)]
@@ -62,6 +63,29 @@ pub(crate) fn head_at(bits: &Bits, place: Place) -> Option<u32>
     Some(head)
 }
 
+/// The first place, from a place on, before a packet that may have elements, with the first 23 bits of that; or the place
+/// after the last packet.
+#[inline(always)]
+pub(crate) fn to_linking(bits: &Bits, from: Place) -> (Place, Option<u32>)
+    requires { (y : Telegram) × IsShown bits.now y × IsPlace y from }
+    ensures reaches { (y : Telegram) → IsShown bits.now y → IsPlace y from → Reaches y from result.0 }
+    ensures none { IfNone result.1 ((y : Telegram) → IsShown bits.now y → IsPlace y from → length y.packets ≤ result.0.index) }
+    ensures head { IfSome result.1 (λ head. head ≡ num (part result.0.at 23 bits.now)) }
+    ensures stands { IfSome result.1 (λ _. (y : Telegram) → IsShown bits.now y → IsPlace y from → result.0.index < length y.packets) }
+{
+    let mut place = from;
+    'packets: loop {
+        let Some(head) = head_at(bits, place) else {
+            return (place, None);
+        };
+        // NID_PACKET
+        if may_have_elements(head >> 15) {
+            return (place, Some(head));
+        }
+        place = after_head(bits, place, head);
+    }
+}
+
 /// The place after the last packet.
 pub(crate) fn ends(bits: &Bits) -> Place
     requires { (y : Telegram) × IsShown bits.now y }
@@ -78,9 +102,21 @@ pub(crate) fn after(bits: &Bits, place: Place) -> Place
     ensures index { result.index ≡ place.index + 1 }
     ensures place { (y : Telegram) → IsShown bits.now y → IsPlace y place → place.index < length y.packets → IsPlace y result }
 {
+    let head = bits.number(place.at, 23);
+    after_head(bits, place, head)
+}
+
+/// The place after the packet at a place, by its first 23 bits.
+#[inline(always)]
+pub(crate) fn after_head(bits: &Bits, place: Place, head: u32) -> Place
+    requires stands { (y : Telegram) × IsShown bits.now y × IsPlace y place × (place.index < length y.packets) }
+    requires head { head ≡ num (part place.at 23 bits.now) }
+    ensures index { result.index ≡ place.index + 1 }
+    ensures place { (y : Telegram) → IsShown bits.now y → IsPlace y place → place.index < length y.packets → IsPlace y result }
+{
     let _len = bits.len();
     // L_PACKET
-    let width = bits.number(place.at + 10, 13);
+    let width = head % 8192;
     Place {
         index: place.index + 1,
         at: place.at + width as usize,

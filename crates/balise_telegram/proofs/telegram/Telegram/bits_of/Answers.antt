@@ -14,8 +14,7 @@ pub returns-clause-place : goal.returns-clause-place
 returns-clause-place c =
     let ps = c.args.self.now.packets in
     let q = looked c.args.tag ps c.in-Some.place.index c.in-Some.ensures.place in
-    let far = c.in-Some.ensures.stands.0.1 in
-    sym (place_there c.args.tag 50 c.in-Some.place.at ps c.in-Some.place.index q.0 q.1 (omega (arith, far)))
+    sym (place_there c.args.tag 50 c.in-Some.place.at ps c.in-Some.place.index q.0 q.1 (omega (arith, c.in-Some.ensures.stands.0.1)))
 
 pub returns-clause-tags : goal.returns-clause-tags
 returns-clause-tags c = c.packed-packed.ensures.tags

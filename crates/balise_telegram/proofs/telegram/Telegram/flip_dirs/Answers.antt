@@ -29,8 +29,7 @@ flip_dir_there-requires c =
 pub packets-smaller : goal.packets-smaller
 packets-smaller c =
     let ps = c.args.self.now.packets in
-    let i = c.packets.place.index in
-    let same : length c.packets.self.packets ≡ length ps = ap (λ (y : Telegram). length y.packets) c.packets.invariant.0 ∙ each_to-length (λ _ x. turned x) i ps in
+    let same : length c.packets.self.packets ≡ length ps = ap (λ (y : Telegram). length y.packets) c.packets.invariant.0 ∙ each_to-length (λ _ x. turned x) c.packets.place.index ps in
     omega (arith, same, c.in-Some.ensures.next.0, c.in-Some.ensures.next.2)
 
 pub packets-preserved : goal.packets-preserved

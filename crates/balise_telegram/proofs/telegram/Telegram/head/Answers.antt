@@ -7,19 +7,16 @@ use Rattle.balise_telegram.proofs.telegram.Telegram.head.Goals as goal
 pub returns-in_default : goal.returns-in_default
 returns-in_default c =
     let b = c.packed-bits.result.now in
-    let r = c.packed-bits.ensures in
-    sym (head_missing b (read_of b c.args.self.now) c.args.var (shown_read b c.args.self.now r) (sym c.in_default.ensures))
+    sym (head_missing b (read_of b c.args.self.now) c.args.var (shown_read b c.args.self.now c.packed-bits.ensures) (sym c.in_default.ensures))
 
 pub number-requires-clause-within : goal.number-requires-clause-within
 number-requires-clause-within c =
     let b = c.packed-bits.result.now in
-    let r = c.packed-bits.ensures in
-    let h = head_there b (read_of b c.args.self.now) c.args.var c.in-Some.at (shown_read b c.args.self.now r) (sym c.in-Some.ensures) in
+    let h = head_there b (read_of b c.args.self.now) c.args.var c.in-Some.at (shown_read b c.args.self.now c.packed-bits.ensures) (sym c.in-Some.ensures) in
     omega (arith, h.within, c.width.ensures.width)
 
 pub returns : goal.returns
 returns c =
     let b = c.packed-bits.result.now in
-    let r = c.packed-bits.ensures in
-    let h = head_there b (read_of b c.args.self.now) c.args.var c.in-Some.at (shown_read b c.args.self.now r) (sym c.in-Some.ensures) in
+    let h = head_there b (read_of b c.args.self.now) c.args.var c.in-Some.at (shown_read b c.args.self.now c.packed-bits.ensures) (sym c.in-Some.ensures) in
     ap Some (c.number.ensures ∙ ap (λ (w : ℕ). num (part c.in-Some.at w b)) c.width.ensures.width) ∙ sym h.reads

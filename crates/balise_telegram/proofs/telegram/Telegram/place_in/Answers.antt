@@ -11,16 +11,12 @@ use Rattle.balise_telegram.proofs.telegram.Telegram.place_in.Goals as goal
 
 pub new-requires : goal.new-requires
 new-requires c =
-    let b = c.packed-bits.result.now in
-    let s = c.packed-bits.ensures in
-    let r = read_there b c.args.self.now c.requires.0 c.version.result c.args.packet s c.requires.1 c.version.ensures in
+    let r = read_there c.packed-bits.result.now c.args.self.now c.requires.0 c.version.result c.args.packet c.packed-bits.ensures c.requires.1 c.version.ensures in
     (r.packet, r.after, r.reads)
 
 pub overflow_add-result : goal.overflow_add-result
 overflow_add-result c =
-    let b = c.packed-bits.result.now in
-    let s = c.packed-bits.ensures in
-    let r = read_there b c.args.self.now c.requires.0 c.version.result c.args.packet s c.requires.1 c.version.ensures in
+    let r = read_there c.packed-bits.result.now c.args.self.now c.requires.0 c.version.result c.args.packet c.packed-bits.ensures c.requires.1 c.version.ensures in
     let is : before (c.args.var, c.args.k) r.packet.fields ≡ Some c.in-Some.before = ap (λ (p : Packet). before (c.args.var, c.args.k) p.fields) (sym (c.new.ensures r.packet r.after r.reads)) ∙ sym c.in-Some.ensures in
     let small = r.small c.args.var c.args.k c.in-Some.before is in
     omega (arith, small)

@@ -19,8 +19,7 @@ packets-preserved c = another_stands c.args.bits.now c.args.version c.packets.at
 pub packets-smaller : goal.packets-smaller
 packets-smaller c =
     let f = c.in-Ok.ensures.stands in
-    let s = c.packets.invariant in
-    let w = (front_of c.args.version f.0 f.2).least in omega (arith, f.3, f.4, s.1.within, w)
+    let w = (front_of c.args.version f.0 f.2).least in omega (arith, f.3, f.4, c.packets.invariant.1.within, w)
 
 pub returns-in-Err-clause-fault : goal.returns-in-Err-clause-fault
 returns-in-Err-clause-fault c =

@@ -13,8 +13,7 @@ pub returns-in_default-clause-changed : goal.returns-in_default-clause-changed
 returns-in_default-clause-changed c =
     let w = c.args.place.now in
     let n : None ≡ find same_tag w.group c.args.groups.now.entries = c.in_default.ensures.value in
-    let l = c.get_mut.follows.holds-at-none in
-    rw l (sym (each-absent same_tag w.group (in_group w.telegram w.packet (changed c.args.change w.element)) c.args.groups.now.entries (sym n)))
+    rw c.get_mut.follows.holds-at-none (sym (each-absent same_tag w.group (in_group w.telegram w.packet (changed c.args.change w.element)) c.args.groups.now.entries (sym n)))
 
 changes : (c : After-change_link) → (c.get_mut.follows.lender c.change_link.new.self).entries ≡ change_at c.args.change c.args.place.now c.args.groups.now.entries
 changes c =

@@ -10,8 +10,7 @@ use Rattle.balise_plan.proofs.links.walk.number_group.Goals as goal
 pub returns-in_default : goal.returns-in_default
 returns-in_default c =
     let n : None ≡ find same_tag c.args.g c.args.groups.now.entries = c.in_default.ensures.value in
-    let l = c.get_mut.follows.holds-at-none in
-    rw l (sym (each-absent same_tag c.args.g (with_number c.args.number) c.args.groups.now.entries (sym n)))
+    rw c.get_mut.follows.holds-at-none (sym (each-absent same_tag c.args.g (with_number c.args.number) c.args.groups.now.entries (sym n)))
 
 pub returns : goal.returns
 returns c =

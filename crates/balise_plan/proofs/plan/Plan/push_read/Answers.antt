@@ -12,7 +12,6 @@ put_at-requires-clause-new c =
 
 pub invariant_of-self-2 : goal.invariant_of-self-2
 invariant_of-self-2 c =
-    let plan = c.self.inside.groups.entries in
     let n = c.len-place.result in
-    let put : c.put_at.new.groups.entries ≡ insert plan n (Base n, c.args.group) = search rules in
+    let put : c.put_at.new.groups.entries ≡ insert c.self.inside.groups.entries n (Base n, c.args.group) = search rules in
     kept-more c.self.invariant c.args.group n c.len-place.ensures put c.put_at.ensures.held

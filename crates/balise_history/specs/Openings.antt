@@ -67,6 +67,16 @@ abbrev pub ReadsUndone : ℕ → Seen → Result Seen Refusal → Type 0
 ReadsUndone serial s (Ok t) = FitsOne (with_undone s.state serial) s t
 ReadsUndone serial s (Err r) = Mismatches r (with_undone s.state serial)
 
+-- a session is changed by a line: it fits, and is one more change; or it is refused and leaves all as it was, or its edit is done and noted something else than the line says
+abbrev pub EntersSeen : Line → Seen → Result (Unit {0}) Refusal → Seen → Type 0
+EntersSeen l s (Ok u) t = FitsOne (with_entry s.state l) s t
+EntersSeen l s (Err r) t = Mismatches r (with_entry s.state l) × ((t ≡ s) ⊎ ((r ≡ JournalMismatch) × ((n : Noted) × FitsOne (with_entry s.state (record l { noted = n })) s t)))
+
+-- a session is changed by the serial of an edit that is struck; a refused one leaves all as it was
+abbrev pub StrikesSeen : ℕ → Seen → Result (Unit {0}) Refusal → Seen → Type 0
+StrikesSeen serial s (Ok u) t = FitsOne (with_undone s.state serial) s t
+StrikesSeen serial s (Err r) t = Mismatches r (with_undone s.state serial) × (t ≡ s)
+
 -- it fails at this place; or memory ran out at a line whose edit may come next, and those before it fit
 abbrev pub FailsAt : rules.Plan → ℕ → List Line → JournalFault → Type 0
 FailsAt plan next ls f =

@@ -2,7 +2,7 @@
 
 ghost use Rattle.std.specs.Prelude.{◌≡◌, ◌<◌, ◌^◌, ℕ, IsErrOf, None, Some, MatchResult};
 ghost use Rattle.balise_commands.specs.Lines.{line_in};
-ghost use Rattle.balise_history.specs.Openings.{MayComeNext, ReadsEntry, ReadsUndone};
+ghost use Rattle.balise_history.specs.Openings.{EntersSeen, MayComeNext, ReadsEntry, ReadsUndone, StrikesSeen};
 ghost use Rattle.balise_history.specs.Tests.{StrikeMayRunOut};
 ghost use Rattle.balise_rules.specs.Accepting.{Unused};
 ghost use Rattle.balise_rules.specs.Opening.{opened_at};
@@ -18,7 +18,7 @@ use std::marker::Model;
 /// The largest next serial of a journal.
 const MOST_SERIAL: u32 = 4_000_000_000;
 
-/// A session to be, of which some lines of its journal were read. Of the journal nothing is kept.
+/// A session to be, of which some lines of its journal were read. The journal isn't kept.
 #[derive(Drop)]
 pub struct Opening {
     edited: EditedPlan,
@@ -53,31 +53,52 @@ impl Opening {
         })
     }
 
-    /// With the edit of a line done, where it fits. Refused as `JournalMismatch` or `OutOfMemory`, and then it is
-    /// dropped: it may have done an edit that its journal doesn't describe. Memory may run out only where the line's serial
-    /// may come next.
-    #[inline]
+    /// Does the edit of a line, where it fits: nothing was struck, its serial is above the last one and below the next, the
+    /// edit is accepted and notes what the line says.
+    ///
+    /// Refused as `JournalMismatch` or `OutOfMemory`. Then all is as before, with one exception: an edit that was accepted,
+    /// but noted something else than the line says, stays done. Memory may run out only where the line's serial may come
+    /// next.
+    #[inline(always)]
+    pub fn enter(&mut self, line: Line) -> Result<(), Refusal>
+        ensures enters { EntersSeen (line_in line) self.old result self.new }
+        ensures memory { IsErrOf result Refusal.OutOfMemory → MayComeNext self.old.state line.serial }
+    {
+        self.edited.entry(line)
+    }
+
+    /// Strikes the edit of a serial, where all later ones are independent of it. Refused as `JournalMismatch` or
+    /// `OutOfMemory`, and then all is as before. Memory may run out as in `Session::strike`.
+    pub fn strike(&mut self, serial: u32) -> Result<(), Refusal>
+        ensures strikes { StrikesSeen serial self.old result self.new }
+        ensures memory { IsErrOf result Refusal.OutOfMemory → StrikeMayRunOut serial self.old.state.base self.old.state.standing }
+    {
+        match self.edited.strike(serial) {
+            Ok(_) => Ok(()),
+            Err(Refusal::OutOfMemory) => Err(Refusal::OutOfMemory),
+            Err(_) => Err(Refusal::JournalMismatch),
+        }
+    }
+
+    /// With the edit of a line done, as `enter` does it. Refused as there, and then it is dropped.
     pub fn entry(mut self, line: Line) -> Result<Opening, Refusal>
         ensures reads { ReadsEntry (line_in line) self result }
         ensures memory { IsErrOf result Refusal.OutOfMemory → MayComeNext self.state line.serial }
     {
-        match self.edited.entry(line) {
+        match self.enter(line) {
             Ok(()) => Ok(self),
             Err(refusal) => Err(refusal),
         }
     }
 
-    /// With the edit of a serial struck, where all later ones are independent of it. Refused as `JournalMismatch` or
-    /// `OutOfMemory`, and then it is dropped. Memory may run out as in `Session::strike`.
-    #[inline]
+    /// With the edit of a serial struck, as `strike` does it. Refused as there, and then it is dropped.
     pub fn undone(mut self, serial: u32) -> Result<Opening, Refusal>
         ensures reads { ReadsUndone serial self result }
         ensures memory { IsErrOf result Refusal.OutOfMemory → StrikeMayRunOut serial self.state.base self.state.standing }
     {
-        match self.edited.strike(serial) {
-            Ok(_) => Ok(self),
-            Err(Refusal::OutOfMemory) => Err(Refusal::OutOfMemory),
-            Err(_) => Err(Refusal::JournalMismatch),
+        match self.strike(serial) {
+            Ok(()) => Ok(self),
+            Err(refusal) => Err(refusal),
         }
     }
 

@@ -322,6 +322,44 @@ fn no_entry_behind_one_undone(rt: HostRuntime) {
     check_entry(&rt, opening, set(2, FIRST, 9, 5), MISMATCH);
 }
 
+/// Reads lines in place. One whose serial is too high, and a strike of what doesn't stand, are refused before others are
+/// accepted.
+fn read_in_place(rt: &impl Abort, opening: &mut Opening) {
+    assert!(rt; opening.enter(set(3, FIRST, 9, 5)).err() == MISMATCH);
+    assert!(rt; opening.strike(1).err() == MISMATCH);
+    assert!(rt; opening.enter(set(1, FIRST, 9, 5)).is_ok());
+    assert!(rt; opening.strike(1).is_ok());
+    assert!(rt; opening.strike(1).err() == MISMATCH);
+}
+
+/// That the one edit is undone, and done again.
+fn check_in_place(rt: &impl Abort, alloc: Global, opening: Opening) {
+    let mut session = opening.done();
+    assert!(rt; shows(rt, alloc, &session, &[REVOCATION]));
+    ask(rt, alloc, &mut session, Step::Redo, Ok(1));
+    assert!(rt; shows(rt, alloc, &session, &[SET]));
+}
+
+#[test]
+fn lines_are_read_in_place(rt: HostRuntime) {
+    let alloc = rt.alloc();
+    let mut opening = opened(&rt, alloc, &[REVOCATION], 3);
+    read_in_place(&rt, &mut opening);
+    check_in_place(&rt, alloc, opening);
+}
+
+/// That an edit that notes another old value is done, though its line is refused.
+fn check_noted(rt: &impl Abort, alloc: Global, opening: Opening) {
+    let mut opening = opening;
+    assert!(rt; opening.enter(set(1, FIRST, 9, 4)).err() == MISMATCH);
+    assert!(rt; shows(rt, alloc, &opening.done(), &[SET]));
+}
+
+#[test]
+fn an_edit_that_notes_something_else_is_done_in_place(rt: HostRuntime) {
+    check_noted(&rt, rt.alloc(), opened(&rt, rt.alloc(), &[REVOCATION], 3));
+}
+
 /// Puts two packets in and strikes the first of them.
 fn insert_and_strike(rt: &impl Abort, alloc: Global, session: &mut Session) {
     ask(rt, alloc, session, Step::Insert(100, 0, TSR_5), Ok(1));

@@ -19,8 +19,7 @@ pub returns-then-place-standing-clause-fault : goal.returns-then-place-standing-
 returns-then-place-standing-clause-fault c = λ other.
     let s = c.args.serial in
     let es : List Entry = c.args.standing.now in
-    let p = c.place_of-place.ensures.place in
-    let l : length es ≤ place_of s es = omega (arith, p) in
+    let l : length es ≤ place_of s es = omega (arith, c.place_of-place.ensures.place) in
     none-asked s es (none-there s es c.requires.rising (λ e g q. let k = slice_get_within es (place_of s es) e g in omega arith))
 
 pub returns-then-serial-clause-fault : goal.returns-then-serial-clause-fault

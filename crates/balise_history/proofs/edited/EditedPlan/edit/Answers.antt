@@ -20,11 +20,10 @@ apply-requires-clause-spelt c =
 
 pub invariant_of-self-2 : goal.invariant_of-self-2
 invariant_of-self-2 c =
-    let p = c.self.inside.plan in
     let h = c.self.inside.history in
     let t = c.in_ok-entry.ensures in
     let st : c.push.new.self.standing ≡ h.standing ++ c.in_ok-entry.entry ∷ [] = c.push.ensures.standing ∙ ap (λ (es : List Entry). es ++ c.in_ok-entry.entry ∷ []) c.reserve.ensures.standing in
-    let l = added-one p h c.self.inside.next (command_of c.args.command) (edit_of c.in_ok-edit.edit) c.in_ok-entry.entry c.apply.new.plan c.push.new.self c.self.invariant c.in_ok-edit.ensures.ok t.0 t.1 t.2 st c.push.ensures.stack in
+    let l = added-one c.self.inside.plan h c.self.inside.next (command_of c.args.command) (edit_of c.in_ok-edit.edit) c.in_ok-entry.entry c.apply.new.plan c.push.new.self c.self.invariant c.in_ok-edit.ensures.ok t.0 t.1 t.2 st c.push.ensures.stack in
     subst (λ (n : ℕ). IsHeld c.apply.new.plan.groups c.push.new.self.standing c.push.new.self.stack n) (sym (add-one c.self.inside.next)) l.held
 
 pub returns : goal.returns

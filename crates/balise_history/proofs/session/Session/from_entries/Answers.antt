@@ -60,11 +60,9 @@ loop-line-preserved c =
 pub returns-clause-ok : goal.returns-clause-ok
 returns-clause-ok c =
     let it = c.loop-line.line-iterator.rest in
-    let z = c.in-None.ensures.steps.0 in
-    let e : length it.items ≡ 0 = omega (arith, it.ok, z) in
+    let e : length it.items ≡ 0 = omega (arith, it.ok, c.in-None.ensures.steps.0) in
     c.loop-line.invariant.rest ∙ ap (λ (xs : List code.Line). with_entries c.loop-line.place (map line_in xs) c.loop-line.opening.state) (nil_from_length it.items e) ∙ ap (λ (s : Seen). Ok s.state) (sym c.done.ensures)
 
 pub returns-clause-changes : goal.returns-clause-changes
 returns-clause-changes c =
-    let z = c.in-None.ensures.steps.0 in
-    ap (λ (s : Seen). s.changes) c.done.ensures ∙ omega (arith, c.loop-line.invariant.changes, c.loop-line.invariant.left, z)
+    ap (λ (s : Seen). s.changes) c.done.ensures ∙ omega (arith, c.loop-line.invariant.changes, c.loop-line.invariant.left, c.in-None.ensures.steps.0)

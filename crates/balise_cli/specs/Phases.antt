@@ -74,9 +74,10 @@ abbrev pub journal_end : JournalEnd → Read
 journal_end (journal.Bad n refusal) = Bad n refusal
 journal_end (journal.Edits session) = Good (Commands session.state false)
 
-abbrev pub journal_step : JournalStep → Read
-journal_step (step.On r) = Good (journal_phase r)
-journal_step (step.Over end) = journal_end end
+abbrev pub journal_step : JournalReader → JournalStep → Read
+journal_step r step.On = Good (journal_phase r)
+journal_step r step.Edits = Good (Commands r.opening.state false)
+journal_step r (step.Bad n refusal) = Bad n refusal
 
 -- a journal begins over a plan, or its next serial isn't one that a journal has
 abbrev pub Begins : Plan → Head → Result JournalReader Refusal → Type 0

@@ -16,11 +16,12 @@ pub(crate) enum JournalEnd {
     Edits(Session),
 }
 
-/// What a line leaves: the journal goes on after it, or ends there.
+/// What a line leaves: the journal goes on after it, the commands begin there, or this line is refused.
 #[derive(Drop)]
 pub(crate) enum JournalStep {
-    On(JournalReader),
-    Over(JournalEnd),
+    On,
+    Edits,
+    Bad(u64, Refusal),
 }
 
 /// The journal, as far as it was read: what may come there, and the session so far.
@@ -41,35 +42,41 @@ impl JournalReader {
         }
     }
 
-    /// Reads the line of this number: the journal goes on after it, or ends there.
+    /// Reads the line of this number. After one that is refused the journal must not go on: its edit may be done.
     pub(crate) fn read(
-        self,
+        &mut self,
         alloc: Global,
         number: u64,
         line: &[u8],
     ) -> Result<JournalStep, RunFault>
-        ensures ok { IfOk result (λ step. read_line (journal_phase self) number line.now ≡ journal_step step) }
+        ensures ok { IfOk result (λ step. read_line (journal_phase self.old) number line.now ≡ journal_step self.new step) }
         ensures fault { IfErr result (λ e. e ≡ RunFault.OutOfMemory) }
-        ensures takes { OnErr result (MayRunOutAt self.section self.opening.state line.now) }
+        ensures takes { OnErr result (MayRunOutAt self.old.section self.old.opening.state line.now) }
     {
-        let JournalReader { section, opening } = self;
-        match read_journal_line(alloc, section, line) {
-            Ok(JournalLine::Entry(entry)) => match opening.entry(entry) {
-                Ok(opening) => Ok(JournalStep::On(JournalReader { section, opening })),
-                Err(Refusal::OutOfMemory) => Err(RunFault::OutOfMemory),
-                Err(refusal) => Ok(JournalStep::Over(JournalEnd::Bad(number, refusal))),
-            },
-            Ok(JournalLine::Undone(serial)) => match opening.undone(serial) {
-                Ok(opening) => Ok(JournalStep::On(JournalReader {
-                    section: Section::Undone,
-                    opening,
-                })),
-                Err(Refusal::OutOfMemory) => Err(RunFault::OutOfMemory),
-                Err(refusal) => Ok(JournalStep::Over(JournalEnd::Bad(number, refusal))),
-            },
-            Ok(JournalLine::Edits) => Ok(JournalStep::Over(JournalEnd::Edits(opening.done()))),
+        let done = match read_journal_line(alloc, self.section, line) {
+            Ok(JournalLine::Entry(entry)) => self.opening.enter(entry),
+            Ok(JournalLine::Undone(serial)) => {
+                self.section = Section::Undone;
+                self.opening.strike(serial)
+            }
+            Ok(JournalLine::Edits) => return Ok(JournalStep::Edits),
+            Err(refusal) => Err(refusal),
+        };
+        match done {
+            Ok(()) => Ok(JournalStep::On),
             Err(Refusal::OutOfMemory) => Err(RunFault::OutOfMemory),
-            Err(refusal) => Ok(JournalStep::Over(JournalEnd::Bad(number, refusal))),
+            Err(refusal) => Ok(JournalStep::Bad(number, refusal)),
         }
+    }
+
+    /// The session, where the commands begin.
+    pub(crate) fn session(self) -> Session
+        ensures { result ≡ self.opening }
+    {
+        let JournalReader {
+            section: _,
+            opening,
+        } = self;
+        opening.done()
     }
 }

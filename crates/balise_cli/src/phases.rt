@@ -80,8 +80,11 @@ pub(crate) fn read_journal<R: Read>(
             Ok(Next::End) => return Ok(JournalEnd::Bad(number, Refusal::BadLine)),
             Ok(Next::Line { is_ended: _ }) => match journal.read(alloc, number, lines.line()) {
                 Err(fault) => return Err(fault),
-                Ok(JournalStep::Over(end)) => return Ok(end),
-                Ok(JournalStep::On(more)) => journal = more,
+                Ok(JournalStep::On) => {}
+                Ok(JournalStep::Edits) => return Ok(JournalEnd::Edits(journal.session())),
+                Ok(JournalStep::Bad(number, refusal)) => {
+                    return Ok(JournalEnd::Bad(number, refusal));
+                }
             },
         }
     }

@@ -38,10 +38,9 @@ shown_before g c =
 
 pub returns-in-Err : goal.returns-in-Err
 returns-in-Err g c =
-    let old = c.args.writer.now in
     let quiet = c.args.quiet in
     let r = reply_of c.args.answer.now.reply in
-    let begun = WritesSome LastFailed g.W.Write.contents old c.put_reply.new.writer in
+    let begun = WritesSome LastFailed g.W.Write.contents c.args.writer.now c.put_reply.new.writer in
     some_front_of LastFailed _ _ (shown_reply quiet r) _ _ _ refl (elim c.then-not-quiet.branch [
       | then-not-quiet-via-then-not-quiet w ↦ shown_aloud begun quiet r w.if-not-quiet.true c.in-Err.ensures
       | then-not-quiet-via-else-not-quiet+then-is_refused w ↦ shown_refused begun quiet r w.if-not-quiet.false w.if-is_refused.ensures c.in-Err.ensures

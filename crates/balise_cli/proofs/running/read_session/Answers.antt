@@ -25,20 +25,17 @@ returns-in-Ok-Edits-clause-reads g c =
 pub returns-in-Err-journal-clause-reads : goal.returns-in-Err-journal-clause-reads
 returns-in-Err-journal-clause-reads g c =
     let n = c.in-Ok-Journal.number in
-    let head = c.in-Ok-Journal.head in
     let is : plan_read c.read_plan.new.plan (Some c.in-Ok-Journal.field-0) ≡ Bad n c.in-Err-journal.refusal =
     ap (λ (e : PlanEnd). plan_read c.read_plan.new.plan (Some e)) c.in-Ok-Journal.field-0-is
-    ∙ ap (λ (o : Option State). if_fits n (Entries head.version) o) c.in-Err-journal.ensures.0 ∙ ap (Bad n) (sym c.in-Err-journal.ensures.1) in
+    ∙ ap (λ (o : Option State). if_fits n (Entries c.in-Ok-Journal.head.version) o) c.in-Err-journal.ensures.0 ∙ ap (Bad n) (sym c.in-Err-journal.ensures.1) in
     read_so g.R.Read.remaining _ _ c.new-plan.ensures c.args.lines.now c.read_plan.new.lines c.args.reader.now c.read_plan.new.reader c.in-Ok-Journal.field-0 (λ (e : PlanEnd). plan_read c.read_plan.new.plan (Some e)) c.in-Ok-Journal.ensures.reads
     (journal.Bad n c.in-Err-journal.refusal) journal_end is
 
 pub returns-clause-reads : goal.returns-clause-reads
 returns-clause-reads g c =
-    let n = c.in-Ok-Journal.number in
-    let head = c.in-Ok-Journal.head in
     let opening = c.in-Ok.journal.opening in
     let is : plan_read c.read_plan.new.plan (Some c.in-Ok-Journal.field-0) ≡ Good (InJournal c.in-Ok.journal.section opening.state) =
     ap (λ (e : PlanEnd). plan_read c.read_plan.new.plan (Some e)) c.in-Ok-Journal.field-0-is
-    ∙ ap (λ (o : Option State). if_fits n (Entries head.version) o) c.in-Ok.ensures.0 ∙ ap (λ s. Good (InJournal s opening.state)) (sym c.in-Ok.ensures.1) in
+    ∙ ap (λ (o : Option State). if_fits c.in-Ok-Journal.number (Entries c.in-Ok-Journal.head.version) o) c.in-Ok.ensures.0 ∙ ap (λ s. Good (InJournal s opening.state)) (sym c.in-Ok.ensures.1) in
     read_on g.R.Read.remaining _ _ c.new-plan.ensures c.args.lines.now c.read_plan.new.lines c.args.reader.now c.read_plan.new.reader c.in-Ok-Journal.field-0 (λ (e : PlanEnd). plan_read c.read_plan.new.plan (Some e)) c.in-Ok-Journal.ensures.reads
     _ c.read_journal.new.lines c.read_journal.new.reader c.read_journal.result journal_end is c.read_journal.ensures.reads

@@ -1,9 +1,9 @@
 #!/usr/bin/env python3
-"""Undoes, redoes and strikes edits of three kinds with no growth of memory at all: no_growth.py PROGRAM.
+"""Undoes, redoes and strikes edits of three kinds and undoes an addition, with no growth of memory: no_growth.py PROGRAM.
 
-A field of a packet that names nothing, a field of a header and a turn: from the first undo on every growth is refused,
-and all eight commands have to be accepted. Before that it is seen that growths are refused at all: where an insert comes
-in place of the undo, it has to be answered as out of memory. Needs cc.
+A field of a packet that names nothing, a field of a header, a turn, and a group put in: from the first undo on every
+growth is refused, and all nine commands have to be accepted. Before that it is seen that growths are refused at all: where
+an insert comes in place of the undo, it has to be answered as out of memory. Needs cc.
 """
 
 import sys
@@ -13,10 +13,11 @@ from runs import ended
 
 EMPTY = "a1007f80a0327fffffffffffffffffffffffffffffffffffffffc0"
 LINKING = "a1007f80a032c15022a07d00326301ffffffffffffffffffffffc0"
-EDITS = ["set 5.101 0 0 D_LINK 0 600", "seth 5.100 0 M_MCOUNT 7", "turn 5.100"]
-DONE = ["ok 1", "ok 2", "ok 3"]
-BACK = ["undo"] * 3 + ["redo"] * 3 + ["strike 2", "redo"]
-REPLIES = ["undone 3", "undone 2", "undone 1", "redone 1", "redone 2", "redone 3", "struck 2", "redone 2"]
+ADD = f"add 2 {EMPTY.replace('0327', '0347')}"
+EDITS = ["set 5.101 0 0 D_LINK 0 600", "seth 5.100 0 M_MCOUNT 7", "turn 5.100", ADD]
+DONE = ["ok 1", "ok 2", "ok 3", "ok 4"]
+BACK = ["undo"] * 4 + ["redo"] * 3 + ["strike 2", "redo"]
+REPLIES = ["undone 4", "undone 3", "undone 2", "undone 1", "redone 1", "redone 2", "redone 3", "struck 2", "redone 2"]
 INSERT = [f"add 2 {EMPTY.replace('0327', '0337')}"]
 REFUSED = ["refused 30 OutOfMemory"]
 
@@ -42,7 +43,7 @@ def main(program: str) -> int:
         print(f"no growth: an added group isn't refused, so nothing is shown: {control}")
         return 1
     is_right = has_replies(done, REPLIES)
-    print(f"no growth after three edits: {len(BACK)} commands, {'all accepted' if is_right else f'WRONG: {done}'}")
+    print(f"no growth after {len(EDITS)} edits: {len(BACK)} commands, {'all accepted' if is_right else f'WRONG: {done}'}")
     return 0 if is_right else 1
 
 

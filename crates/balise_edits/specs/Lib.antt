@@ -5,3 +5,6 @@ pub mod Needs
 pub mod Homes
 pub mod Anchors
 pub mod Standing
+pub use Rattle.balise_commands.specs.Commands
+pub use Rattle.balise_commands.specs.Lines
+pub use Rattle.balise_plan.specs.Held

@@ -5,7 +5,7 @@ ghost use Rattle.balise_rules.specs.Accepting.{Spelt, Unused};
 ghost use Rattle.balise_rules.specs.Back.{back};
 ghost use Rattle.balise_rules.specs.Doing.{done};
 ghost use Rattle.balise_rules.specs.Notes.{noted, without_content};
-ghost use Rattle.balise_rules.specs.Session.{needs_no_memory};
+ghost use Rattle.balise_rules.specs.Session.{back_needs_no_memory, needs_no_memory};
 ghost use Rattle.balise_plan.specs.Held.{DoesAlways};
 ghost use Rattle.balise_edits.specs.Edits.{edit_of};
 ghost use Rattle.balise_edits.specs.Notes.{note_of, takes_out, Suits};
@@ -18,7 +18,8 @@ use crate::note::Note;
 use balise_plan::Plan;
 use balise_rules::Refusal;
 
-/// Does an edit under a serial, and answers its entry. A refused edit is dropped, and the plan stays as it was.
+/// Does an edit under a serial, and answers its entry. A refused edit is dropped, and the plan stays as it was. A group is
+/// put in under a serial up to 4,001,000,000, the largest that a session gives; for a larger one it is `OutOfMemory`.
 #[inline(always)]
 pub fn apply(plan: &mut Plan, edit: Edit, serial: u32) -> Result<Entry, Refusal>
     requires count { plan.old.changes < 2 ^ 63 }
@@ -46,7 +47,7 @@ pub fn take_back(plan: &mut Plan, entry: &mut Entry) -> Result<(), Refusal>
     ensures fault { IsOkUnless result Refusal.OutOfMemory }
     ensures left { OnErr result (plan.new ≡ plan.old) }
     ensures entry_left { OnErr result (entry.new ≡ entry.old) }
-    ensures always { needs_no_memory (Some entry.old.0) ≡ true → IsOk result }
+    ensures always { back_needs_no_memory (Some entry.old.0) ≡ true → IsOk result }
 {
     match back(plan, entry) {
         Ok(()) => Ok(()),
@@ -117,7 +118,7 @@ fn back(plan: &mut Plan, entry: &mut Entry) -> Result<(), Refusal>
     requires count { plan.old.changes < 2 ^ 63 }
     requires last { IsLast entry.old plan.old.groups }
     ensures back { TakesBack entry.old plan.old result entry.new plan.new }
-    ensures always { needs_no_memory (Some entry.old.0) ≡ true → IsOk result }
+    ensures always { back_needs_no_memory (Some entry.old.0) ≡ true → IsOk result }
 {
     match *entry.edit() {
         Edit::SetVar {

@@ -13,13 +13,13 @@ use Rattle.balise_rules.specs.Doing.{done, refusal}
 use Rattle.balise_rules.specs.Back.{back}
 use Rattle.balise_rules.specs.Paths.{Entry}
 use Rattle.balise_rules.specs.Behind.{anchor_of, serials_behind}
-use Rattle.balise_rules.specs.Session.{needs_no_memory, top, State, Removed, Ask, Done, held, answer_edit, answer_accepted, Undo, Redo, Strike, Undone, Redone, Struck, entries, last, later, others, first_dependent, put_back, answer_in_time}
+use Rattle.balise_rules.specs.Session.{back_needs_no_memory, needs_no_memory, top, State, Removed, Ask, Done, held, answer_edit, answer_accepted, Undo, Redo, Strike, Undone, Redone, Struck, entries, last, later, others, first_dependent, put_back, answer_in_time}
 use Rattle.std.proofs.lemmas.Bool.{false≢true}
 use Rattle.balise_rules.proofs.Cases.{unsome}
 use Rattle.balise_rules.proofs.Tests.{split_on}
 use Rattle.balise_edit_laws.specs.Along.{back_along}
 use Rattle.balise_edits.specs.Standing.{IsLast, IsNext, changed_to}
-use Rattle.balise_plan.specs.Held.{Plan}
+use Rattle.balise_edits.specs.Held.{Plan}
 use Rattle.balise_strike_laws.specs.InSession.{left_of}
 use Rattle.balise_strike_laws.specs.Redoing.{Answer}
 use Rattle.balise_strike_laws.proofs.SessionsKept.{sessions_kept}
@@ -183,13 +183,18 @@ pub may-want : (b : Bool) → (b ≡ true → false ≡ true) → IsTrue (not b)
 may-want true h = absurd (false≢true (h refl))
 may-want false h = refl
 
+-- one that needs none to be done again needs none to be taken back
+pub back-without : (e : Item) → needs_no_memory (Some e) ≡ true → back_needs_no_memory (Some e) ≡ true
+back-without (s, AddGroup after bs) h = refl
+back-without e h = h
+
 same-view : (p q : Plan) (h k : History) (next : ℕ) → q ≡ p → k ≡ h → view q k next ≡ view p h next
 same-view p q h k next a b = ap (λ (x : Plan). view x k next) a ∙ ap (λ (x : History). view p x next) b
 
-pub undo-wants : (p : Plan) (h : History) (next n : ℕ) (e : Entry) (q : Plan) (k : History) (r : Refusal) → slice_get h.standing n ≡ Some e → suc n ≡ length h.standing → (needs_no_memory (Some e.0) ≡ true → false ≡ true) →
+pub undo-wants : (p : Plan) (h : History) (next n : ℕ) (e : Entry) (q : Plan) (k : History) (r : Refusal) → slice_get h.standing n ≡ Some e → suc n ≡ length h.standing → (back_needs_no_memory (Some e.0) ≡ true → false ≡ true) →
     (r ≡ OutOfMemory) × (q ≡ p) × (k ≡ h) → Refuses Undo (view p h next) r (view q k next)
 undo-wants p h next n e q k r g s w t =
-    (inl (t.0, subst (λ (x : Option Item). IsTrue (not (needs_no_memory x))) (sym (last-at h.standing n e s g)) (may-want (needs_no_memory (Some e.0)) w)), same-view p q h k next t.1 t.2)
+    (inl (t.0, subst (λ (x : Option Item). IsTrue (not (back_needs_no_memory x))) (sym (last-at h.standing n e s g)) (may-want (back_needs_no_memory (Some e.0)) w)), same-view p q h k next t.1 t.2)
 
 pub redo-wants : (p : Plan) (h : History) (next : ℕ) (r : Gone) (rs : List Gone) (q : Plan) (k : History) (f : Refusal) → h.stack ≡ r ∷ rs → (needs_no_memory (Some r.0.0) ≡ true → false ≡ true) →
     (f ≡ OutOfMemory) × (q ≡ p) × (k ≡ h) → Refuses Redo (view p h next) f (view q k next)

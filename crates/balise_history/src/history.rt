@@ -8,7 +8,7 @@ ghost use Rattle.balise_edits.specs.Homes.{number_at};
 ghost use Rattle.balise_edits.specs.Standing.{IsLast, IsNext};
 ghost use Rattle.balise_history.specs.Lists.{entries_re_anchored, is_among, items_of, place_of, Ascends, Gone, PutsBack, TakesOut, top_serial};
 ghost use Rattle.balise_rules.specs.Paths as rules;
-ghost use Rattle.balise_rules.specs.Session.{needs_no_memory};
+ghost use Rattle.balise_rules.specs.Session.{back_needs_no_memory, needs_no_memory};
 ghost use Rattle.balise_rules.specs.declared.refusal.Refusal.TheVariants.{OutOfMemory};
 ghost use Rattle.balise_strike_laws.specs.InSession.{Rising};
 
@@ -200,7 +200,7 @@ impl History {
         requires last { (e : rules.Entry) → slice_get self.old.standing place ≡ Some e → IsLast e plan.old.groups }
         requires rising { Ascends behind.items }
         ensures takes { TakesOut place behind.items plan.old self.old result plan.new self.new }
-        ensures always { (e : rules.Entry) → slice_get self.old.standing place ≡ Some e → needs_no_memory (Some e.0) ≡ true → IsOk result }
+        ensures always { (e : rules.Entry) → slice_get self.old.standing place ≡ Some e → back_needs_no_memory (Some e.0) ≡ true → IsOk result }
     {
         take_back(plan, &mut self.standing[place])?;
         let entry = self.standing.remove(place);

@@ -8,7 +8,7 @@ use Rattle.balise_rules.specs.Refusals.{and_then}
 use Rattle.balise_rules.specs.Tags.{same_var}
 use Rattle.balise_rules.specs.Plan.{Plan}
 use Rattle.balise_rules.specs.Edits.{Edit, Item}
-use Rattle.balise_rules.specs.declared.tagged_edit.TaggedEdit.TheVariants.{SetVar, SetHead, TurnGroup}
+use Rattle.balise_rules.specs.declared.tagged_edit.TaggedEdit.TheVariants.{SetVar, SetHead, AddGroup, TurnGroup}
 use Rattle.balise_rules.specs.Notes.{noted}
 use Rattle.balise_rules.specs.Doing.{refusal, done, do_edit}
 use Rattle.balise_rules.specs.Accepting.{Accepted}
@@ -161,6 +161,11 @@ needs_no_memory (Some (s, SetHead g t v n)) = true
 needs_no_memory (Some (s, TurnGroup g)) = true
 needs_no_memory (Some e) = false
 
+-- an edit that is taken back without memory: these, and an addition
+abbrev pub back_needs_no_memory : Option Item → Bool
+back_needs_no_memory (Some (s, AddGroup after bs)) = true
+back_needs_no_memory e = needs_no_memory e
+
 abbrev pub top : List Removed → Option Item
 top [] = None
 top (r ∷ rs) = Some r.item
@@ -168,7 +173,7 @@ top (r ∷ rs) = Some r.item
 -- whether a command may be refused as out of memory
 abbrev pub takes_memory : Call → State → Bool
 takes_memory (Ask c) s = true
-takes_memory Undo s = not (needs_no_memory (last s.standing))
+takes_memory Undo s = not (back_needs_no_memory (last s.standing))
 takes_memory Redo s = not (needs_no_memory (top s.stack))
 takes_memory (Strike serial) s = not (needs_no_memory (find (λ e. eqb serial e.0) s.standing))
 

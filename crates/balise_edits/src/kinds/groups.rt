@@ -1,6 +1,6 @@
 //! A group put in or taken out: done, taken back and done again.
 
-ghost use Rattle.std.specs.Prelude.{◌≡◌, ◌<◌, ◌^◌, Bool, List, Option, Ok, IfOk, IsOkUnless};
+ghost use Rattle.std.specs.Prelude.{◌≡◌, ◌<◌, ◌^◌, Bool, List, Option, Ok, IfOk, IsOk, IsOkUnless};
 ghost use Rattle.balise_rules.specs.declared.tag.Tag.{Tag};
 ghost use Rattle.balise_rules.specs.Accepting.{Unused};
 ghost use Rattle.balise_rules.specs.declared.tagged_edit.TaggedEdit.TheVariants.{AddGroup, DropGroup};
@@ -72,12 +72,13 @@ fn put_after(plan: &mut Plan, serial: u32, after: Option<Tag>, group: Group) -> 
     }
 }
 
-/// Takes it out again, and is refused only as out of memory.
+/// Takes it out again. Takes no memory, and is never refused.
 pub(crate) fn add_back(plan: &mut Plan, entry: &mut Entry) -> Result<(), Refusal>
     requires count { plan.old.changes < 2 ^ 63 }
     requires is { (a : Option Tag) × (bs : List (List Bool)) × (entry.old.0.1 ≡ AddGroup a bs) }
     requires last { IsLast entry.old plan.old.groups }
-    ensures { TakesBack entry.old plan.old result entry.new plan.new }
+    ensures back { TakesBack entry.old plan.old result entry.new plan.new }
+    ensures ok { IsOk result }
 {
     if let Err(fault) = plan.take_group(Tag::Fresh(entry.serial())) {
         return Err(fault);

@@ -14,7 +14,7 @@ use Rattle.balise_edits.specs.Homes.{number_at}
 use Rattle.balise_history.proofs.Entries.{none-there, behind-ascends, rising-drop}
 use Rattle.balise_history.proofs.Few.{few-held}
 use Rattle.balise_history.proofs.Taking.{rising-standing, there}
-use Rattle.balise_history.proofs.Answering.{view, HeldIn, is-last, took-out, strike-accepts, strike-missing, strike-dependent, strike-wants, strike-may-run-out, out-of-memory}
+use Rattle.balise_history.proofs.Answering.{back-without, view, HeldIn, is-last, took-out, strike-accepts, strike-missing, strike-dependent, strike-wants, strike-may-run-out, out-of-memory}
 use Rattle.balise_rules.proofs.Cases.{unsome}
 use Rattle.balise_history.proofs.edited.EditedPlan.strike.Goals as goal
 use Rattle.balise_history.proofs.edited.EditedPlan.strike.Goals.{After-place_of-place, After-serial, Else-serial, In_ok-behind, In_ok-take_out}
@@ -137,7 +137,7 @@ returns-in_err-take_out-clause-answers c =
     let e : Entry = c.index-standing-place.result in
     let r = c.in_err-take_out.field-0.0 in
     let g = stands_there at.After-serial in
-    let w = strike-wants c.self.inside.plan c.self.inside.history c.self.inside.next c.place_of-place.result s e c.take_out.new.plan c.take_out.new.self r c.self.invariant g (has_serial at.Else-serial) (c.in_err-take_out.ensures.always e g) c.in_err-take_out.ensures.takes in
+    let w = strike-wants c.self.inside.plan c.self.inside.history c.self.inside.next c.place_of-place.result s e c.take_out.new.plan c.take_out.new.self r c.self.invariant g (has_serial at.Else-serial) (λ t. c.in_err-take_out.ensures.always e g (back-without e.0 t)) c.in_err-take_out.ensures.takes in
     let z = err_from_is_err_and c.from_residual-in_err-take_out.result c.from_residual-in_err-take_out.ensures.1 in
     rw (z.1, z.2) (subst (λ (x : Edited). Refuses (Strike s) x r (view c.take_out.new.plan c.take_out.new.self c.self.inside.next)) c.self.view_is w)
 
@@ -160,7 +160,7 @@ returns-in_err-behind-clause-memory c = λ k.
 pub returns-in_err-take_out-clause-memory : goal.returns-in_err-take_out-clause-memory
 returns-in_err-take_out-clause-memory c = λ k.
     let at = goal.at.returns-in_err-take_out-clause-memory c in
-    may_run_out at.Else-serial (c.in_err-take_out.ensures.always c.index-standing-place.result (stands_there at.After-serial)) (inr (independent at.In_ok-behind))
+    may_run_out at.Else-serial (λ t. c.in_err-take_out.ensures.always c.index-standing-place.result (stands_there at.After-serial) (back-without c.index-standing-place.result.0 t)) (inr (independent at.In_ok-behind))
 
 pub serials_behind-requires : goal.serials_behind-requires
 serials_behind-requires c =

@@ -1,6 +1,6 @@
 use Rattle.std.proofs.Common.{◌≡◌, ◌∙◌, inl, inr, ⊎_elim, ℕ, suc, List, [], drop, take, map, length, Option, Some, None, Ok, Err, refl, sym, ap, arith, add-one}
 use Rattle.std.proofs.lemmas.List.{nil_from_length}
-use Rattle.balise_commands.specs.Lines.{line_in}
+use Rattle.balise_edits.specs.Lines.{line_in}
 use Rattle.balise_commands.specs.declared.line.Line as code
 use Rattle.balise_rules.specs.Opening.{from_entries, with_entries, or_place}
 use Rattle.balise_rules.specs.Session.{State}

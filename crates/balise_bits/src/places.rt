@@ -73,7 +73,7 @@ pub(crate) fn put_part_at(bytes: &mut [u8], to: usize, from: &[u8], at: usize, l
     put_long_part_at(bytes, to, from, at, len);
 }
 
-// The same, as several numbers.
+// `put_part_at`, as numbers of at most `WIDEST` bits, one after another.
 #[inline(never)]
 fn put_numbers_at(bytes: &mut [u8], to: usize, from: &[u8], at: usize, len: usize)
     requires within { at + len ≤ 8 * length from.now }
@@ -90,7 +90,7 @@ fn put_numbers_at(bytes: &mut [u8], to: usize, from: &[u8], at: usize, len: usiz
     }
 }
 
-// The same, by whole bytes.
+// `put_part_at`, by whole bytes, with the bits before and after them as two numbers.
 #[inline(never)]
 fn put_long_part_at(bytes: &mut [u8], to: usize, from: &[u8], at: usize, len: usize)
     requires within { at + len ≤ 8 * length from.now }

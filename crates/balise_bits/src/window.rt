@@ -32,7 +32,7 @@ pub(crate) fn number_in(window: &[u8]) -> u64
     number_by_byte(window)
 }
 
-// The same, for any number of bytes up to eight.
+// `number_in`, in a loop over the bytes. It takes any number of bytes up to eight.
 #[inline(never)]
 fn number_by_byte(window: &[u8]) -> u64
     requires { length window.now ≤ 8 }
@@ -79,7 +79,7 @@ pub(crate) fn put_in(window: &mut [u8], number: u64)
     put_by_byte(window, number);
 }
 
-// The same, for any number of bytes up to eight.
+// `put_in`, in a loop over the bytes. It takes any number of bytes up to eight.
 #[inline(never)]
 fn put_by_byte(window: &mut [u8], number: u64)
     requires few { length window.old ≤ 8 }

@@ -73,8 +73,8 @@ pub fn run<R: Read, W: Write>(
     run_lines(alloc, asked_by(flags), AtEnd::GiveBack, reader, writer)
 }
 
-/// The same as a quiet run that doesn't stop at a refusal, but for its end: it writes facts of the session that stands
-/// after the last command, in place of the plan.
+/// Runs as `run` does with `--quiet` and without `--stop`, but at the end it writes facts in place of the plan. They
+/// are those of the session after the last command.
 pub fn run_facts<R: Read, W: Write>(
     alloc: Global,
     reader: &mut Counted<R>,
@@ -87,7 +87,7 @@ pub fn run_facts<R: Read, W: Write>(
     run_lines(alloc, facts_asked(facts), AtEnd::GiveBack, reader, writer)
 }
 
-/// The same, by what is asked for, and by what becomes of the session's memory at the end.
+/// Runs as `run` does. `asked` states what is read and written; `at_end` states whether the session's memory is freed.
 pub fn run_lines<R: Read, W: Write>(
     alloc: Global,
     asked: Asked,

@@ -56,7 +56,7 @@ pub fn explain_telegram(alloc: Global, bits: &Bits) -> Result<TelegramFields, Te
     explain_balise(alloc, bits, header.m_version)
 }
 
-// The same, where length and header are a balise's.
+// The fields of a telegram whose length and header are a balise's.
 fn explain_balise(alloc: Global, bits: &Bits, version: u32) -> Result<TelegramFields, TelegramFault>
     requires long { IsLength (length bits.now) }
     requires balise { is_balise (read_header bits.now) ≡ true }

@@ -34,7 +34,7 @@ pub fn spell_packet(
     spell_fitting(alloc, version, values, rest)
 }
 
-// The same, by writing the values, reading what was written, and comparing.
+// The packet of values that fit. It writes them, reads the packet that was written, and compares its fields with them.
 fn spell_fitting(
     alloc: Global,
     version: u32,
@@ -111,7 +111,7 @@ fn are_given(fields: &[(Var, u32, u32)], values: &[(Var, u32)]) -> bool
     is_said(*number, *first) && is_said(*direction, *second) && are_said(more, others)
 }
 
-// The same, where no field is left out.
+// Whether fields have these values, with no field left out.
 fn are_said(fields: &[(Var, u32, u32)], values: &[(Var, u32)]) -> bool
     ensures { IsTrue result ↔ (map said (all_keyed fields.now) ≡ values.now) }
 {

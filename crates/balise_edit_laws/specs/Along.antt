@@ -1,4 +1,4 @@
--- The same along a list of edits, each done on what those before it make.
+-- Edits of a list, each done on what those before it make, are taken back one after another.
 use Rattle.std.specs.Prelude.{◌≡◌, ◌≢◌, ℕ, List, [], ◌∷◌, All}
 use Rattle.balise_rules.specs.Plan.{Plan, IsSound}
 use Rattle.balise_rules.specs.Edits.{Item}

@@ -8,7 +8,7 @@ use Rattle.balise_rules.specs.Behind.{stands_behind, independent}
 abbrev pub taken : Entry → Entry
 taken e = (e.0, without_content e.1)
 
--- The same places, and the same tests from both sides.
+-- An entry whose edit was taken back keeps its places. Each test with another entry answers as before, from both sides.
 pub record TestedAlike (e f : Entry) : Type 0 where
   pub changed : changes (taken e) ≡ changes e
   pub needed : needs (taken e) ≡ needs e

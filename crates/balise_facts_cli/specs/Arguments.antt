@@ -61,7 +61,7 @@ Asks words (Err (Help e)) = IsFaultOf program words (Help e)
 Asks words (Err Memory) = ⊤
 Asks words (Err (Other e)) = IsFaultOf program words (Other e) ⊎ IsMistake words (kind_of e)
 
--- The same by what was found of the two arguments.
+-- What the words ask for, by what clap found of the two arguments.
 
 -- a mistake of this kind, or no memory for it
 abbrev pub IsFound : ErrorKind → ArgsFault → Type 0

@@ -63,7 +63,7 @@ fn rest_line(alloc: Global, words: Few) -> Result<FieldLine, FieldsFault>
     Ok(FieldLine::Rest(read_fours(alloc, len, digits)?))
 }
 
-// The same after packet 255.
+// The line of the bits after packet 255 and their digits.
 fn padding_line(alloc: Global, words: Few) -> Result<FieldLine, FieldsFault>
     ensures { IfOk result (λ l. (ws : List Word) → AreFew words.entry ws → l ≡ bits_line Padding (bits_words ws)) }
 {

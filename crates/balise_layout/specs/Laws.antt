@@ -22,7 +22,7 @@ WrittenIsRead own form = (version : ℕ) (p : Packet) (after : List Bool) → Ho
 abbrev pub IsAsLongAsSaid : Option ℕ → Form → Type 0
 IsAsLongAsSaid own form = (b : List Bool) (p : Packet) → Holds (next_by own form) b p → value LPacket 0 p.fields ≡ width p
 
--- The same bits are of one packet, and a packet has one encoding.
+-- Bits encode at most one packet, and a packet has one encoding.
 pub record HasOneSpelling (own : Option ℕ) (form : Form) : Type 0 where
   pub one_packet : (b : List Bool) (p q : Packet) → Holds (next_by own form) b p → Holds (next_by own form) b q → p ≡ q
   pub one_spelling : (a b : List Bool) (p : Packet) → Holds (next_by own form) a p → Holds (next_by own form) b p → a ≡ b

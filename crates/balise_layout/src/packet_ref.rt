@@ -160,7 +160,7 @@ impl<'a> PacketRef<'a> {
         kind.has_elements()
     }
 
-    /// The same identities as `links`, in place. Takes no memory.
+    /// The identities that `links` returns, in an `Elements`, which stands in place. Takes no memory.
     pub fn elements(&self, country: u32) -> Elements
         ensures { result ≡ links_of country self.now }
     {

@@ -20,7 +20,7 @@ TwoInserted =
     (Done 1 ∷ Done 2 ∷ Struck 1 ∷ Redone 1 ∷ Struck 1 ∷ Struck 2 ∷ Redone 2 ∷ Redone 1 ∷ [])
     (alone two_packets)
 
--- The same with groups.
+-- A group added after another added one stays where that one is struck, and stands after it again when it is redone.
 abbrev pub TwoAdded : Type 0
 TwoAdded =
     Gives (alone empty) (add 1 linking_100 ∷ add 2 linking_twice ∷ Strike 1 ∷ []) (Done 1 ∷ Done 2 ∷ Struck 1 ∷ []) ((empty ∷ []) ∷ (linking_twice ∷ []) ∷ [])

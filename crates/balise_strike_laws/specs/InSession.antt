@@ -1,4 +1,5 @@
--- The same in the words of a session: the edit of a serial, the entries after it, the edits of other serials with their anchors, and an edit put back at its own place.
+-- Strikes in the words of a session: the edit of a serial, the entries after it, the edits of other serials with their
+-- anchors, and an edit put back at its own place.
 use Rattle.std.specs.Prelude.{◌≡◌, ◌<◌, ℕ, not, eqb, List, [], ◌∷◌, All, filter, find, Some, None}
 use Rattle.balise_rules.specs.Plan.{Plan}
 use Rattle.balise_rules.specs.Edits.{Item}

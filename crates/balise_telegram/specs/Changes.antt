@@ -12,7 +12,7 @@ abbrev pub OrWants : {A : Type 0} → (Telegram → Result A TelegramFault → T
 OrWants does old (Ok r) new = does old (Ok r) new
 OrWants does old (Err e) new = ((e ≡ OutOfMemory) × (new ≡ old)) ⊎ does old (Err e) new
 
--- The same of a packet that is put in, which is then handed back.
+-- A packet is put in, or the change is out of memory: then the packet is returned and all stays.
 abbrev pub InsertsOrWants : Bool → Packet → List (Tag × Packet) → Telegram → Result Unit (TelegramFault × Packet) → Telegram → Type 0
 InsertsOrWants there x ps old (Ok u) new = Inserts there x ps old (Ok u) new
 InsertsOrWants there x ps old (Err e) new = ((e.0 ≡ OutOfMemory) × (e.1 ≡ x) × (new ≡ old)) ⊎ Inserts there x ps old (Err e) new

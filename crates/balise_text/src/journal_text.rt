@@ -130,7 +130,7 @@ fn put_entry_line<W: Write>(
     put_parts(writer, line.serial, words, telegrams, &noted)
 }
 
-// The same, part by part.
+// Writes the line of an entry in several calls, part by part.
 #[inline(never)]
 fn put_parts<W: Write>(
     writer: &mut Counted<W>,

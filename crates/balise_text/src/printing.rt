@@ -66,7 +66,7 @@ pub(crate) fn put_words<W: Write>(writer: &mut Counted<W>, words: &[Word]) -> Re
     put_each(writer, words)
 }
 
-// The same, one after another.
+// Writes words, a space before each, with two calls for each word.
 #[inline(never)]
 fn put_each<W: Write>(writer: &mut Counted<W>, words: &[Word]) -> Result<(), WriteFault>
     ensures { Writes W.contents writer.old writer.new result (behind_marks 32 (map word_text words.now)) }
@@ -97,7 +97,7 @@ pub(crate) fn put_line<W: Write>(
     put_long_line(writer, name, words)
 }
 
-// The same, part by part.
+// Writes a line of a name and of words after it, in several calls.
 #[inline(never)]
 fn put_long_line<W: Write>(
     writer: &mut Counted<W>,

@@ -7,7 +7,7 @@ use std::process::Abort;
 // A header, packet 255 and ones after it: 210 bits and six zeros.
 const SHORT: &str = "a1007f80a0327fffffffffffffffffffffffffffffffffffffffc0";
 
-// The same with 830 bits and two zeros.
+// A header, packet 255 and ones after it: 830 bits and two zeros.
 const LONG: &str =
     "a1007f80a0327ffffffffffffffffffffffffffffffffffffffffffffffffffffffffffffffffffffffffffffffffffffffffffffffffffffffffffffffffffffffffffffffffffffffffffffffffffffffffffffffffffffffffffffffffffffffffffffffffffc";
 

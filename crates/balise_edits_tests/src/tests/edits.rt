@@ -76,7 +76,7 @@ fn packet_in(rt: &impl Abort, bits: &Bits, version: u32) -> Packet {
     packet
 }
 
-/// The same on the heap.
+/// The packet of these digits in a version, on the heap.
 fn boxed(rt: &impl Abort, alloc: Global, digits: &str, version: u32) -> Box<Packet> {
     Box::new(alloc, packet_of(rt, alloc, digits, version)).expect(rt, "memory")
 }
@@ -111,7 +111,7 @@ pub(crate) fn is_step(rt: &impl Abort, alloc: Global, edit: &Edit, step: Step) -
     }
 }
 
-// The same of an edit that puts nothing in.
+// Whether an edit that puts nothing in is the one that a step is.
 fn is_bare_step(edit: &Edit, step: Step) -> bool {
     match (edit, step) {
         (

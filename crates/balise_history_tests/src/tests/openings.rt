@@ -12,7 +12,7 @@ use std::process::Abort;
 /// 5.100, with a packet 66 of NID_TSR 9.
 const SET: &str = "a1007f80a03250900f84ffffffffffffffffffffffffffffffffc0";
 
-/// The same of NID_TSR 7.
+/// 5.100, with a packet 66 of NID_TSR 7.
 const SET_TO_7: &str = "a1007f80a03250900f83ffffffffffffffffffffffffffffffffc0";
 
 const FIRST: Tag = Tag::Base(0);
@@ -27,7 +27,7 @@ fn opening_of(
     Opening::new(alloc, plan_of(rt, alloc, texts), next)
 }
 
-/// The same, which is accepted.
+/// A session to be over groups, whose next serial is accepted.
 fn opened(rt: &impl Abort, alloc: Global, texts: &[&str], next: u32) -> Opening {
     opening_of(rt, alloc, texts, next).expect(rt, "a next serial")
 }
@@ -137,7 +137,7 @@ fn settings_that_fit_or_not(rt: HostRuntime) {
     check_line(&rt, alloc, set(1, Tag::Fresh(9), 9, 5), MISMATCH);
 }
 
-/// The same of the line of a packet put in.
+/// That the line of a packet put in is accepted or has this fault.
 fn check_inserted(
     rt: &impl Abort,
     alloc: Global,

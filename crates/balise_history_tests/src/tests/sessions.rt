@@ -209,7 +209,7 @@ fn follow(rt: &impl Abort, alloc: Global, session: &mut Session, stages: &[Stage
     }
 }
 
-/// The same of a session over groups.
+/// Does steps of stages in a session over groups, and looks at the plan after each stage.
 pub(crate) fn follow_over(rt: &impl Abort, alloc: Global, texts: &[&str], stages: &[Stage]) {
     let mut session = session_of(rt, alloc, texts);
     follow(rt, alloc, &mut session, stages);

@@ -56,7 +56,8 @@ pub(crate) fn check_alike(rt: &impl Abort, packet: &Packet, lent: &PacketRef<'_>
     check_links(rt, packet, lent);
 }
 
-// The same of the packet that stands at a place of bits. Cut out, there and of the packet itself, it has the digits.
+// That the packet at a place of bits answers as the packet read there. Cut out of the bits, or out of that packet, it
+// has the digits.
 pub(crate) fn check_lent(rt: &impl Abort, bits: &Bits, at: usize, version: u32, digits: &str) {
     let (packet, _) = Packet::read(bits, at, version).expect(rt, "a packet");
     check_cut(rt, bits.allocator(), &packet.lend(), digits);

@@ -21,7 +21,7 @@ pub(crate) const RESTRICTION: &str = "41408e8280c8025810";
 pub(crate) const REVOCATION: &str = "42403e0a";
 // An infill location reference without a country: 38 bits.
 pub(crate) const INFILL: &str = "88404c0190";
-// The same with a country: 48 bits.
+// An infill location reference with a country: 48 bits.
 pub(crate) const INFILL_ABROAD: &str = "884061018064";
 // A packet 44, which isn't known: 32 bits.
 pub(crate) const OPAQUE: &str = "2c0041a5";

@@ -10,7 +10,7 @@ pub(crate) const SECOND: GroupTag = GroupTag::Base(1);
 /// 5.100, without packets.
 pub(crate) const EMPTY: &str = "a1007f80a0327fffffffffffffffffffffffffffffffffffffffc0";
 
-/// The same in 830 bits.
+/// 5.100, without packets, in 830 bits.
 pub(crate) const LONG: &str =
     "a1007f80a0327ffffffffffffffffffffffffffffffffffffffffffffffffffffffffffffffffffffffffffffffffffffffffffffffffffffffffffffffffffffffffffffffffffffffffffffffffffffffffffffffffffffffffffffffffffffffffffffffffffc";
 

@@ -56,7 +56,7 @@ const RENUMBERED: &str = "a1007f80a0647fffffffffffffffffffffffffffffffffffffffc0
 
 const NAMING: &str = "a1007f80a032c15022a07d00646301ffffffffffffffffffffffc0";
 
-/// The same as 5.300.
+/// 5.300, whose packet 5 names 5.200.
 const NAMING_TOO: &str = "a1007f80a096415022a07d00646301ffffffffffffffffffffffc0";
 
 /// A group gets another number: the group, its number and the one before, and the three groups then.
@@ -106,7 +106,7 @@ const WITH_LINK: &str =
 const WITH_NUMBER: &str =
     "a1047f80a06450900f82ffffffffffffffffffffffffffffffffc0 a114ff80a0644b1010697fffffffffffffffffffffffffffffffc0 a1257f80a064415022a07d0064630082011d05019004b023ffffc0";
 
-/// The same, naming 5.200.
+/// 5.101, whose packet 5 names 5.200 in the other direction.
 const FLIPPED_TOO: &str = "a1007f80a032c15022a07d00642301ffffffffffffffffffffffc0";
 
 const SECOND_NEW: PacketTag = PacketTag::Fresh(2);

@@ -13,10 +13,10 @@ pub(crate) const NAMED: Id = Id {
     number: 100,
 };
 
-/// The same with the element's orientation flipped.
+/// `LINKING`, with the element's orientation flipped.
 pub(crate) const FLIPPED: &str = "a1007f80a032c15022a07d00322301ffffffffffffffffffffffc0";
 
-/// The same with 777 named.
+/// `LINKING`, with an element that names 777.
 pub(crate) const RENAMED: &str = "a1007f80a032c15022a07d0184e301ffffffffffffffffffffffc0";
 
 /// The two packets, the first one turned.

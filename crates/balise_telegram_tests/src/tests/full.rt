@@ -12,7 +12,7 @@ use std::process::Abort;
 pub(crate) const FULL: &str =
     "a1007f80a03259100bb2a01766402ece805da100bb4a0176a402ed6805db100bb6a0176e402ede805dc100bb8a01772402ee6805dd100bbaa01776402eee805de100bbca0177a402ef6805df100bbea0177e402efe805e0100bc0a01782402f06805e1100bfffffc";
 
-/// The same with packet 132 before all others.
+/// The packets of `FULL`, with packet 132 before all others.
 const LAST_FIRST: &str =
     "a1007f80a03261100bb2201765402ecc805d9d00bb4201769402ed4805dad00bb620176d402edc805dbd00bb8201771402ee4805dcd00bba201775402eec805ddd00bbc201779402ef4805ded00bbe20177d402efc805dfd00bc0201781402f04805e0d00bfffffc";
 

@@ -142,7 +142,7 @@ fn puts_a_packet_in_and_takes_it_out(rt: HostRuntime) {
     check_each_put(&rt, rt.alloc());
 }
 
-/// The same without the packet, read with it: its padding began after the packet.
+/// `COLOURED_ONE` after its packet was deleted. Its padding was read after the packet, so ones fill the packet's place.
 const PADDED_LATER: &str = "a1007f80a0327fffffffffda5a5a5a5a5a5a5a5a5a5a5a5a5a5a40";
 
 #[test]
@@ -307,7 +307,7 @@ fn moves_one_of_two_packets(rt: HostRuntime) {
 
 const THIRD: PacketTag = PacketTag::Fresh(1);
 
-/// The same with the restrictions of three packets.
+/// A move, as in `Moved`, with the restrictions of three packets after it.
 type Ordered = (
     bool,
     PacketTag,

@@ -70,7 +70,7 @@ fn work_row(alloc: Global, row: &Row, writer: &mut Counted<BufWriter<Narrow>>) -
     work(alloc, facts_asked(row.facts), &mut reader, writer).code
 }
 
-/// The same with a flush, to a writer that takes three bytes a call, and fails at the call of a number.
+/// That a row's run and flush end so. The writer takes three bytes a call, and fails at the call of this number.
 fn check_work(rt: &impl Abort, alloc: Global, row: &Row, fails_at: u64, text: &str, code: u8) {
     let narrow = Narrow::new(alloc, 3, fails_at, Failure::TakesNone).into_inner();
     let mut writer = Counted::new(BufWriter::new(alloc, narrow).expect(rt, "memory"));

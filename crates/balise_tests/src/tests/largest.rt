@@ -26,7 +26,7 @@ const EIGHT: &[Head] = &[
     ("a17e07", "14"),
 ];
 
-/// The same eight in reverse order.
+/// The heads of `EIGHT` in reverse order.
 const REVERSED: &[Head] = &[
     ("a10e07", "14"),
     ("a11e06", "12"),

@@ -102,7 +102,7 @@ fn start_row(
     start(alloc, row.words, &mut reader, writer, errors)
 }
 
-/// The same with owned words, as the system hands them over.
+/// Starts a row as `start_row` does, but with owned words, as the system hands them over.
 fn launch_row(
     alloc: Global,
     row: &Row,

@@ -14,7 +14,7 @@ use std::alloc::{AllocError, Global};
 const ABOUT: &str =
     "baliseplan 0.1.0: edits a plan of ETCS balise groups. Reads the plan and then one command a line from standard input, and prints a reply to each command and then the plan.";
 
-// Else clap prints the name of the file that was run.
+// Without this, clap prints the name of the file that was run.
 const USAGE: &str = "baliseplan [OPTIONS]";
 
 // The commands, the exit statuses, and where all formats are described.

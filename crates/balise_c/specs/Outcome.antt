@@ -44,8 +44,8 @@ IsPrinted asked input text (Err OutOfMemory) = BeginsOutput asked input text × 
 IsPrinted asked input text (Err ReadFault) = ⊥
 IsPrinted asked input text (Err WriteFault) = BeginsLonger asked input text
 
--- The text is printed as in IsPrinted, into a buffer that grows as far as memory goes: it is never full. Memory may also
--- run out for what a line or the end prints.
+-- The text is printed as in IsPrinted, into a buffer that grows as far as memory goes: it is never full. Memory may
+-- also run out for what a line or the end prints.
 abbrev pub IsGrown : Asked → Text → Text → Result Status RunFault → Type 0
 IsGrown asked input text (Ok status) = IsOutputOf asked input text (Ended status) × PrintsStanding asked true input text status
 IsGrown asked input text (Err InputTooLong) = IsOutputOf asked input text TooLong

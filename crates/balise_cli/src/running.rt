@@ -30,14 +30,14 @@ use std::mem;
 /// What becomes of the session's memory when a run ends.
 #[derive(Clone, Copy)]
 pub enum AtEnd {
-    /// It is given back.
+    /// It is freed.
     GiveBack,
     /// It is left to the system, which takes it back at once when the program ends.
     Leave,
 }
 
 impl AtEnd {
-    // Does so.
+    // Frees the session's memory, or leaves it.
     fn let_go(self, commands: Commands) {
         match self {
             AtEnd::GiveBack => mem::drop(commands),

@@ -11,7 +11,7 @@ abbrev pub of_layout : LayoutFault → SpellFault
 of_layout layout.OutOfMemory = OutOfMemory
 of_layout _ = BitsLeft
 
--- the fault where there is a misfit, or else what so many bits are refused for
+-- the fault of a misfit, if there is one; otherwise the fault by the number of bits
 abbrev pub fault_of : Option (ℕ × Misfit) → ℕ → SpellFault
 fault_of (Some x) size = spell.Misfit x.0 x.1
 fault_of None size = if nat_lt size 8192 then BitsLeft else TooLong

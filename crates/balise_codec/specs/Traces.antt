@@ -31,8 +31,8 @@ pub record Stopped (form : Form) (seen : Fields) (b : List Bool) (fields : Field
   pub numbered : NumberedFrom seen fields
   pub parts : b ≡ spelling fields ++ left
 
--- Bits that are fields of a packet of this version as they should be; or else the fields up to the fault, its place, if the
--- bits end at `end`, and what was due there.
+-- The bits are fields of a packet of this version as they should be. Otherwise these are the fields up to the fault,
+-- its place, if the bits end at `end`, and what was due there.
 abbrev pub Reaches : ℕ → List Bool → ℕ → Option Reach → Type 0
 Reaches version b end None = (r : Fields × List Bool) × (read_form (packet version) [] b ≡ Some r)
 Reaches version b end (Some r) = (left : List Bool) × Stopped (packet version) [] b (all_keyed r.fields.items) left r.due × (r.at + length left ≡ end)

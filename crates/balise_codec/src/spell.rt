@@ -16,8 +16,8 @@ use balise_layout::Packet;
 use balise_rules::Var;
 use std::alloc::Global;
 
-/// The packet whose fields have these values, in bit order and without L_PACKET, and that has these bits after its
-/// fields: none where the packet is known. Else the first value that isn't due there, by its place from 0, and why.
+/// The packet whose fields have these values, in bit order and without L_PACKET. `rest` are the bits after its fields:
+/// none where the packet is known. Otherwise the first value that isn't due there, by its place from 0, and why.
 pub fn spell_packet(
     alloc: Global,
     version: u32,

@@ -60,7 +60,7 @@ set_head_back s g t v n plan sound accepted =
     (packets-back (SetHead g t v note.old) note.own (SetHead g t v n) note.own g1 t1 (country_of y) y.packets w.tags
     (λ p1 x h. (fields_distinct (version_of y) x (packet_spelt y w p1 x h), λ key old d. refl))))
 
--- a number given and then given back: nothing else had the new one
+-- a number is replaced and then restored: nothing else had the new one
 renamed_back : (c n a0 a1 new : ℕ) → (eqb c a0 && eqb n new) ≡ false → cond (eqb c a0 && eqb (cond (eqb c a0 && eqb n a1) new n) new) a1 (cond (eqb c a0 && eqb n a1) new n) ≡ n
 renamed_back c n a0 a1 new h = grind (arith, nat_tests)
 

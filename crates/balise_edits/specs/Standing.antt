@@ -37,12 +37,12 @@ pub record IsNext (e : Entry) (groups : rules.Plan) : Type 0 where
   pub ready : IsReady e.0 groups
   pub noted_there : without_content (noted e.0.1 groups) ≡ e.1
 
--- The edit is taken back, and its entry is without what was taken out; or memory was wanting, and nothing has changed.
+-- The edit is taken back, and its entry is without what was taken out; or an allocation failed, and nothing changed.
 abbrev pub TakesBack : Entry → Plan → Result Unit Refusal → Entry → Plan → Type 0
 TakesBack f old (Ok u) g new = (g ≡ (f.0, without_content f.1)) × (new ≡ changed_to (back f.0 f.1 old.groups) old)
 TakesBack f old (Err r) g new = (r ≡ OutOfMemory) × (g ≡ f) × (new ≡ old)
 
--- The edit is done again, and its entry has all that it notes; or memory was wanting, and nothing has changed.
+-- The edit is done again, and its entry has all that it notes; or an allocation failed, and nothing changed.
 abbrev pub DoesAgain : Entry → Plan → Result Unit Refusal → Entry → Plan → Type 0
 DoesAgain f old (Ok u) g new = (g ≡ (f.0, noted f.0.1 old.groups)) × (new ≡ changed_to (done f.0 old.groups) old)
 DoesAgain f old (Err r) g new = (r ≡ OutOfMemory) × (g ≡ f) × (new ≡ old)

@@ -20,8 +20,8 @@ step_text Name = codes "name"
 step_text Head = codes "head"
 step_text (Whose i) = codes "#" ++ id_text i
 
--- What stands between a step and the next: a point before what is said of the thing that the path leads to, as a side
--- of it, its orientation or a variable, and before the occurrence of a variable; else a slash.
+-- What stands between a step and the next: a point before a side, the orientation or a variable of the thing that the
+-- path leads to, and before the occurrence of a variable; otherwise a slash.
 abbrev pub mark_between : Part → Part → Text
 mark_between (Of v) q = codes "."
 mark_between p (Of v) = codes "."

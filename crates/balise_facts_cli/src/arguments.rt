@@ -13,7 +13,7 @@ use std::alloc::{AllocError, Global};
 const ABOUT: &str =
     "balisefacts 0.1.0: facts of a session over a plan of ETCS balise groups. Reads from standard input what baliseplan reads, and prints what each edit that stands changes and needs, and which later edits depend on it.";
 
-// Else clap prints the name of the file that was run, and doesn't say that only one of the two may be given.
+// Without this, clap prints the name of the file that was run, and doesn't say that only one of the two may be given.
 const USAGE: &str = "balisefacts [--edit <N> | --tags]";
 
 // What help says of the arguments.

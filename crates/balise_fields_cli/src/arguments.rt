@@ -13,7 +13,7 @@ use std::alloc::{AllocError, Global};
 const ABOUT: &str =
     "balisefields 0.1.0: fields of ETCS balise telegrams and packets. Reads digits, a telegram or a packet a line, from standard input, and prints their fields; or the other way.";
 
-// Else clap prints the name of the file that was run.
+// Without this, clap prints the name of the file that was run.
 const USAGE: &str = "balisefields [OPTIONS]";
 
 // What help says of the argument.

@@ -73,8 +73,8 @@ impl Session {
     /// The session of a journal: of its next serial, and of its lines done in order. Each line is one change of the
     /// plan.
     ///
-    /// Refused as `JournalMismatch`, with no place where the next serial isn't from 1 to 4,000,000,000, else at the
-    /// first line that doesn't fit; or as `OutOfMemory`, at a line.
+    /// Refused as `JournalMismatch`: with no place if the next serial isn't from 1 to 4,000,000,000, otherwise at the
+    /// first line that doesn't fit. Or refused as `OutOfMemory`, at a line.
     pub fn from_entries(
         alloc: Global,
         plan: Plan,

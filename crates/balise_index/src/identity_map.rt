@@ -19,8 +19,8 @@ use narrow::{Narrow, right_cell};
 use std::alloc::{AllocError, Global};
 use std::marker::Model;
 
-/// Values under identities, each found at once: its slot, and a cell for its identity that says which slot that is. Cells
-/// of identities that aren't held say anything.
+/// Values under identities, each found at once. A value stands in a slot, and the cell of its identity holds the slot's
+/// number. The cell of an identity that isn't held may hold any number.
 #[derive(Drop)]
 pub struct IdentityMap<V> {
     // The identity of each slot, and its value. As two lists they need no padding.

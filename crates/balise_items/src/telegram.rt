@@ -99,7 +99,7 @@ fn has_end(place: Place) -> bool
     }
 }
 
-// Adds the padding as it is given, or else ones up to this number of bits.
+// Adds the padding that is given. If none is given, adds ones up to this number of bits.
 fn add_padding(bits: &mut Bits, padding: &Bits, due: usize) -> Result<(), Stop>
     ensures ok { OnOk result (bits.new ≡ padded due padding.now bits.old) }
     ensures fault { IsOkUnless result Stop.OutOfMemory }

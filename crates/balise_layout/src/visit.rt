@@ -7,7 +7,7 @@ ghost use Rattle.balise_layout.specs.declared.fault.LayoutFault.TheVariants.{Out
 use crate::fault::LayoutFault;
 use balise_rules::Var;
 
-/// Goes along a packet and is given each field. After an error it is given no more.
+/// Visits the fields of a packet, one by one in bit order. After an error it is given no more.
 pub trait Visit: Sized {
     /// Whether it takes memory, and so may run out of it.
     ghost allocates: { Bool };

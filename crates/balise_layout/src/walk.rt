@@ -7,7 +7,8 @@ ghost use Rattle.balise_layout.specs.Reading.{Ends, Takes, Walking};
 use crate::fault::LayoutFault;
 use balise_rules::Var;
 
-/// Goes along the fields of a packet. The tables say which field is due (SUBSET-026, 7.4.2), and it says what stands there.
+/// Reads the fields of a packet, one after another. The tables state which field is due (SUBSET-026, 7.4.2), and it
+/// returns the value that stands there.
 pub trait Walk: Sized {
     /// Whether it takes memory, and so may run out of it.
     ghost allocates: { Bool };

@@ -6,7 +6,7 @@ use Rattle.balise_lines.specs.declared.line_buffer.LineBuffer.{LineBuffer}
 use Rattle.balise_lines.specs.declared.line_buffer.Look.{Look}
 use Rattle.balise_lines.specs.declared.line_buffer.Look.TheVariants.{Line, Last, End, TooLong}
 
--- the bytes that were read and not yet let go
+-- the bytes that were read and not yet dropped
 abbrev pub held : LineBuffer → List ℕ
 held b = slice_range b.bytes b.start b.end
 

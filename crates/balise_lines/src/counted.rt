@@ -47,7 +47,7 @@ impl<T> Counted<T> {
         &self.inner
     }
 
-    /// Gives back what it read or wrote through.
+    /// Returns what it read or wrote through.
     pub fn into_inner(self) -> T
         ensures { result ≡ self.inner }
     {

@@ -14,8 +14,8 @@ use std::io::Read;
 /// The bytes of a longest line, 4,096, and of its end.
 const ROOM: usize = 4097;
 
-/// What stands at the front of the bytes: a line with its end, of so many bytes without it; the last line, which has no
-/// end and is all that is held; nothing, at the input's end; or a longer line than there may be.
+/// What stands at the front of the bytes: a line with its end, and its number of bytes without it; the last line, which
+/// has no end and is all that is held; nothing, at the input's end; or a line that is too long.
 #[derive(Clone, Copy)]
 pub(crate) enum Look {
     Line(usize),
@@ -65,7 +65,7 @@ impl LineBuffer {
         &self.bytes[self.start..self.end]
     }
 
-    /// Lets the first bytes go.
+    /// Drops the first `count` bytes.
     pub(crate) fn consume(&mut self, count: usize)
         requires { count ≤ length (held self.old) }
         ensures { held self.new ≡ drop count (held self.old) }

@@ -23,8 +23,8 @@ pub enum Next {
 
 /// Reads lines of at most 4,096 bytes from an input of at most 67,108,864 bytes.
 ///
-/// The line that was read last stands at the front of the array of its bytes, and is let go by the next
-/// call. Nothing is copied.
+/// The line that was read last stands at the front of the array of its bytes. The next call drops it. Nothing is
+/// copied.
 #[derive(Drop)]
 pub struct Lines {
     buffer: LineBuffer,

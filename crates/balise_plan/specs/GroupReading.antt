@@ -12,7 +12,7 @@ use Rattle.balise_plan.specs.Held.{Plan}
 abbrev pub most_telegrams : ℕ
 most_telegrams = 8
 
--- the group with one telegram more, or why not: a ninth isn't read
+-- the group with one telegram more, or why not: a telegram after the eighth isn't read
 abbrev pub with_telegram : Group → List Bool → Result Group Refusal
 with_telegram ys b = cond (nat_le most_telegrams (length ys)) (Err GroupSize) (and_then (read_telegram b) (λ y. Ok (ys ++ (length ys, y) ∷ [])))
 
@@ -29,7 +29,8 @@ with_read plan ys = with_group plan (group_of ys)
 abbrev pub WereRead : Group → Type 0
 WereRead ys = (bs : List (List Bool)) × (length bs ≤ most_telegrams) × (read_telegrams 0 bs ≡ Ok ys)
 
--- One telegram more stands at the end; or it is refused, or, where it isn't a ninth, it is out of memory, and all stays.
+-- One telegram more stands at the end; or it is refused and all stays. A group of less than eight telegrams may also be
+-- out of memory.
 abbrev pub ReadsOn : List Bool → Group → {A : Type 0} → Result A Refusal → Group → Type 0
 ReadsOn b old (Ok u) new = with_telegram old b ≡ Ok new
 ReadsOn b old (Err e) new = (((e ≡ OutOfMemory) × (length old < most_telegrams)) ⊎ (with_telegram old b ≡ Err e)) × (new ≡ old)

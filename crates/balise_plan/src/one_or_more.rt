@@ -111,7 +111,7 @@ impl<T: Drop> OneOrMore<T> {
         ensures err { OnErr result (self.new ≡ self.old) }
     {
         if self.len() == 0 {
-            // No item is ever taken out, so an empty list is that of `new`, which has no memory to give back.
+            // No item is ever taken out, so an empty list is that of `new`, which has no memory to free.
             mem::forget(mem::replace(&mut self.held, Held::One(item)));
             return Ok(());
         }

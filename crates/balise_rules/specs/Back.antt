@@ -23,7 +23,8 @@ abbrev pub put_back : {A : Type 0} → Tag → Option Tag → Option A → List 
 put_back t b None xs = xs
 put_back t b (Some x) xs = put_before same_tag b (t, x) xs
 
--- The old value is set again; what was put in is removed; what was taken out, or moved, is put directly before its old next neighbour; the old number is given back; the group is turned again.
+-- The old value is set again. What was put in is removed. What was taken out, or moved, is put directly before its old
+-- next neighbour. The group has its old number again. The group is turned again.
 abbrev pub back : Item → Note → Plan → Plan
 back (s, SetVar g t p v k n) note plan = effect (s, SetVar g t p v k note.old) note.own plan
 back (s, SetHead g t v n) note plan = effect (s, SetHead g t v note.old) note.own plan

@@ -19,7 +19,7 @@ times (suc n) t = t ++ times n t
 abbrev pub padded : ℕ → Text
 padded n = times n (codes "ff")
 
--- the bits of a telegram's line: 830 where it has 208 digits, else 210
+-- the bits of a telegram's line: 830 where it has 208 digits, otherwise 210
 abbrev pub read_line : Text → Result (List Bool) Refusal
 read_line t = read_hex (if length t == 208 then 830 else 210) t
 

@@ -10,7 +10,7 @@ use Rattle.balise_rules.specs.Packet.{Packet, field_of}
 use Rattle.balise_rules.specs.Telegram.{Telegram}
 use Rattle.balise_rules.specs.Plan.{Group, Plan, reserved, country_of, telegram_at}
 
--- the country in force at element k: the last one written before its number, else c, the telegram's own
+-- the country in force at element k: the last one written before its number, otherwise c, the telegram's own
 abbrev pub country_at : ℕ → ℕ → Fields → ℕ
 country_at c k [] = c
 country_at c k (f ∷ fs) = cond (is_of NidC f.0) (country_at f.1 k fs) (cond (same_key (NidBg, k) f.0) c (country_at c k fs))

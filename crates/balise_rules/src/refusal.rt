@@ -29,7 +29,7 @@ pub enum Refusal {
     LayoutMismatch,
     /// 9: packet 0 has no length.
     PacketZero,
-    /// 10: a group has no telegram, or a ninth.
+    /// 10: a group has no telegram, or more than eight.
     GroupSize,
     /// 11: a header disagrees with its place in the group, or with the first header.
     HeaderDisagrees,

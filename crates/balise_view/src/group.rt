@@ -14,7 +14,7 @@ use std::alloc::{AllocError, Global};
 
 /// The line of a group, without its end.
 ///
-/// Where memory is wanting, the error.
+/// An error means that an allocation failed.
 pub fn group_line(alloc: Global, group: &Group) -> Result<String, AllocError>
     ensures { IfOk result (λ line. string_bytes line ≡ group_text group.now) }
 {

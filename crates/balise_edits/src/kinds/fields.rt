@@ -44,7 +44,7 @@ pub(crate) fn set_var(
     }
 }
 
-/// Sets it back to its old value. Takes no memory but for NID_BG, and is refused for want of it alone.
+/// Sets it back to its old value. Only NID_BG takes memory. The only refusal is `OutOfMemory`.
 pub(crate) fn set_var_back(
     plan: &mut Plan,
     entry: &mut Entry,

@@ -97,7 +97,7 @@ pub(crate) fn add_again(plan: &mut Plan, entry: &mut Entry) -> Result<(), Refusa
         Edit::AddGroup { after, telegrams } => (*after, copy_telegrams(telegrams)?),
         _ => return Ok(()),
     };
-    // They were read before, so memory alone may be wanting.
+    // They were read before, so only an allocation can fail.
     let Ok(group) = Group::read(plan.allocator(), telegrams) else {
         return Err(Refusal::OutOfMemory);
     };

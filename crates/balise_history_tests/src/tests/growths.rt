@@ -49,7 +49,7 @@ const CALLS: &[(Step, u32)] = &[
     (Step::Drop(102), 8),
 ];
 
-/// What a session shows; asked for once more where the growth that is refused was met here.
+/// What a session shows. It is asked for again if the growth that is refused was the one of this call.
 fn shown(rt: &impl Abort, session: &Session) -> Vec<Vec<Bits>> {
     match session.plan().shown() {
         Ok(groups) => groups,

@@ -137,7 +137,7 @@ module _ {T : Type 0} where
   enumerate-push n [] y = let e : n ≡ n + 0 = omega arith in ap (λ k. (k, y) ∷ []) e
   enumerate-push n (x ∷ xs) y = let e : n + 1 + length xs ≡ n + suc (length xs) = omega arith in ap (λ l. (n, x) ∷ l) (enumerate-push (n + 1) xs y ∙ ap (λ k. enumerate_from (n + 1) xs ++ (k, y) ∷ []) e)
 
-  -- behind those that stand at their tags
+  -- an item is added after those that stand at their tags
   pub push-tagged : (xs : List T) (y : T) (all : List (ℕ × T)) → all ≡ enumerate_from 0 xs → enumerate_from 0 (xs ++ y ∷ []) ≡ all ++ (length all, y) ∷ []
   push-tagged xs y all e =
       let n : 0 + length xs ≡ length all = omega (arith, ap length e, length-enumerate_from 0 xs) in

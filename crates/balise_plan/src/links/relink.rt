@@ -8,7 +8,7 @@ use balise_index::{LinkPlace, NameIndex};
 use balise_rules::{Id, NO_GROUP};
 use std::alloc::{AllocError, Global};
 
-/// Notes that a place names an identity, if its number isn't 16383. Leaves all as before where memory is wanting.
+/// Notes that a place names an identity, if its number isn't 16383. If an allocation fails, all stays.
 pub(crate) fn add_real(
     alloc: Global,
     index: &mut NameIndex,

@@ -1,4 +1,4 @@
-//! A plan once more.
+//! Copies of a plan.
 
 use crate::tests::comparing::same_groups;
 use crate::tests::digits::{ABROAD, INFILL, LINKING, REVOCATIONS, THREE};

@@ -32,7 +32,8 @@ fn hold<R: Read, W: Write>(
     Ok(held)
 }
 
-/// Prints a plan's lines again: first those that are no telegrams, then the telegrams, all of which were held.
+/// Prints a plan's lines again: first those that are no telegrams, then the telegrams. All telegrams are held until
+/// then.
 pub fn run(rt: &(impl Input + Print + AllocGlobal)) -> Result<()> {
     let alloc = rt.alloc();
     let mut reader = Counted::new(rt.reader());

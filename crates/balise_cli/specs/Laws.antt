@@ -53,7 +53,9 @@ abbrev pub ReadsPlan : Phase → ℕ → List Line → Plan → Type 0
 ReadsPlan p n [] base = HasRead p base
 ReadsPlan p n (line ∷ lines) base = GoesOn (read_line p n line.bytes) (λ q. ReadsPlan q (n + 1) lines base)
 
--- What is printed for the journal of a session, put after lines that are read as the plan first read, is read, line by line, as that session: its standing edits, its stack and its next serial, where that is one that a journal may have, of which nothing is counted; and then the commands begin.
+-- A session's journal is printed, and put after lines that are read as the plan first read. Line by line it is read as
+-- that session: its standing edits, its stack and its next serial, if a journal may have this serial. No change is
+-- counted. Then the commands begin.
 abbrev pub ReadsBack : State → Type 0
 ReadsBack s = s.serial ≤ most_serial → (plan : List Line) → ReadsPlan Header 1 plan s.base → (commands : Text)
     → Opens Header 1 (plan ++ lines_of (journal_text s ++ (codes "edits\n" ++ commands))) (counted s 0) (lines_of commands)

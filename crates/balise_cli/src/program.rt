@@ -58,7 +58,7 @@ impl Program for Baliseplan {
     }
 }
 
-/// Does what the words of the command line ask for, of which the first is the program's name.
+/// Does what the words of the command line ask for. The first word is the program's name.
 ///
 /// Help goes to the writer, and what is wrong with the words and the fault of a run to `errors`.
 pub fn start<R: Read, W: Write + Drop, E: Write>(

@@ -1,4 +1,4 @@
--- A plan and edits for which the premises of the laws hold, and an edit that is refused.
+-- A plan and edits that fulfil the premises of the laws, and an edit that is refused.
 use Rattle.std.specs.Prelude.{◌≡◌, List, [], ◌∷◌, codes, Some, Ok}
 use Rattle.balise_rules.specs.declared.variable.Var.TheVariants.{DLink}
 use Rattle.balise_rules.specs.declared.refusal.Refusal.TheVariants.{NumberTaken}

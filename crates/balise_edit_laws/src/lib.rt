@@ -89,7 +89,7 @@ pub fn taken_back_along()
     ensures { TakenBackAlong }
 {}
 
-/// A plan and edits for which all of this holds, and an edit that is refused.
+/// A plan and edits that fulfil the premises of these laws, and an edit that is refused.
 pub fn witnessed()
     ensures { Witnessed }
 {}

@@ -25,7 +25,7 @@ abbrev pub Applies : Item → Plan → Result Entry Refusal → Plan → Type 0
 Applies e old (Ok f) new = (refusal e.1 old.groups ≡ None) × (f ≡ (e, noted e.1 old.groups)) × (new ≡ changed_to (done e old.groups) old)
 Applies e old (Err r) new = ((r ≡ OutOfMemory) ⊎ (refusal e.1 old.groups ≡ Some r)) × (new ≡ old)
 
--- The plan is what the entry's edit made of one on which it was ready, and where it noted what the entry has.
+-- The entry's edit made the plan of another plan. There it was ready and noted what the entry has.
 pub record IsLast (e : Entry) (groups : rules.Plan) : Type 0 where
   pub before : rules.Plan
   pub ready : IsReady e.0 before

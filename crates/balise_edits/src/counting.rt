@@ -34,8 +34,8 @@ fn is_far_block(numbers: &[u16], group: u16, limit: u16) -> bool
     near == 0
 }
 
-/// How many entries from the first on are apart from this one, as their home numbers tell, up to the first of which
-/// they don't. Takes no memory.
+/// The number of entries from the first on whose home numbers show that they are apart from this one. It stops at the
+/// first number that doesn't show it. Takes no memory.
 pub fn count_apart(entry: &Entry, numbers: &[u16]) -> usize
     ensures count { result ≡ count_far entry.now numbers.now }
     ensures within { result ≤ length numbers.now }

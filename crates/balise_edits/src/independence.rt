@@ -9,8 +9,8 @@ use crate::entry::Entry;
 use crate::overlaps::clear;
 use balise_rules::Tag;
 
-/// Whether two entries are apart: no place that one changes is one that the other changes or needs, or lies in it or
-/// around it, and neither inserts into a telegram from which the other deletes. Takes no memory.
+/// Whether two entries are apart. No place that one changes is, lies in, or lies around a place that the other changes
+/// or needs. If one inserts into a telegram, the other deletes nothing from it. Takes no memory.
 #[tactic(auto, using(crate::proofs::Elsewhere::apart_elsewhere, crate::proofs::Meets::clear_of_none))]
 #[inline(always)]
 pub fn apart(entry: &Entry, later: &Entry) -> bool

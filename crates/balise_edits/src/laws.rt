@@ -1,4 +1,4 @@
-//! The laws on which undo, redo and strike rest, over the rules alone. Each function does nothing: its contract is the law.
+//! The laws of undo, redo and strike, over the rules alone. Each function does nothing: its contract is the law.
 
 ghost use Rattle.balise_strike_laws.specs.Laws.{Commuting, CommutingBehind};
 

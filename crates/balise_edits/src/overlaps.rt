@@ -126,7 +126,7 @@ fn any_needed_meets(entry: &Entry, later: &Entry, out: &Option<Path>) -> bool
     false
 }
 
-// Whether neither inserts into a telegram from which the other deletes.
+// Whether no edit of the two inserts into a telegram while the other deletes from it.
 fn room_apart(edit: &Edit, other: &Edit) -> bool
     ensures { result ≡ room_apart (edit_of edit.now) (edit_of other.now) }
 {

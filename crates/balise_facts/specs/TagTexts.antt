@@ -13,7 +13,7 @@ use Rattle.balise_text.specs.Texts.{Text, text_of, whole_line}
 abbrev pub packet_line : Id → ℕ → ℕ → Tag → Text
 packet_line i pig pkt p = whole_line (codes "packet" ∷ id_text i ∷ decimal pig ∷ decimal pkt ∷ tag_text p ∷ [])
 
--- packets, the first of which stands at a place
+-- packets, from this place on
 abbrev pub packet_lines : Id → ℕ → ℕ → List (Tag × Packet) → Text
 packet_lines i pig pkt [] = []
 packet_lines i pig pkt (x ∷ xs) = packet_line i pig pkt x.0 ++ packet_lines i pig (suc pkt) xs
@@ -22,7 +22,7 @@ packet_lines i pig pkt (x ∷ xs) = packet_line i pig pkt x.0 ++ packet_lines i 
 abbrev pub telegram_line : Id → ℕ → ℕ → Text
 telegram_line i pig t = whole_line (codes "telegram" ∷ id_text i ∷ decimal pig ∷ decimal t ∷ [])
 
--- telegrams with their packets, the first of which stands at a place
+-- telegrams with their packets, from this place on
 abbrev pub telegram_lines : Id → ℕ → Group → Text
 telegram_lines i pig [] = []
 telegram_lines i pig (y ∷ ys) =

@@ -68,7 +68,7 @@ IsDigits f x = ⊥
 
 -- ---- a telegram
 
--- Up to the first variable by which it isn't a balise's, from track to train.
+-- Explained up to the first variable that shows that it isn't a balise's, from track to train.
 abbrev pub NotABalise : List Bool → Begun → ℕ → ℕ → Var → Type 0
 NotABalise b x n bit v =
     (x.header.items ≡ take n (placed 0 (read_header b))) × (x.packets.items ≡ []) × (x.last.items ≡ []) × (x.fault ≡ fault refusal.NotABalise None bit (Field v))

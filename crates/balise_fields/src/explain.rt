@@ -59,7 +59,7 @@ fn explain_telegram(alloc: Global, text: &[u8]) -> Result<Explained, FieldsFault
     }
 }
 
-// The digits of a telegram of which a bit after the last isn't zero.
+// The digits of a telegram where some bit after the last one isn't zero.
 fn explain_spare(alloc: Global, text: &[u8], due: usize) -> Result<Explained, FieldsFault>
     requires { read_hex due text.now ≡ Err Refusal.SpareBits }
     ensures { IfOk result (λ x. (b : List Bool) × (digit_bits text.now ≡ Some b) × IsDigits (spare_fault due b) x) }

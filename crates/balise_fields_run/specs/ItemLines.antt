@@ -57,7 +57,7 @@ abbrev pub open_after : ℕ → Text → Option GivenItem → Option GivenItem
 open_after n text current =
     if ends_item text (field_line_of text) then begun_after n (field_line_of text) else Some (grown n (field_line_of text) current)
 
--- ---- lines one after another, the first of which has this number
+-- ---- lines one after another, numbered from this number on
 
 abbrev pub lines_text : ℕ → Option GivenItem → List Line → Text
 lines_text n current [] = []

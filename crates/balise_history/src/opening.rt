@@ -18,7 +18,7 @@ use std::marker::Model;
 /// The largest next serial of a journal.
 const MOST_SERIAL: u32 = 4_000_000_000;
 
-/// A session to be, of which some lines of its journal were read. The journal isn't kept.
+/// A session that is being built from the lines of a journal. The journal isn't kept.
 #[derive(Drop)]
 pub struct Opening {
     edited: EditedPlan,

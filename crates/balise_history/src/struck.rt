@@ -5,6 +5,6 @@
 pub struct Struck {
     /// The serial of the edit.
     pub serial: u32,
-    /// How many later edits stood, each of which was compared with it.
+    /// The number of later edits that stood. Each was compared with it.
     pub compared: usize,
 }

@@ -11,7 +11,7 @@ abbrev pub put_in : {A : Type 0} → Spot Tag → Tag × A → List (Tag × A) �
 put_in (After a) z xs = put same_tag a z xs
 put_in (Before b) z xs = put_before same_tag b z xs
 
--- whether the neighbour stands by which the place is named
+-- A spot is named by a neighbour. Whether this neighbour stands in the list.
 abbrev pub spot_stands : {A : Type 0} → Spot Tag → List (Tag × A) → Bool
 spot_stands (After a) xs = stands same_tag a xs
 spot_stands (Before b) xs = stands same_tag b xs

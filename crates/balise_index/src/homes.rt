@@ -72,7 +72,7 @@ impl Homes {
         }
     }
 
-    /// Forgets the tag at a place of the map, to which the last one goes.
+    /// Forgets the tag at a place of the map. The last one takes its place.
     pub(crate) fn swap_remove(&mut self, k: usize) {
         if k < self.blocks.len() {
             let _ = self.blocks.swap_remove(k);

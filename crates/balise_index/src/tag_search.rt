@@ -36,7 +36,7 @@ pub(crate) fn place_near(order: &TagList, tag: Tag, near: usize) -> Option<usize
     None
 }
 
-/// The first tag that doesn't rise, once a tag goes to a place in a list of which it is known so far.
+/// The first tag that doesn't rise, once a tag is put in at a place. `odd` is the first one before that.
 pub(crate) fn odd_with(order: &TagList, odd: Option<Tag>, tag: Tag, i: usize) -> Option<Tag> {
     if odd.is_some() || rises_at(order, tag, i) {
         return odd;

@@ -46,7 +46,7 @@ packets_lines (p ∷ ps) = line.Packet ∷ (packet_lines p.1 ++ packets_lines ps
 abbrev pub telegram_lines : List Bool → Telegram → List FieldLine
 telegram_lines b y = field_lines y.head ++ (packets_lines y.packets ++ (line.End ∷ bits_lines line.Padding (drop (used y.packets) b)))
 
--- lines one after another, the first of which has this number, added to an item
+-- lines one after another, numbered from this number on, added to an item
 abbrev pub with_lines : ℕ → GivenItem → List FieldLine → GivenItem
 with_lines n i [] = i
 with_lines n i (l ∷ ls) = with_lines (n + 1) (with_line n l i) ls
@@ -109,7 +109,7 @@ AreGivenBy version (s ∷ ss) (p ∷ ps) = IsGivenBy version s.values s.rest p.1
 AreGivenBy version [] (p ∷ ps) = ⊥
 AreGivenBy version (s ∷ ss) [] = ⊥
 
--- the padding as it is given, or else ones up to this number of bits, of which so many are taken
+-- the padding that is given; if none is given, ones up to `due` bits, of which `taken` are used already
 abbrev pub given_padding : ℕ → ℕ → List Bool → List Bool
 given_padding due taken [] = ones (due - taken)
 given_padding due taken (b ∷ bs) = b ∷ bs

@@ -1,4 +1,4 @@
--- A list of items under tags, the places at which they were put in, whose only item stands by itself.
+-- A list of items under tags, the places where they were put in. An only item stands by itself.
 use Rattle.std.specs.Prelude.{◌≡◌, ◌-◌, ℕ, zero, suc, Bool, false, cond, List, [], ◌∷◌, reverse, slice_set}
 use Rattle.std.specs.List.{enumerate_from}
 use Rattle.std.specs.Vec.{with_item}

@@ -1,5 +1,5 @@
-//! A list of items under tags, which are the places at which they were put in. An only item takes no memory of its own, and
-//! tags take no room.
+//! A list of items under tags. A tag is the place where its item was put in, and takes no room. An only item takes no
+//! memory of its own.
 
 ghost use Rattle.std.specs.Prelude.{◌≡◌, ◌<◌, ◌≤◌, ◌^◌, ◌++◌, [], ◌∷◌, eqb, length, option_map, position, reverse, slice_get, slice_index_or, OnErr, OnOk};
 ghost use Rattle.std.specs.Borrow.{sem};
@@ -11,7 +11,7 @@ use std::marker::Model;
 use std::ops::{Index, IndexMut};
 use std::{mem, slice};
 
-/// Items in order, each under a tag: the place at which it was put in. In reverse order they keep their tags.
+/// Items in order, each under a tag: the place where it was put in. In reverse order they keep their tags.
 #[derive(Drop)]
 pub(crate) struct OneOrMore<T> {
     held: Held<T>,

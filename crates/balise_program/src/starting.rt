@@ -10,7 +10,7 @@ use balise_lines::Counted;
 use std::alloc::Global;
 use std::io::{BufWriter, Read, Write};
 
-/// Does what the words of the command line ask the program for, of which the first is its name.
+/// Does what the words of the command line ask the program for. The first word is its name.
 ///
 /// Help goes to the writer, and what is wrong with the words and the fault of a run to `errors`.
 pub fn start<P: Program, R: Read, W: Write + Drop, E: Write>(

@@ -53,7 +53,7 @@ item_of last next l plan = cond (nat_lt last l.serial && nat_lt l.serial next) (
 abbrev pub most_serial : ℕ
 most_serial = 4000000000
 
--- A journal that is opened: a session with its next serial, of which nothing is counted.
+-- A journal that is opened: a session with its next serial, which has counted nothing.
 abbrev pub opened_at : Plan → ℕ → Option State
 opened_at plan next = cond (nat_le 1 next && nat_le next most_serial) (Some (record { base = plan; standing = []; stack = []; serial = next; count = 0 })) None
 

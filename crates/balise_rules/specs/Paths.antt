@@ -98,7 +98,8 @@ needs ((s, DropGroup g), m) = ids m.names
 needs ((s, Renumber g n), m) = []
 needs ((s, TurnGroup g), m) = []
 
--- neither inserts into a telegram from which the other deletes: an insertion into room that a deletion made would not fit without it
+-- If one inserts into a telegram, the other deletes nothing from it: an insertion into room that a deletion made would
+-- not fit without it.
 abbrev pub room_apart : Edit → Edit → Bool
 room_apart (InsertPacket g t a x) (DeletePacket g1 t1 p) = not (same_tag g g1 && eqb t t1)
 room_apart (DeletePacket g1 t1 p) (InsertPacket g t a x) = not (same_tag g g1 && eqb t t1)

@@ -41,7 +41,7 @@ pub record Removed : Type 0 where
   pub item : Item
   pub behind : List ℕ
 
--- an edit after which none stands
+-- an edit that is removed when none stands after it
 abbrev pub lone : Item → Removed
 lone e = record { item = e; behind = [] }
 
@@ -131,7 +131,7 @@ first_dependent e (f ∷ fs) = cond (independent e f) (first_dependent e fs) (So
 abbrev pub struck_out : State → Item → List ℕ → State
 struck_out s e behind = taken_out s (hung (anchor_of e.1) behind (others e.0 s.standing)) (record { item = e; behind = behind })
 
--- a strike of e, which has these entries after it, of which this is the first that depends on it
+-- a strike of e, by the entries that stand after it and by the serial of the first one that depends on it
 abbrev pub answer_dependent : State → Entry → List Entry → Option ℕ → Reply × State
 answer_dependent s e fs (Some serial) = (Refused (DependsOn serial), s)
 answer_dependent s e fs None = (Struck e.0.0, struck_out s e.0 (serials_behind e fs))

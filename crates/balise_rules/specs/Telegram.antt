@@ -13,7 +13,8 @@ use Rattle.balise_rules.specs.Packet.{Packet, value, bits_of, width, IsSpelt, re
 unfoldable pub header : Form
 header = plain QUpdown (plain MVersion (plain QMedia (plain NPig (plain NTotal (plain MDup (plain MMcount (plain NidC (plain NidBg (plain QLink done)))))))))
 
--- A telegram: the fields of its header, its packets under their tags, and its padding: as many bits as the telegram, of which those from the end of packet 255 on are shown.
+-- A telegram: the fields of its header, its packets under their tags, and its padding. The padding has the telegram's
+-- number of bits; those from the end of packet 255 on are shown.
 pub record Telegram : Type 0 where
   pub head : Fields
   pub packets : List (Tag × Packet)

@@ -8,9 +8,9 @@ use crate::refusal::Refusal;
 use crate::tag::Tag;
 use crate::variable::Var;
 
-/// An edit of a plan, by tags: `g` of a group, `t` of a telegram, `p` of a packet. `after` is the anchor, directly
-/// after which something is put, or none for the first place. A packet that is put in is given as a `P`, the telegrams
-/// of a group as a `T`.
+/// An edit of a plan, by tags: `g` of a group, `t` of a telegram, `p` of a packet. Something is put directly after the
+/// anchor `after`, or at the first place if it is none. A packet that is put in is given as a `P`, the telegrams of a
+/// group as a `T`.
 #[derive(Drop)]
 pub enum TaggedEdit<P, T> {
     /// Sets occurrence `k`, from 0, of a variable of a packet.

@@ -1,4 +1,4 @@
--- The laws on which undo, redo and strike rest.
+-- The laws of undo, redo and strike.
 use Rattle.std.specs.Prelude.{◌≡◌, true}
 use Rattle.balise_rules.specs.Plan.{Plan, IsSound}
 use Rattle.balise_rules.specs.Edits.{Item}

@@ -36,7 +36,7 @@ pub record StruckUnder (base : Plan) (before : List Item) (e : Item) (after othe
   pub again_notes : noted e.1 (made base (before ++ others)) ≡ noted e.1 (made base before)
   pub again : done e (made base (before ++ others)) ≡ made base (before ++ e ∷ after)
 
--- An edit of which all later ones are independent is struck by one change.
+-- If all later edits are independent of an edit, it is struck by one change.
 abbrev pub StrikingUnder : Type 0
 StrikingUnder = (base : Plan) → (before : List Item) → (e : Item) → (after others : List Item) → Standing base (before ++ e ∷ after) →
     AllBecome (e, noted e.1 (made base before)) (entries (done e (made base before)) after) others → StruckUnder base before e after others

@@ -1,4 +1,5 @@
--- A plan and three edits for which the premises of the laws hold, with edits that are apart, a pair that isn't, and an edit that stands after another.
+-- A plan and three edits that fulfil the premises of the laws: edits that are apart, a pair that isn't, and an edit
+-- that stands after another.
 use Rattle.std.specs.Prelude.{◌≡◌, false, List, [], ◌∷◌, codes, Some, None, Ok}
 use Rattle.balise_rules.specs.declared.variable.Var.TheVariants.{NidTsr}
 use Rattle.balise_rules.specs.declared.tag.Tag.TheVariants.{Base, Fresh}

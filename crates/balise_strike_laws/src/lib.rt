@@ -1,4 +1,5 @@
-//! The laws on which undo, redo and strike rest, over the definitions of `balise_rules` alone: each is the contract of a function with no parameters and an empty body.
+//! The laws of undo, redo and strike, over the definitions of `balise_rules` alone. Each law is the contract of a
+//! function with no parameters and an empty body.
 #![tactic(auto)]
 
 ghost use Rattle.balise_strike_laws.specs.Headline.{Headline, SessionsPromised};
@@ -24,12 +25,15 @@ pub fn commute_behind()
     ensures { CommutingBehind }
 {}
 
-/// A strike of an edit of which all later ones are independent is one change: the others, anchored as it was where they stand after it, stand and note what they noted; taking it back gives what they make, and doing it again gives what all make.
+/// If all later edits are independent of an edit, its strike is one change. The other edits stand and note what they
+/// noted; those that stand after the edit get its anchor. Taking it back gives what the others make, and doing it again
+/// gives what all make.
 pub fn strike_under()
     ensures { StrikingUnder }
 {}
 
-/// The law of a strike in the words of a session: the edit of a serial, the entries after it, the edits of other serials with their anchors, and its own place among them.
+/// The law of a strike in the words of a session: the edit of a serial, the entries after it, the edits of other
+/// serials with their anchors, and its own place among them.
 pub fn strike_in_session()
     ensures { StrikingHere }
 {}
@@ -44,7 +48,8 @@ pub fn redo_in_session()
     ensures { RedoingHere }
 {}
 
-/// A plan and three edits for which the premises of these laws hold: edits that are apart, a pair that isn't, and one that stands after another.
+/// A plan and three edits that fulfil the premises of these laws: edits that are apart, a pair that isn't, and one that
+/// stands after another.
 pub fn witnessed()
     ensures { HasExample }
 {}

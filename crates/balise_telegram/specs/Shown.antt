@@ -95,7 +95,7 @@ pub record Gap (y : Telegram) (i at w u : ℕ) : Type 0 where
 abbrev pub IsPlace : Telegram → Place → Type 0
 IsPlace y p = (p.index ≤ length y.packets) × (p.at + 8 ≡ used (take p.index y.packets))
 
--- A packet stands between two places, and there is a place to which it goes.
+-- A packet stands between two places, and goes to a third place.
 pub record Goes (y : Telegram) (tag : Tag) (x : Packet) (from after to : Place) (u : ℕ) : Type 0 where
   pub found : Some from.index ≡ position (λ (q : Tag × Packet). same_tag tag q.0) y.packets
   pub packet : (z : Tag × Packet) → slice_get y.packets from.index ≡ Some z → x ≡ z.1

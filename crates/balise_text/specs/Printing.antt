@@ -47,7 +47,7 @@ digit_fill n = (4 - n % 4) % 4
 abbrev pub filled : List Bool → List Bool
 filled b = b ++ zeros (digit_fill (length b))
 
--- the digits of bits, of which the last one alone is filled
+-- the digits of bits; only the last digit is filled
 abbrev pub fours_of : List Bool → Text
 fours_of b = digits_in (filled b)
 

@@ -8,7 +8,7 @@ ghost use Rattle.balise_telegram.specs.Shown.{IsPlace, IsShown, Passes};
 
 use balise_layout::{Bits, may_have_elements};
 
-/// A place before a packet, or before packet 255: how many packets stand before it, and the bit at which it is.
+/// A place before a packet, or before packet 255: the number of packets before it, and its bit.
 #[derive(Clone, Copy)]
 pub(crate) struct Place {
     pub(crate) index: usize,

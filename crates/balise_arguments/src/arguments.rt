@@ -21,7 +21,7 @@ const USAGE: &str = "baliseplan [OPTIONS]";
 const AFTER_OPTIONS: &str =
     "Commands, one a line after the line 'edits':{n}  set, seth, insert, delete, move, add, drop, renumber, turn, undo, redo, strike{n}{n}Status:{n}  0   all commands accepted{n}  1   a command refused{n}  2   the plan refused{n}  3   a line too long, too little memory, or a read or write that failed{n}  64  an unknown argument, or one given twice{n}{n}The words of each command, the formats and the refusals: man baliseplan, or docs/FORMATS.md";
 
-// What help says of each argument.
+// The help's text for each argument.
 const QUIET: &str = "Print no reply to a command that is accepted";
 
 const STOP: &str = "Do no command after the first that is refused";

@@ -24,7 +24,7 @@ pub fn plain_command<'a>(
         .after_help(after_options)
 }
 
-/// An argument `--NAME` that takes no value, with what help says of it.
+/// An argument `--NAME` that takes no value, with its text in the help.
 pub fn flag<'a>(alloc: Global, name: &'a str, help: &'a str) -> Arg<'a>
     ensures rule { rule_of result ≡ flag_rule name.entry.now }
     ensures local { result.global ≡ false }

@@ -1,11 +1,12 @@
-//! Why words ask for nothing.
+//! Why a program refuses the words of its command line.
 
 ghost use Rattle.balise_arguments.specs.Faults.{IsFor};
 
 use clap::Error;
 use clap::error::ErrorKind;
 
-/// Why words ask for nothing that a program does. Its `Display` is the text for the user, with a line feed at its end.
+/// Why a program refuses the words of its command line. Its `Display` is the text for the user, with a line feed at its
+/// end.
 #[derive(Debug, Drop, thiserror::Error)]
 pub enum ArgsFault {
     /// Help was asked for. The text is for standard output, and nothing is wrong.

@@ -95,7 +95,8 @@ abbrev pub RefusedOr : Read → ℕ → Refusal → (Phase → Type 0) → Type 
 RefusedOr (Bad n r) k q next = (k ≡ n) × (q ≡ r)
 RefusedOr (Good p) k q next = next p
 
--- From this phase, where line n comes next, a line of the plan or the journal is refused, or the lines end before the commands: this is said of line k.
+-- From this phase, where line n comes next, a line of the plan or the journal is refused, or the lines end before the
+-- commands. The refusal names line k.
 abbrev pub Refuses : Asked → Phase → ℕ → List Line → ℕ → Refusal → Type 0
 Refuses asked p n [] k r = at_end asked p n ≡ after_read (Bad k r)
 Refuses asked p n (line ∷ lines) k r = RefusedOr (read_line p n line.bytes) k r (λ q. Refuses asked q (n + 1) lines k r)

@@ -52,7 +52,8 @@ pub record RanToFault (asked : Asked) (had has old new : Option Text) (read read
   pub full : e ≡ fault.WriteFault → DidLines asked had has old new (FailsToWrite asked has)
   pub begun : WritesBeginning asked had old new
 
--- all that is said of how a run ended, by what the reader had and has, what was written before and since, and how many calls had failed and have
+-- All that is stated about how a run ended: by what the reader had and has, what was written before and since, and the
+-- number of calls that had failed and have.
 abbrev pub Ran : Asked → (had has old new : Option Text) → (read reads written writes : ℕ) → Result Status RunFault → Type 0
 Ran asked had has old new read reads written writes result = MatchResult result (RanToEnd asked had has old new read reads written writes) (RanToFault asked had has old new read reads written writes)
 

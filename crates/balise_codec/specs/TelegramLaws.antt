@@ -44,6 +44,6 @@ AreExplained (v ∷ vs) (x ∷ xs) = (v.values.items ≡ given (unplaced x.field
 AreExplained [] (x ∷ xs) = ⊥
 AreExplained (v ∷ vs) [] = ⊥
 
--- What is spelt is explained as the same fields.
+-- The bits that fields are encoded as are explained as the same fields.
 abbrev pub SpeltIsExplained : Type 0
 SpeltIsExplained = (head : Fields) (values : List PacketValues) (rest b : List Bool) (y : Telegram) (x : TelegramFields) → IsOf head values rest b y → Explains b y x → (x.header.items ≡ placed 0 head) × AreExplained values x.packets.items × (x.padding ≡ rest)

@@ -9,13 +9,13 @@ pub fn fitting_is_spelt()
     ensures { FittingIsSpelt }
 {}
 
-/// What is explained of a telegram is spelt as its bits, padding included: they are of its own fields, and no others are.
+/// The explained fields of a telegram encode its bits, padding included. They encode no other bits.
 pub fn explained_is_spelt()
     ensures own { ReadIsOf }
     ensures one { OneTelegram }
 {}
 
-/// What is spelt is explained as the same fields.
+/// The bits that fields are encoded as are explained as the same fields.
 pub fn spelt_is_explained()
     ensures { SpeltIsExplained }
 {}

@@ -1,5 +1,5 @@
-//! For tests: readers and writers that give and take little and fail when told, whether memory may run out, and the
-//! words of a command line.
+//! For tests: readers and writers that read or write few bytes a call and fail at a chosen call, whether memory may run
+//! out, and the words of a command line.
 #![tactic(auto)]
 
 mod memory;

@@ -1,5 +1,6 @@
-//! Laws of the balise plan: an edit taken back leaves the plan as it was, an accepted edit keeps a plan sound, and an edit is refused exactly where it isn't accepted.
-//! Each is the contract of a function that does nothing: the definitions alone give it.
+//! Laws of the balise plan: an edit taken back leaves the plan as it was, an accepted edit keeps a plan sound, and an
+//! edit is refused exactly where it isn't accepted. Each is the contract of a function that does nothing: it follows
+//! from the definitions alone.
 #![tactic(auto)]
 
 ghost use Rattle.balise_edit_laws.specs.Along.{KeptAlong, TakenBackAlong};
@@ -19,7 +20,7 @@ pub fn taken_back()
     ensures { TakenBack }
 {}
 
-/// Taking back asks nothing that doesn't hold of the plan that the edit made, so it is never refused.
+/// All conditions of taking an edit back hold of the plan that the edit made, so it is never refused.
 pub fn goes_back()
     ensures { GoesBack }
 {}
@@ -29,7 +30,7 @@ pub fn kept()
     ensures { Kept }
 {}
 
-/// A packet to be inserted stays spelt for its telegram whatever other edit is done, and was so before it.
+/// A packet to be inserted stays well-formed for its telegram whatever other edit is done, and was so before it.
 pub fn spelt_kept()
     ensures { SpeltKept }
 {}
@@ -54,7 +55,8 @@ pub fn group_told()
     ensures { GroupTold }
 {}
 
-/// A command that isn't refused asks for an edit that is ready: accepted, and a packet to be inserted spelt.
+/// A command that isn't refused asks for an edit that is ready: it is accepted, and a packet to be inserted is
+/// well-formed.
 pub fn commands_ready()
     ensures { CommandsReady }
 {}

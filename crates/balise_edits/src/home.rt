@@ -1,4 +1,4 @@
-//! Where an edit lies: what is looked at first to tell that two edits are apart.
+//! Where an edit lies. This is compared first, since it mostly shows that two edits are apart.
 
 ghost use Rattle.std.specs.Prelude.{◌≡◌, cond};
 ghost use Rattle.balise_edits.specs.Edits.{edit_of};

@@ -1,4 +1,4 @@
-//! What a journal says of an entry.
+//! The line of a journal for an entry.
 
 ghost use Rattle.std.specs.Prelude.{◌≡◌, IfOk, IsOkUnless};
 ghost use Rattle.balise_rules.specs.Journal.{line_edit, line_of, noted_of, whole_bytes};
@@ -39,7 +39,7 @@ fn line_edit(alloc: Global, edit: &Edit) -> Result<LineEdit, Refusal>
 }
 
 impl Entry {
-    /// What its line says of the plan before its edit. Takes no memory.
+    /// What its line has noted of the plan before its edit. Takes no memory.
     pub fn noted(&self) -> Noted
         ensures { noted_in result ≡ noted_of self.now.0.1 self.now.1 }
     {

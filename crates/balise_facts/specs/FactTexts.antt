@@ -43,7 +43,7 @@ edit_if es (Some e) = edit_text es e
 abbrev pub one_text : ℕ → List Entry → Text
 one_text s es = edit_if es (find (λ (e : Entry). eqb s e.0.0) es)
 
--- what is told of a session, after a first line
+-- the facts of a session, after a first line
 abbrev pub told : Facts → State → Text
 told Edits s = edits_text (entries s.base s.standing)
 told (Edit n) s = one_text n (entries s.base s.standing)

@@ -16,7 +16,7 @@ const ABOUT: &str =
 // Without this, clap prints the name of the file that was run, and doesn't say that only one of the two may be given.
 const USAGE: &str = "balisefacts [--edit <N> | --tags]";
 
-// What help says of the arguments.
+// The help's text for the arguments.
 const EDIT: &str = "Print the facts of one edit";
 
 const TAGS: &str = "Print the tags of groups, telegrams and packets instead";

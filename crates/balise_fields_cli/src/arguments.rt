@@ -16,7 +16,7 @@ const ABOUT: &str =
 // Without this, clap prints the name of the file that was run.
 const USAGE: &str = "balisefields [OPTIONS]";
 
-// What help says of the argument.
+// The help's text for the argument.
 const SPELL: &str = "Read fields, and print the digits of each telegram and packet";
 
 // The exit statuses, and where all formats are described.

@@ -11,7 +11,7 @@ use balise_text::RunFault;
 use std::alloc::Global;
 use std::io::{Read, Write};
 
-/// Writes what the input is explained as, or what it is spelt as.
+/// Writes the fields that the input's digits encode, or the digits of the input's fields.
 pub fn run<R: Read, W: Write>(
     alloc: Global,
     way: Way,

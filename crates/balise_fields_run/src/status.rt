@@ -1,9 +1,9 @@
-//! How a run that came to its end ended.
+//! The status of a run of digits or fields: whether some item was refused.
 
 ghost use Rattle.std.specs.Prelude.{◌≡◌};
 ghost use Rattle.balise_fields_run.specs.Statuses.{code_of, status_of};
 
-/// How a run ended: all was explained or spelt, or some item was refused.
+/// How a run ended: all was explained or encoded, or some item was refused.
 #[derive(Clone, Copy, Debug, PartialEq, Eq)]
 pub enum Status {
     AllDone,

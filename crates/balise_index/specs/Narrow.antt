@@ -19,7 +19,7 @@ abbrev pub is_wide : Option Narrow → Id → Bool
 is_wide None q = false
 is_wide (Some n) q = same_id (wide n) q
 
--- what a cell says of an identity, if the slot that it names has it
+-- the slot that a cell names, if that slot has the identity
 abbrev pub right_cell : List Narrow → Option ℕ → Id → Option ℕ
 right_cell ns None q = None
 right_cell ns (Some i) q = cond (is_wide (slice_get ns i) q) (Some i) None

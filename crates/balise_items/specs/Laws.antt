@@ -55,11 +55,11 @@ with_lines n i (l ∷ ls) = with_lines (n + 1) (with_line n l i) ls
 abbrev pub item_of : ℕ → FieldLine → List FieldLine → GivenItem
 item_of n l ls = with_lines (n + 1) (begun n l) ls
 
--- What a telegram is explained as is spelt as its bits, padding included.
+-- The fields that a telegram is explained as are encoded as its bits, padding included.
 abbrev pub TelegramIsSpelt : Type 0
 TelegramIsSpelt = (n end : ℕ) (b : List Bool) (y : Telegram) → read_telegram b ≡ Ok y → spelling_of end (item_of n (line.Telegram (Some (length b))) (telegram_lines b y)) ≡ spelling.Telegram b
 
--- What a packet is explained as is spelt as its bits.
+-- The fields that a packet is explained as are encoded as its bits.
 abbrev pub PacketIsSpelt : Type 0
 PacketIsSpelt = (n end version : ℕ) (p : Packet) → IsSpelt version p → spelling_of end (item_of n (line.Alone (Some version)) (packet_lines p)) ≡ spelling.Packet version (bits_of p)
 
@@ -95,7 +95,7 @@ TelegramIsPrinted = (b : List Bool) (y : Telegram) (t : TelegramFields) → read
 abbrev pub PacketIsPrinted : Type 0
 PacketIsPrinted = (version : ℕ) (p : Packet) (x : PacketFields) → version ≤ most_number → IsSpelt version p → IsPlaced 0 p x → Printed (alone_line version ++ in_packet x) (line.Alone (Some version) ∷ packet_lines p)
 
--- ---- what is spelt
+-- ---- what is encoded
 
 -- the sections after the header
 abbrev pub after_head : List Given → Given → List Given
@@ -121,10 +121,10 @@ pub record IsGivenTelegram (i : GivenItem) (b : List Bool) (y : Telegram) : Type
   pub packets : AreGivenBy (version_of y) (after_head i.before i.last) y.packets
   pub padding : drop (used y.packets) b ≡ given_padding i.number (used y.packets) i.padding
 
--- What is spelt as a telegram is read as one with the same fields.
+-- The bits that fields are encoded as are read as a telegram with the same fields.
 abbrev pub SpeltIsTelegram : Type 0
 SpeltIsTelegram = (end : ℕ) (i : GivenItem) (b : List Bool) → IsLength i.number → telegram_of end i ≡ Ok b → (y : Telegram) × IsGivenTelegram i b y
 
--- What is spelt as a packet is one with the same fields.
+-- The bits that fields are encoded as are a packet with the same fields.
 abbrev pub SpeltIsPacket : Type 0
 SpeltIsPacket = (version : ℕ) (s : Given) (b : List Bool) → packet_of version s ≡ Ok b → (p : Packet) × IsGivenBy version s.values s.rest p × (b ≡ bits_of p)

@@ -2,7 +2,7 @@
 
 ghost use Rattle.balise_items.specs.Laws.{PacketIsPrinted, PacketIsSpelt, SpeltIsPacket, SpeltIsTelegram, TelegramIsPrinted, TelegramIsSpelt};
 
-/// What is explained of a telegram or a packet is spelt as the same bits, padding included.
+/// The explained fields of a telegram or a packet are encoded as the same bits, padding included.
 pub fn explained_is_spelt()
     ensures telegram { TelegramIsSpelt }
     ensures packet { PacketIsSpelt }
@@ -14,7 +14,7 @@ pub fn printed_is_read()
     ensures packet { PacketIsPrinted }
 {}
 
-/// What is spelt is read as a telegram or a packet with the same fields.
+/// The bits that fields are encoded as are read as a telegram or a packet with the same fields.
 pub fn spelt_is_explained()
     ensures telegram { SpeltIsTelegram }
     ensures packet { SpeltIsPacket }

@@ -1,4 +1,5 @@
--- Going over the fields of bits by a form. Of each field the number of bits from it on, its variable and its value are told.
+-- Going over the fields of bits by a form. Each field is given as the number of bits from it on, its variable and its
+-- value.
 use Rattle.std.specs.Prelude.{ℕ, ◌-◌, List, [], ◌∷◌, ◌++◌, length, take, drop, Bool, Result, Ok, Err, nat_lt, if◌then◌else◌}
 use Rattle.balise_rules.specs.declared.variable.Var.{Var}
 use Rattle.balise_rules.specs.Variables.{width_of}

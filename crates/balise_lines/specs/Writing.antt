@@ -33,13 +33,13 @@ pub data Reason : Type 0 where
   NoneFailed : Reason
   Never : Reason
 
--- what it says of how many calls had failed before, and after it
+-- the number of failed calls before the reason and after it
 abbrev pub CountsFor : Reason → ℕ → ℕ → Type 0
 CountsFor LastFailed before after = after ≡ one_more before
 CountsFor NoneFailed before after = after ≡ before
 CountsFor Never before after = ⊥
 
--- what it says of what was still to be written: it only stops where something is
+-- what was still to be written: a writer stops early only if something was
 abbrev pub Leaves : Reason → List ℕ → Type 0
 Leaves LastFailed rest = rest ≢ []
 Leaves NoneFailed rest = rest ≢ []

@@ -35,7 +35,8 @@ Resolved =
     × Leads (FieldAddress (id 5 100) 0 0 NidTsr 1) (Err NoSuchVariable)
     × Leads (HeadAddress (id 5 100) 0 NidTsr) (Err NoSuchVariable)
 
--- The number 16383 is no group's; a header that disagrees is told first. Nine telegrams are too many, whatever they are.
+-- The number 16383 is no group's; a header that disagrees is refused first. Nine telegrams are too many, whatever they
+-- are.
 abbrev pub GroupsRefused : Type 0
 GroupsRefused =
     IsRefused (alone (codes "a1007f80bf" ++ (padded 21 ++ codes "c0"))) NumberReserved

@@ -9,18 +9,18 @@ use Rattle.balise_rules.specs.Tags.{Key, is_of}
 abbrev pub Fields : Type 0
 Fields = List (Key × ℕ)
 
--- the end, with any bits after it, or with none; what is never right; or a variable, whose value tells what follows
+-- the end, with any bits after it, or with none; what is never right; or a variable, whose value sets what follows
 pub data Form : Type 0 where
   done : Form
   shut : Form
   never : Form
   valued : Var → (ℕ → Form) → Form
 
--- a variable whose value tells nothing of what follows
+-- a variable whose value doesn't change what follows
 abbrev pub plain : Var → Form → Form
 plain v rest = valued v (λ _. rest)
 
--- a part, so many times
+-- a part, n times
 abbrev pub repeat : ℕ → (Form → Form) → Form → Form
 repeat zero part rest = rest
 repeat (suc n) part rest = part (repeat n part rest)

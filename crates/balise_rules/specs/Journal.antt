@@ -14,7 +14,8 @@ use Rattle.balise_rules.specs.Notes.{Note}
 use Rattle.balise_rules.specs.Paths.{Entry}
 use Rattle.balise_rules.specs.Session.{State, Removed, entries, put_back}
 
--- what a line says of the plan before its edit: nothing, an old value, an old number, or the old next neighbour of a packet or of a group (none: the end)
+-- what a line has noted of the plan before its edit: nothing, an old value, an old number, or the old next neighbour of
+-- a packet or of a group (none: the end)
 pub data Noted : Type 0 where
   Nothing : Noted
   Value : ℕ → Noted
@@ -22,7 +23,7 @@ pub data Noted : Type 0 where
   BeforePacket : Option Tag → Noted
   BeforeGroup : Option Tag → Noted
 
--- what the line of an edit says of its note
+-- what the line of an edit has of its note
 abbrev pub noted_of : Edit → Note → Noted
 noted_of (SetVar g t p v k n) m = Value m.old
 noted_of (SetHead g t v n) m = Value m.old

@@ -7,11 +7,11 @@ use Rattle.balise_rules.specs.Packet.{Packet, Spells, IsSpelt, bits_of, read_bod
 use Rattle.balise_rules.specs.Telegram.{Telegram, IsRead, shown, read_telegram}
 use Rattle.balise_rules.specs.Plan.{Group}
 
--- The bits of a packet have one spelling.
+-- Bits encode at most one packet.
 abbrev pub OneSpelling : Type 0
 OneSpelling = (version : ℕ) → (b : List Bool) → (p q : Packet) → Spells version b p → Spells version b q → p ≡ q
 
--- A packet is read exactly where the bits at the front spell it.
+-- A packet is read exactly where the bits at the front encode it.
 abbrev pub PacketsRead : Type 0
 PacketsRead = (version : ℕ) → (b : List Bool) → (p : Packet) → (behind : List Bool) → (read_body version b ≡ Ok (p, behind)) ↔ ((b ≡ bits_of p ++ behind) × IsSpelt version p)
 

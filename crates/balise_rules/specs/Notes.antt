@@ -1,4 +1,4 @@
--- What an edit notes of the plan before it is done, so that it can be taken back, and told from others.
+-- What an edit notes of the plan before it is done, so that it can be taken back and compared with others.
 use Rattle.std.specs.Prelude.{ℕ, cond, List, [], ◌∷◌, filter, Option, Some, None}
 use Rattle.balise_rules.specs.declared.variable.Var.{Var}
 use Rattle.balise_rules.specs.declared.variable.Var.TheVariants.{NidBg, QLinkorientation}

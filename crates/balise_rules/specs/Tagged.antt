@@ -1,4 +1,4 @@
--- Lists of items under keys: fields, packets, telegrams and groups. `same` tells whether two keys are one.
+-- Lists of items under keys: fields, packets, telegrams and groups. `same` is the test whether two keys are one.
 use Rattle.std.specs.Prelude.{◌≡◌, Bool, true, false, cond, List, [], ◌∷◌, ◌++◌, Option, Some, None, is_some}
 use Rattle.std.specs.Map.{lookup}
 

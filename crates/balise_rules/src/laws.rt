@@ -2,12 +2,12 @@
 
 ghost use Rattle.balise_rules.specs.Laws.{OneSpelling, PacketsRead, ShownAsRead, TagsKept, TelegramsRead};
 
-/// The bits of a packet have one spelling.
+/// Bits encode at most one packet.
 pub fn one_spelling()
     ensures { OneSpelling }
 {}
 
-/// A packet is read exactly where the bits at the front spell it.
+/// A packet is read exactly where the bits at the front encode it.
 pub fn packets_read()
     ensures { PacketsRead }
 {}

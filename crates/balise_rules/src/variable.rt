@@ -267,7 +267,7 @@ impl Var {
         }
     }
 
-    /// The variable of this name, in the standard's own spelling.
+    /// The variable of this name, written as in the standard.
     pub fn from_name(name: &str) -> Option<Var>
         ensures { result ≡ var_named name.now }
     {

@@ -1,4 +1,4 @@
--- What is printed for a word, and the digits of bits; and what a fault says of the writer of a text.
+-- What is printed for a word, and the digits of bits; and what a fault states about the writer of a text.
 use Rattle.std.specs.Prelude.{ℕ, ◌-◌, ◌%◌, ◌++◌, List, [], ◌∷◌, Bool, true, false, Option, None, Some, Result, MatchResult, length, decimal}
 use Rattle.balise_lines.specs.Writing.{CountsFor, LastFailed, Never, NoneFailed, Reason, WritesAll, WritesSome}
 use Rattle.balise_lines.specs.declared.counted.Counted.{Counted}

@@ -1,4 +1,4 @@
-//! The program with `--spell`: fields from standard input are spelt as digits.
+//! The program with `--spell`: fields from standard input are encoded as digits.
 #![tactic(auto)]
 
 use balise_fields_cli::Balisefields;

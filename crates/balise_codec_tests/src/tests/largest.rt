@@ -37,7 +37,7 @@ fn revocations(rt: &impl Abort, alloc: Global) -> Vec<PacketValues> {
     packets
 }
 
-// That it has all packets, and is spelt again as the same bits.
+// That it has all packets, and is encoded again as the same bits.
 fn check_full(rt: &impl Abort, bits: &Bits) {
     let telegram = explain_telegram(bits.allocator(), bits).expect(rt, "a telegram");
     assert!(rt; telegram.packets.len() == MOST);

@@ -1,4 +1,4 @@
-//! Packets spelt from their fields.
+//! Packets encoded from their fields.
 
 use balise_bits::Bits;
 use balise_codec::{Misfit, SpellFault, Var, spell_given, spell_packet, write_values};
@@ -49,7 +49,7 @@ pub(crate) fn first_bits(rt: &impl Abort, alloc: Global, digits: &str, len: usiz
     all.slice(0, len).expect(rt, "memory")
 }
 
-// Whether the values and the rest are spelt as these bits.
+// Whether the values and the rest are encoded as these bits.
 fn spells(rt: &impl Abort, values: &[(Var, u32)], rest: &Bits, bits: &Bits) -> bool {
     let alloc = bits.allocator();
     let packet = match spell_packet(alloc, 33, values, rest) {
@@ -78,7 +78,7 @@ fn an_unknown_packet_is_spelt_with_its_rest(rt: HostRuntime) {
     assert!(rt; spells(&rt, &OPAQUE_VALUES, &rest, &bits));
 }
 
-// What spelling packet 44 with so many bits after its fields answers.
+// What is answered if packet 44 is encoded with this number of bits after its fields.
 fn spelt_with(rt: &impl Abort, alloc: Global, count: usize) -> Option<SpellFault> {
     let mut rest = Bits::new(alloc);
     rest.push_zeros(count).expect(rt, "memory");

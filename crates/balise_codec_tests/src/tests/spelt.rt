@@ -24,7 +24,7 @@ fn packet_of(rt: &impl Abort, alloc: Global, values: &[(Var, u32)]) -> PacketVal
     }
 }
 
-// What spelling a telegram of these packets and so many bits after packet 255 answers.
+// What is answered if a telegram of these packets is encoded, with this number of bits after packet 255.
 fn fault_of(
     rt: &impl Abort,
     alloc: Global,

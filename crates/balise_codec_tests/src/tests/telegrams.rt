@@ -1,4 +1,4 @@
-//! Telegrams explained, and spelt again from what was explained.
+//! Telegrams explained, and encoded again from what was explained.
 
 use balise_bits::Bits;
 use balise_codec::{

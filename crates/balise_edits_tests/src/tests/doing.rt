@@ -118,7 +118,7 @@ fn check_changes(rt: &impl Abort, plan: &Plan)
     assert!(rt; plan.changes() < 1000);
 }
 
-// That the edit inserts no packet, or one that the telegram's version spells.
+// That the edit inserts no packet, or one that is well-formed in the telegram's version.
 fn check_spelt(rt: &impl Abort, plan: &Plan, edit: &Edit)
     ensures { Spelt (edit_of edit.now) plan.now.groups }
 {

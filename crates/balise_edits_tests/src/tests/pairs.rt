@@ -157,7 +157,7 @@ const REMOVALS_AND_NAMES: &[Row] = &[
 
 #[test]
 fn removals_and_names(rt: HostRuntime) {
-    // What the law says of every plan, seen on these.
+    // What the law states about every plan, seen on these.
     laws::commute();
     check_rows(&rt, rt.alloc(), REMOVALS_AND_NAMES);
 }

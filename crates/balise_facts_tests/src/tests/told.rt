@@ -1,4 +1,4 @@
-//! What is told of a session, after docs/FORMATS.md.
+//! The facts that are printed of a session, after docs/FORMATS.md.
 
 use crate::tests::sessions::{ask, session_of};
 use balise_facts::{Counted, Facts, Session, put_facts};

@@ -6,7 +6,7 @@ use balise_history::{Refusal, Session, Var};
 use std::alloc::Global;
 use std::process::Abort;
 
-/// These edits depend on the one of a serial, and no strike tells another first one.
+/// These edits depend on the one of a serial, and each refused strike names the first of them.
 fn check(rt: &impl Abort, session: &Session, serial: u32, due: &[u32]) {
     let serials = session.dependents(serial).expect(rt, "it stands");
     assert!(rt; serials.as_slice() == due);

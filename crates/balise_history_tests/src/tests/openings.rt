@@ -389,7 +389,7 @@ fn what_stood_behind_is_read_back(rt: HostRuntime) {
     check_read_back(&rt, alloc, &mut session_of(&rt, alloc, &[EMPTY]));
 }
 
-/// That a session's journal tells so many entries, and that they are lent, where all of them stand.
+/// That a session's journal has this number of entries, and that they are lent if all of them stand.
 fn check_told(rt: &impl Abort, session: &Session, count: usize, all_stand: bool) {
     assert!(rt; session.all_back().expect(rt, "memory").len() == count);
     match session.all_standing() {

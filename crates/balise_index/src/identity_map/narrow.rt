@@ -42,7 +42,7 @@ impl Narrow {
     }
 }
 
-/// What a cell says of an identity, if the slot that it names has it.
+/// The slot that a cell names, if that slot has the identity.
 pub(super) fn right_cell(ids: &Vec<Narrow>, cell: Option<u32>, id: Id) -> Option<u32>
     ensures { result ≡ right_cell ids.now.items cell id }
 {

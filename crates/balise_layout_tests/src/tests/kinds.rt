@@ -70,8 +70,8 @@ fn versions_know_their_packets(rt: HostRuntime) {
     }
 }
 
-// What the laws say of this packet: read again with other bits after it, it is the same, of the length in
-// L_PACKET and spelt, whatever Q_DIR is.
+// What the laws state about this packet: read again with other bits after it, it is the same, of the length in
+// L_PACKET and well-formed, whatever Q_DIR is.
 fn check_again(rt: &impl Abort, alloc: Global, packet: &mut Packet, version: u32) {
     for dir in 0..4 {
         packet.set_field(Var::QDir, 0, dir).expect(rt, "memory");
@@ -95,7 +95,7 @@ fn check_read(rt: &impl Abort, bits: &Bits, version: u32, width: usize, text: &s
     check_digits(rt, bits.allocator(), &again, text);
 }
 
-// Calls the laws of a layout, and sees what they say of a packet of it.
+// Calls the laws of a layout, and checks what they state about a packet of it.
 fn check_laws<R: Abort, L: Layout>(rt: &R, alloc: Global, digits: &str, version: u32) {
     is_steady::<L>();
     spelt_where_known::<L>();

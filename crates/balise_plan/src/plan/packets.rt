@@ -21,7 +21,8 @@ use balise_rules::{Refusal, Tag};
 use balise_telegram::{Packet, Telegram, TelegramFault};
 
 impl Plan {
-    /// Puts a packet into a telegram under a tag that is new there. The packet is spelt in the telegram's version.
+    /// Puts a packet into a telegram under a tag that is new there. The packet has to be well-formed in the telegram's
+    /// version.
     ///
     /// Refused in this order, and then all stays and the packet is handed back: `NoSuchGroup`, `NoSuchTelegram`,
     /// `NoSuchPacket` where the neighbour doesn't stand, `NoRoom` where the packet is wider than the room.

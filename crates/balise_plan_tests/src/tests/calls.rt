@@ -135,7 +135,7 @@ fn tells_groups(plan: &Plan) -> bool {
         & plan.group(NEW).is_none()
 }
 
-/// Whether a group of one telegram tells what it holds.
+/// Whether the calls of a group of one telegram return what it holds.
 fn tells_one(group: &Group, id: Id) -> bool {
     (group.identity() == id)
         & (group.count() == 1)
@@ -144,7 +144,7 @@ fn tells_one(group: &Group, id: Id) -> bool {
         & group.at(1).is_none()
 }
 
-/// Whether a group and its copy tell what they hold.
+/// Whether the calls of a group and of its copy return what they hold.
 fn tells_group(rt: &impl Abort, plan: &Plan) -> bool {
     match plan.group(SECOND) {
         Some(group) => tells_one(group, id(5, 101)) & copy_tells(rt, group, id(5, 101)),
@@ -186,7 +186,7 @@ fn tells_telegram(plan: &Plan) -> bool {
     }
 }
 
-/// That a plan of two groups, of which the second names the first, tells what it holds.
+/// That the calls of a plan of two groups return what it holds. The second group names the first.
 fn check_told(rt: &impl Abort, alloc: Global, plan: &Plan) {
     assert!(rt; tells_groups(plan));
     assert!(rt; tells_group(rt, plan));

@@ -300,8 +300,8 @@ fn shows_bits(rt: &impl Abort, telegram: &Telegram, bits: &Bits) -> bool {
     telegram.shown().expect(rt, "memory") == *bits
 }
 
-/// Whether a packet may be put into a telegram, where that stands: under a tag that is new there, in a version that
-/// spells it.
+/// Whether a packet may be put into a telegram, where that stands: under a tag that is new there, and well-formed in
+/// the telegram's version.
 fn may_put(plan: &Plan, g: GroupTag, t: u32, p: PacketTag, packet: &Packet) -> bool
     ensures new { IsTrue result → (y : Telegram) → telegram_at g t plan.now.groups ≡ Some y → find same_tag p y.packets ≡ None }
     ensures spelt { IsTrue result → (y : Telegram) → telegram_at g t plan.now.groups ≡ Some y → IsSpelt (version_of y) packet.now }
@@ -312,7 +312,7 @@ fn may_put(plan: &Plan, g: GroupTag, t: u32, p: PacketTag, packet: &Packet) -> b
     }
 }
 
-/// Whether the tag is new in the telegram and its version spells the packet.
+/// Whether the tag is new in the telegram and the packet is well-formed in its version.
 fn may_take(telegram: &Telegram, p: PacketTag, packet: &Packet) -> bool
     ensures new { IsTrue result → find same_tag p telegram.now.packets ≡ None }
     ensures spelt { IsTrue result → IsSpelt (version_of telegram.now) packet.now }

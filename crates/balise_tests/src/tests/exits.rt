@@ -48,7 +48,7 @@ fn each_status(rt: HostRuntime) {
     }
 }
 
-/// The fault of the run is told even where the output couldn't be flushed.
+/// The fault of the run is reported even if the output couldn't be flushed.
 #[test]
 fn each_fault(rt: HostRuntime) {
     for (fault, refusal) in FAULTS.iter() {

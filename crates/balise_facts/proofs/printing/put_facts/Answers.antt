@@ -1,4 +1,4 @@
--- The first line, and then what is told.
+-- The first line, and then the facts.
 use Rattle.balise_text.specs.Printing.{reason_of}
 use Rattle.balise_facts.proofs.Sequences.{begun_first, call_failed, done_next}
 use Rattle.balise_facts.proofs.printing.put_facts.Goals as goal

@@ -6,7 +6,7 @@ use std::alloc::Global;
 use std::io;
 use std::io::{BufRead, BufReader, BufWriter, Write};
 
-/// How many bits a telegram has that is written in so many digits.
+/// The number of bits of a telegram that is written in n digits.
 pub fn bits_in(digits: usize) -> Option<usize> {
     match digits {
         54 => Some(210),

@@ -7,7 +7,7 @@ use std::time::CpuClock;
 /// How often each call is made.
 const COUNT: u32 = 1_000_000;
 
-/// After so many packets the bits that they are written to are begun anew.
+/// The number of packets that are written one after another before the bits are emptied.
 const BATCH: u32 = 1_000;
 
 /// A packet in digits, a variable that is set in it and the occurrence, and two values that it is given in turn.

@@ -10,8 +10,8 @@ use balise_telegram::Bits;
 use std::io::{BufWriter, Read, Write};
 use std::{io, mem};
 
-/// Reads the groups of all lines into a plan: a line 'group' begins one, and lines that have as many digits as a telegram
-/// belong to it.
+/// Reads the groups of all lines into a plan. A line 'group' begins one, and the lines after it with a telegram's
+/// number of digits belong to it.
 pub(crate) fn read<R: Read>(plan: &mut Plan, reader: &mut Counted<R>) -> Result<()>
     requires { plan.old.changes ≡ 0 }
 {

@@ -8,7 +8,7 @@ use std::alloc::Global;
 use std::io;
 use std::io::{BufWriter, Read, Write};
 
-/// The telegrams of all lines that have as many digits as one. Other lines are written as they are.
+/// The telegrams of all lines that have a telegram's number of digits. Other lines are written as they are.
 fn hold<R: Read, W: Write>(
     alloc: Global,
     reader: &mut Counted<R>,

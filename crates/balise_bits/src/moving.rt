@@ -9,7 +9,7 @@ use crate::places::{WIDEST, number_at, put_number_at, put_part_at};
 /// How many bits are moved at once. The bytes that they lie in fit a buffer of 128.
 const AT_ONCE: usize = 1016;
 
-/// Up to so many bits, numbers are moved faster than whole bytes: by instructions, four numbers cost less.
+/// Up to this number of bits, four numbers take fewer instructions to move than whole bytes.
 const FEW: usize = 228;
 
 // How many bits of a part are moved at once. As bytes they go faster only where none of them has to be shifted.

@@ -12,7 +12,7 @@ ends_within (Err OutOfMemory) = Err OutOfMemory
 ends_within (Err ReadFault) = Err OutOfMemory
 ends_within (Err WriteFault) = Err OutOfMemory
 
--- how many bytes it hands over of so many
+-- the number of bytes that it hands over, if n are printed
 abbrev pub count_within : {S : Type 0} → Result S RunFault → ℕ → ℕ
 count_within (Ok status) n = n
 count_within (Err InputTooLong) n = n

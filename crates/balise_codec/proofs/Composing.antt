@@ -1,4 +1,4 @@
--- The bits of a header, of packets and of a padding are a telegram's, if there are as many as a telegram has.
+-- The bits of a header, of packets and of a padding are a telegram's, if their number is that of a telegram.
 use Rattle.std.proofs.Common.{◌≡◌, ◌∙◌, ℕ, zero, suc, ◌+◌, ◌^◌, ◌<◌, List, [], ◌∷◌, ◌++◌, Bool, true, false, IsTrue, cond, All, length, take, drop, get_or, slice_get, Some, None, Result, Ok, Err, refl, sym, ap, subst, append_assoc, length-append, arith}
 use Rattle.std.specs.Result.{IfErr, IsErr, IsErrAnd}
 use Rattle.std.proofs.lemmas.Bool.{lt-ltb, ltb-true}

@@ -17,8 +17,8 @@ head n = valued NidPacket (λ k. if k == 0 || k == 255 then never else plain QDi
 abbrev pub HeadStops : List Bool → ℕ → Reach → Type 0
 HeadStops b at r = (left : List Bool) × Stopped (head (length b)) [] b (all_keyed r.fields.items) left r.due × (r.at + length left ≡ at + length b)
 
--- The packet that is read at a place; or the fields before its fault, where it stands, and what was due: in the first three
--- fields, or after them in as many bits as L_PACKET says.
+-- The packet that is read at a place; or the fields before its fault, where it stands, and what was due. The fault is
+-- in the first three fields, or after them in the bits that L_PACKET counts.
 abbrev pub Tells : ℕ → List Bool → ℕ → Option Reach → Type 0
 Tells version b at None = (p : Packet) × (after : List Bool) × (read_first version b ≡ Ok (p, after))
 Tells version b at (Some r) = ((e : Refusal) × (read_first version b ≡ Err e)) × (HeadStops b at r ⊎ ((number : ℕ) × (size : ℕ) × Bounded b number size × Reaches version (take size b) (at + size) (Some r)))

@@ -43,7 +43,7 @@ pub record FailsAt (version : ℕ) (packets : List PacketValues) (i : ℕ) (e : 
   pub none : (p : Packet) → SpeltBy version values.values.items values.rest p → ⊥
   pub reason : e ≡ fault_of (first_misfit version values.values.items) (size_of values.values.items values.rest)
 
--- the packets have their values, and the telegram so many bits
+-- the packets have their values, and they and the padding have n bits
 abbrev pub Takes : ℕ → List PacketValues → List Bool → ℕ → Type 0
 Takes version packets padding n = (ps : List (Tag × Packet)) × AreSpelt version packets ps × (n ≡ used ps + length padding)
 

@@ -107,7 +107,7 @@ pub fn explain_packets(
     Ok((packets, stop))
 }
 
-// The fields of as many packets as stand there.
+// The fields of the packets that stand there, up to packet 255 or the first fault.
 fn packets_to(
     alloc: Global,
     bits: &Bits,

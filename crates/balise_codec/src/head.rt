@@ -52,7 +52,7 @@ fn head_fault(alloc: Global, bits: &Bits, at: usize) -> Result<Option<Reach>, La
     }
 }
 
-// Goes over the first three fields, where so many bits stand.
+// Goes over the first three fields. `count` bits stand from the first one on.
 #[tactic(auto, unfolding(crate::specs::Heads::head))]
 fn walk_head<W: Walk>(walker: &mut W, count: usize) -> Result<(), LayoutFault>
     ensures { Ends W.allocates W.run (head count) walker.old result walker.new }

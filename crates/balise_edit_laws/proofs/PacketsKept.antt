@@ -19,7 +19,7 @@ use Rattle.balise_rules.proofs.AllItems.{all-each, all-put, all-without, all-mov
 use Rattle.balise_rules.proofs.Used.{used-each, used-put, used-without, used-move, width_kept}
 use Rattle.balise_edit_laws.proofs.FieldsKept.{packet_kept}
 
--- the packets of a telegram of this version with so many bits
+-- the packets of a telegram of this version, with at most `most` bits
 pub record PacketsSound (version most : ℕ) (ps : List (Tag × Packet)) : Type 0 where
   pub tags : Distinct same_tag ps
   pub packets : All (λ p. IsSpelt version p.1) ps

@@ -10,7 +10,7 @@ use Rattle.balise_rules.specs.Packets.{packet, body, known_body, is_known, count
 use Rattle.balise_rules.proofs.Keys.{count-append, found_counted}
 use Rattle.balise_rules.proofs.Tests.{key_test, split_keys, split_on, var_test}
 
--- so many numbers are there already, each for an orientation that may follow
+-- d numbers are there already, each for an orientation that may follow
 abbrev Covered : ℕ → Form → Type 0
 Covered d done = Unit {0}
 Covered d shut = Unit {0}

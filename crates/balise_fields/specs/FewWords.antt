@@ -12,7 +12,7 @@ are_few (a ∷ b ∷ []) = true
 are_few (a ∷ b ∷ c ∷ d ∷ []) = true
 are_few _ = false
 
--- these are the words, or there are as many as none of the forms has
+-- these are the words, or their number is one that no form has
 abbrev pub AreFew : Few → List Word → Type 0
 AreFew Zero ws = ws ≡ []
 AreFew (One a) ws = ws ≡ a.now ∷ []

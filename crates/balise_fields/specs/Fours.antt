@@ -4,7 +4,7 @@ use Rattle.balise_rules.specs.Digits.{all_zero, digit_bits}
 use Rattle.balise_text.specs.Printing.{digit_fill}
 use Rattle.balise_text.specs.Texts.{Text}
 
--- the first n of the bits that there are, if as many digits as they need stand there and no bit after them is one
+-- the first n of the bits that there are, if just the digits that they need stand there and no bit after them is one
 abbrev pub first_of : ℕ → Option (List Bool) → Option (List Bool)
 first_of n None = None
 first_of n (Some b) = if length b == n + digit_fill n && all_zero (drop n b) then Some (take n b) else None

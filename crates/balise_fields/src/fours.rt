@@ -24,7 +24,7 @@ fn digits(alloc: Global, text: &[u8]) -> Result<Option<Bits>, FieldsFault>
     Ok(Some(bits))
 }
 
-/// The `len` bits of a text of digits: as many digits as they need, and zeros in the bits after the last.
+/// The `len` bits of a text of digits. It has just the digits that they need, and zeros in the bits after the last.
 pub fn read_fours(alloc: Global, len: u32, text: &[u8]) -> Result<Option<Bits>, FieldsFault>
     ensures { IfOk result (λ b. b ≡ bits_in len text.now) }
 {

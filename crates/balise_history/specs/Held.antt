@@ -19,7 +19,7 @@ pub record Edited : Type 0 where
   pub serial : ℕ
   pub changes : ℕ
 
--- a session's state of that, after so many commands
+-- a session's state of that, after n commands
 abbrev pub state_at : ℕ → Edited → State
 state_at n e = record { base = e.base; standing = e.standing; stack = e.stack; serial = e.serial; count = n }
 

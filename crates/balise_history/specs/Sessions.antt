@@ -12,7 +12,8 @@ pub record Seen : Type 0 where
 abbrev pub seen_at : ℕ → Edited → Seen
 seen_at count e = record { state = state_at count e; changes = e.changes }
 
--- The numbers stay in their bounds: so many commands are counted, and a journal has at most 4,000,000,000 entries, each done and perhaps struck.
+-- The numbers stay in their bounds: `count` commands are counted, and a journal has at most 4,000,000,000 entries, each
+-- done and perhaps struck.
 pub record IsWithin (e : Edited) (count : ℕ) : Type 0 where
   pub few : count ≤ 1000000
   pub serials : e.serial ≤ 4000000000 + count
@@ -22,7 +23,7 @@ abbrev pub reply_of : {A : Type 0} → (A → Reply) → Result A Refusal → Re
 reply_of reply (Ok a) = reply a
 reply_of reply (Err r) = Refused r
 
--- as many changes as commands were accepted
+-- each accepted command is one change
 abbrev pub ChangesOnce : Seen → Seen → Type 0
 ChangesOnce s t = t.changes + s.state.count ≡ s.changes + t.state.count
 

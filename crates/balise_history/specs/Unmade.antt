@@ -1,4 +1,4 @@
--- What holds on the way that commands lead, and where as many edits are undone as were done.
+-- What holds on the way that commands lead, and after all edits that were done are undone.
 use Rattle.std.specs.Prelude.{◌≡◌, ◌⊎◌, ◌<◌, ℕ, zero, suc, List, [], ◌∷◌, length}
 use Rattle.balise_rules.specs.declared.refusal.Refusal.{Refusal}
 use Rattle.balise_rules.specs.declared.refusal.Refusal.TheVariants.{OutOfMemory, Worn}
@@ -24,7 +24,7 @@ abbrev pub AllDone : List Command → State → State → Type 0
 AllDone [] s t = t ≡ s
 AllDone (c ∷ cs) s t = (u : State) × ((n : ℕ) × (Answers (Ask c) s (Done n) u × AllDone cs u t))
 
--- so many undos were accepted, one after another
+-- this number of undos was accepted, one after another
 abbrev pub AllUndone : ℕ → State → State → Type 0
 AllUndone zero s t = t ≡ s
 AllUndone (suc k) s t = (u : State) × ((n : ℕ) × (Answers Undo s (Undone n) u × AllUndone k u t))

@@ -20,8 +20,8 @@ pub fn promised_on_the_way()
     ensures { PromisedOnTheWay }
 {}
 
-/// Edits of a plan that are all accepted, and then as many accepted undos, give that plan with nothing standing. Each
-/// of these undos is refused only as `Worn` or `OutOfMemory`.
+/// After n accepted edits of a plan, n accepted undos give that plan with nothing standing. Each of these undos is
+/// refused only as `Worn` or `OutOfMemory`.
 pub fn edits_undone()
     ensures { EditsUndone }
 {}

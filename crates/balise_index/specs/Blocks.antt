@@ -7,7 +7,7 @@ abbrev pub flat : List Block → List ℕ
 flat [] = []
 flat (b ∷ bs) = b.codes.items ++ flat bs
 
--- each block begins where those before it end, and has room for as many codes as a block may have
+-- each block begins where those before it end, and has room for all codes that a block may have
 abbrev pub Laid : ℕ → List Block → Type 0
 Laid n [] = Unit {0}
 Laid n (b ∷ bs) = (b.start ≡ n) × (length b.codes.items ≤ 512) × (512 ≤ vec_capacity b.codes) × Laid (n + length b.codes.items) bs

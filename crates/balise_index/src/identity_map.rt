@@ -87,8 +87,8 @@ impl<V> IdentityMap<V> {
 
 impl<V: Drop> IdentityMap<V> {
     /// Puts a value in under an identity that has none. Leaves all as before if an allocation fails, if the country is
-    /// above 1,023 or the number above 16,383, and at 4,294,967,295 identities. No telegram has such an identity, and no
-    /// plan so many: the standard has 10 and 14 bits for them.
+    /// above 1,023 or the number above 16,383, and at 4,294,967,295 identities. No plan comes to this: the standard has
+    /// 10 bits for a country and 14 for a number.
     #[inline(always)]
     pub fn insert(&mut self, id: Id, value: V) -> Result<(), AllocError>
         requires { indexed self.old id ≡ None }

@@ -9,8 +9,8 @@ use balise_rules::Tag;
 /// The first code of a tag `Base`. Those before it are the serials that an edit may have.
 const FIRST_BASE: u32 = 4001000001;
 
-/// The first code of a tag that has none of its own: no plan has so many groups, and no edit so high a serial. It says where
-/// the tag stands in a list of such tags.
+/// The first code of the tags that have no code of their own. Their number of a group, or their serial, is higher than
+/// any that a plan or an edit has. Such a code states where the tag stands in a list of these tags.
 const FIRST_RARE: u32 = 4294000000;
 
 /// How many tags such a list has at most.

@@ -49,7 +49,7 @@ is_another (Some l) p n w i = let k : l ≢ n = (λ e. i (e ∙ sym w)) in grind
 
 -- ---- a packet that is spelt
 
--- its values fit, and are so many bits
+-- its values fit, and have its number of bits
 pub record Fitting (version : ℕ) (s : Given) (vs : Values) (p : Packet) : Type 0 where
   pub fit : first_misfit version vs ≡ None
   pub bits : bits_of p ≡ written vs s.rest (size_of vs s.rest)

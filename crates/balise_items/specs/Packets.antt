@@ -32,7 +32,7 @@ are_some (b ∷ bs) = true
 abbrev pub are_left : ℕ → Values → List Bool → Bool
 are_left version vs rest = is_known version (front_value vs) && are_some rest
 
--- the bits of values that fit, which are so many with L_PACKET
+-- the bits of values that fit: n bits with L_PACKET
 abbrev pub bits_sized : ℕ → Given → Values → ℕ → Result (List Bool) Bad
 bits_sized version s vs n =
     if not (nat_lt n 8192) then Err (bad s.line TooLong)

@@ -18,7 +18,7 @@ use Rattle.balise_layout.specs.Held.{before, further}
 use Rattle.balise_layout.proofs.Walks.{fits_is}
 use Rattle.balise_rules.proofs.Found as rules
 
--- a field that stands after so many bits
+-- a field that stands after d bits
 pub record Standing (v : Var) (k : ℕ) (fs : Fields) (raw : List Bool) (d : ℕ) : Type 0 where
   pub value : ℕ
   pub is : field_of v k fs ≡ Some value

@@ -46,7 +46,7 @@ key_other v k f h = rw (test-sym var_test v f.0.0 ∙ h) refl
 count-same : (v : Var) (seen : Fields) (f : Key × ℕ) → same_var f.0.0 v ≡ false → count_of v (seen ++ f ∷ []) ≡ count_of v seen
 count-same v seen f h = count-other v seen f (test-sym var_test v f.0.0 ∙ h)
 
--- a search that skips so many goes on after those that were counted
+-- a search that skips some fields goes on after those that were counted
 pub search_from : (v : Var) (skip total : ℕ) (seen fs : Fields) → NumberedFrom seen fs → (kept look (searching v skip) total fs).found ≡ left_from total (before (v, count_of v seen + skip) fs)
 search_from v skip total seen [] m = refl
 search_from v zero total seen (f ∷ fs) m = here (same_var f.0.0 v) refl (λ h. search_from v zero (total - width_of f.0.0) (seen ++ f ∷ []) fs m.1)

@@ -16,7 +16,7 @@ link s left v n =
     else if same_var v NidBg then (s.0, take most_elements (s.1 ++ record { country = s.0; number = n } ∷ []))
     else s
 
--- so many elements are few
+-- the most elements that count as few
 abbrev pub few : ℕ
 few = 4
 

@@ -20,7 +20,7 @@ pub(crate) trait Repeated {
         ensures { Reads W.allocates W.run form walker.old result walker.new };
 }
 
-/// N_ITER and as many parts.
+/// N_ITER, and N_ITER parts after it.
 #[tactic(auto, unfolding(balise_rules::specs::Packets::counted), using(crate::proofs::Walks::repeat_next, crate::proofs::Walks::repeat_last))]
 pub(crate) fn walk_counted<P: Repeated, W: Walk>(walker: &mut W) -> Result<(), LayoutFault>
     ensures { Reads W.allocates W.run (counted P.form) walker.old result walker.new }

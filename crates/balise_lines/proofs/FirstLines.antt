@@ -31,7 +31,7 @@ lines_of-open (x ∷ xs) none =
     subst (All (λ (line : Line). line.is_ended ≡ false)) (sym (lines_of-unended (x ∷ xs) none (omega arith)))
     (All-cons (λ (line : Line). line.is_ended ≡ false) (unended (x ∷ xs)) [] refl (All-nil (λ (line : Line). line.is_ended ≡ false)))
 
--- the first line has at least so many bytes
+-- the first line has at least n bytes
 pub record BeginsLong (n : ℕ) (all : List Line) : Type 0 where
   pub line : Line
   pub lines : List Line

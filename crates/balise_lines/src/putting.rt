@@ -6,7 +6,7 @@ use crate::counted::Counted;
 use crate::fault::WriteFault;
 use std::io::Write;
 
-/// Writes all of the text, in as many calls as the writer takes.
+/// Writes all of the text. The writer may take several calls for that.
 ///
 /// Where a call fails, also one that was only interrupted, what was written is a beginning of the text.
 pub fn put<W: Write>(writer: &mut Counted<W>, text: &[u8]) -> Result<(), WriteFault>

@@ -64,14 +64,14 @@ packets_found (suc most) version n b r h =
 
 -- The header: each variable in turn, so that it is read from any 50 bits.
 
--- A form of variables alone, of so many bits.
+-- A form of variables alone, of n bits.
 abbrev pub Fixed : Form → ℕ → Type 0
 Fixed done n = n ≡ 0
 Fixed shut n = n ≡ 0
 Fixed never n = ⊥
 Fixed (valued v next) n = (width_of v ≤ n) × ((x : ℕ) → Fixed (next x) (n - width_of v))
 
--- what is read of such a form, where just so many bits stand
+-- what is read of such a form, where just its bits stand
 record FixedRead (form : Form) (seen : Fields) (b : List Bool) : Type 0 where
   fields : Fields
   is : read_form form seen b ≡ Some (fields, [])

@@ -71,7 +71,7 @@ NothingNamed =
     × (and_then (plan_of (alone linking_100)) (λ plan. Ok (links_to (id 5 100) plan)) ≡ Ok ((Base 0, 0, Base 0, 0) ∷ []))
     × (and_then (plan_of (alone not_named)) (λ plan. Ok (links_to (id 5 16383) plan)) ≡ Ok [])
 
--- what commands give where so many were accepted
+-- what commands give after n commands were accepted
 abbrev pub after_many : ℕ → List (List Text) → List Call → Result (List Reply × List (List Text)) Refusal
 after_many n groups calls = and_then (plan_of groups) (λ plan. Ok (seen (answer_all calls (record (opened plan) { count = n }))))
 

@@ -83,7 +83,7 @@ abbrev pub anchor_at : {A : Type 0} → ℕ → List (Tag × A) → Option (Opti
 anchor_at zero xs = Some None
 anchor_at {A} (suc n) xs = option_map (λ (y : Tag × A). Some y.0) (slice_get xs n)
 
--- The packet in a word of digits: as many bytes as its L_PACKET needs, and zeros in the bits after it.
+-- The packet in a word of digits. They are just the bytes that its L_PACKET needs, with zeros in the bits after it.
 unfoldable pub packet_in : ℕ → List Bool → Result Packet Refusal
 packet_in version b =
     if nat_lt (length b) 8 then Err PacketCut

@@ -25,7 +25,7 @@ ones n = replicate n true
 abbrev pub zeros : ℕ → List Bool
 zeros n = replicate n false
 
--- the bits from a place on, so many
+-- n bits from a place on
 abbrev pub part : ℕ → ℕ → List Bool → List Bool
 part at n b = take n (drop at b)
 

@@ -10,12 +10,12 @@ use Rattle.balise_rules.specs.Session.{State, Call, Reply, opened, held, answer_
 abbrev pub Text : Type 0
 Text = List ℕ
 
--- a text, so many times
+-- a text, n times
 abbrev pub times : ℕ → Text → Text
 times zero t = []
 times (suc n) t = t ++ times n t
 
--- `ff` so many times
+-- `ff`, n times
 abbrev pub padded : ℕ → Text
 padded n = times n (codes "ff")
 

@@ -1,5 +1,5 @@
 -- Where a packet and its fields stand among the bits that a telegram shows.
--- From going over so many packets.
+-- From going over some packets.
 use Rattle.std.proofs.Common.{◌≡◌, ◌∙◌, ℕ, zero, suc, ◌+◌, ◌<◌, ◌≤◌, Bool, false, cond, List, [], ◌∷◌, length, drop, take, get_or, Some, None, Ok, refl, sym, ap, length-append, arith}
 use Rattle.std.proofs.lemmas.List.{length-drop}
 use Rattle.std.proofs.lemmas.Option.{slice_get-get_or}

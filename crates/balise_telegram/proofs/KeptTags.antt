@@ -66,7 +66,7 @@ from_tags tag n (p ∷ ps) = ap (cond (same_tag tag p.0) (Some n)) (from_tags ta
 pub position-tags : (tag : Tag) (ps : Packets) → position (same_tag tag) (tags_of ps) ≡ position (is_tagged tag) ps
 position-tags tag ps = position_from-zero (same_tag tag) (tags_of ps) ∙ from_tags tag 0 ps ∙ sym (position_from-zero (is_tagged tag) ps)
 
--- the tags of so many packets that were read
+-- the tags of a number of packets that were read
 abbrev pub base_tags : ℕ → ℕ → List Tag
 base_tags n zero = []
 base_tags n (suc k) = Base n ∷ base_tags (suc n) k

@@ -40,7 +40,7 @@ once_below : (from to m : ℕ) (ps : Packets) → from < length ps → to ≤ le
 once_below from to m ps h k (inl o) = let size = length-remove ps from h in let a = o.0 in let e = o.1 in omega (arith, size, a, e, k)
 once_below from to m ps h k (inr o) = let size = length-remove ps from h in let a = o.0 in let e = o.1 in omega (arith, size, a, e, h)
 
--- where the place is once the packet of w bits is out: before it as it was, after it so many bits nearer
+-- where the place is once the packet of w bits is out: before it as it was, after it w bits nearer
 abbrev pub Nearer : ℕ → Place → Place → ℕ → Type 0
 Nearer from to now w = ((from < to.index) × (to.index ≡ suc now.index) × (now.at ≡ to.at - w)) ⊎ ((to.index ≤ from) × (now ≡ to))
 
@@ -64,7 +64,7 @@ far ps from w to now x h is at wide (inr n) =
     let same = used-below ps from to.index h n.0 in
     subst (λ (p : Place). p.at + 8 ≡ used (take p.index (remove ps from))) (sym n.1) (at ∙ sym same)
 
--- before a place after the packet stand at least as many bits as the packet has
+-- before a place after the packet stand at least the packet's bits
 pub wide_below : (y : Telegram) (tag : Tag) (p q to : Place) (u : ℕ) (t : Standing y tag p q u) → p.index < to.index → IsPlace y to → q.at - p.at ≤ to.at
 wide_below y tag p q to u t h is =
     let one : to.index ≡ suc (to.index - 1) = omega (arith, h) in

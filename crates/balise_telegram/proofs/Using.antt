@@ -20,7 +20,7 @@ pub least_used : (ps : List (Tag × Packet)) → 58 ≤ used ps
 least_used [] = omega arith
 least_used (p ∷ ps) = let h = least_used ps in omega (arith, h)
 
--- the bits that packets take once one is taken out: before its place as many as before, after it fewer by its own
+-- the bits that packets take once one is taken out: before its place unchanged, after it fewer by its own
 pub used-below : (ps : List (Tag × Packet)) (i t : ℕ) → i < length ps → t ≤ i → used (take t (remove ps i)) ≡ used (take t ps)
 used-below [] i t h l = absurd (omega (arith, h))
 used-below (y ∷ ys) i zero h l = refl

@@ -1,5 +1,5 @@
 -- Going over the packets of the bits that a telegram shows.
--- From what is shown, cut after so many packets.
+-- From what is shown, cut after some packets.
 use Rattle.std.proofs.Common.{◌≡◌, ◌∙◌, ℕ, ◌+◌, ◌*◌, ◌<◌, ◌≤◌, Bool, false, eqb, List, [], ◌∷◌, ◌++◌, length, take, drop, get_or, slice_get, Some, Ok, option_map, refl, sym, ap, subst, append_assoc, length-append, arith}
 use Rattle.std.specs.Prelude.{All}
 use Rattle.std.proofs.lemmas.List.{drop_at, drop-drop, take-append-drop, take_all, length-drop, length-take-le, get_or-drop}
@@ -145,7 +145,7 @@ too_short b y n at s e short = by (drop n y.packets) refl
 
 -- ---- the walk
 
--- so many packets are gone over
+-- n packets are gone over
 pub record Walked (b : List Bool) (most n at : ℕ) : Type 0 where
   pub asked : n ≤ most
   pub place : (y : Telegram) → IsShown b y → (n ≤ length y.packets) × (at + 8 ≡ used (take n y.packets))
@@ -202,7 +202,7 @@ lent_at b y i at version s h place v =
 
 -- ---- places
 
--- the place that was gone to is as asked, where so many packets stand
+-- the place that was gone to is as asked, if there are that many packets
 pub passed_to : (y : Telegram) (most : ℕ) (p : Place) → Passes y.packets most p.index p.at → IsPlace y p
 passed_to y most p passes = (omega (arith, passes.counted), passes.place)
 

@@ -71,7 +71,7 @@ pub record StandsFor (b : List Bool) (k : Kept) (y : Telegram) : Type 0 where
   pub shown : IsShown b y
   pub kept : IsKept k y
 
--- n packets are gone over, at most as many as asked, and after them the next one, or packet 255, stands at a place.
+-- n packets are gone over, at most `most`. After them the next one, or packet 255, stands at a place.
 pub record Passes (ps : List (Tag × Packet)) (most n at : ℕ) : Type 0 where
   pub counted : n ≡ min most (length ps)
   pub place : at + 8 ≡ used (take n ps)

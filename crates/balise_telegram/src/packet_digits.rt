@@ -6,8 +6,8 @@ ghost use Rattle.balise_rules.specs.Addresses.{packet_in};
 use balise_layout::{Bits, Packet};
 use balise_rules::Refusal;
 
-/// The packet in the bits of digits by themselves, for a telegram of this M_VERSION: as many bytes as its L_PACKET needs,
-/// and zeros after it (SUBSET-026, 7.4.2 and 7.5.1).
+/// The packet in the bits of digits by themselves, for a telegram of this M_VERSION. The digits are just the bytes that
+/// its L_PACKET needs, with zeros after it (SUBSET-026, 7.4.2 and 7.5.1).
 ///
 /// Refused in this order: `PacketCut` where fewer than 8 bits are there, `PacketZero`, `LayoutMismatch` for packet 255,
 /// `PacketCut`, `BadLength`, `SpareBits`, `LayoutMismatch`. `OutOfMemory` may stand in place of any answer.

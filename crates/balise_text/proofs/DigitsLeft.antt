@@ -18,7 +18,7 @@ length_left b n at = length-drop at (b ++ zeros n) ∙ ap (λ (k : ℕ). k - at)
 part_front : (x y : List Bool) (at w : ℕ) → at + w ≤ length x → part at w (x ++ y) ≡ part at w x
 part_front x y at w h = ap (take w) (drop-append-le at x y (omega (arith, h))) ∙ take-append-le w (drop at x) y (omega (arith, h, length-drop at x))
 
--- as many zeros as are needed make the value that any more make
+-- the zeros that are needed make the value that any more make
 same_value : (b : List Bool) (at w n : ℕ) → n ≤ w → at + w ≤ length b + n → value_at at w b ≡ num (part at w (b ++ zeros n))
 same_value b at w n few h =
     let sum : n + (w - n) ≡ w = omega (arith, few) in

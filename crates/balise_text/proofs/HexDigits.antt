@@ -90,7 +90,7 @@ pub zeros_zero : (n : ℕ) → all_zero (zeros n) ≡ true
 zeros_zero zero = refl
 zeros_zero (suc n) = zeros_zero n
 
--- as many bits as are due
+-- the bits that are due are read
 pub due_read : (b : List Bool) → read_hex (length b) (hex_of b) ≡ Ok b
 due_read b =
     let z = zeros (fill (length b)) in

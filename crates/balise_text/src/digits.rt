@@ -9,7 +9,7 @@ use balise_commands::Bits;
 use balise_lines::{Counted, WriteFault, put};
 use std::io::Write;
 
-// The value of so many bits from a place on, where zeros stand after the last bit.
+// The value of the `width` bits from a place on. Zeros stand after the last bit.
 fn value_at(bits: &Bits, at: usize, width: u32) -> u8
     requires within { at < length bits.now }
     requires narrow { width ≤ 8 }

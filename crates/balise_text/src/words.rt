@@ -98,7 +98,7 @@ impl<'a> Words<'a> {
         Some((number, self.after(len)))
     }
 
-    // What follows the part that comes next, of so many bytes.
+    // What follows the next part, which has `len` bytes.
     #[inline(always)]
     fn after(self, len: usize) -> Words<'a>
         requires part { len ≡ length (up_to self.mark self.text.now) }

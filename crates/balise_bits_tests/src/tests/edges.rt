@@ -32,7 +32,7 @@ fn slices_are_cut_at_the_edges(rt: HostRuntime) {
     }
 }
 
-// A slice of all bits of a store that has fewer than eight bytes, or just as many.
+// A slice of all bits of a store that has eight bytes or fewer.
 #[test]
 fn small_stores_are_cut(rt: HostRuntime) {
     for len in 0..70 {
@@ -92,7 +92,7 @@ fn parts_are_put_at_the_edges(rt: HostRuntime) {
     }
 }
 
-// Stores of fewer than eight bytes, and of just as many, on one side or on both.
+// Stores of eight bytes or fewer, on one side or on both.
 #[test]
 fn parts_of_small_stores_are_put(rt: HostRuntime) {
     let long = ones(&rt, rt.alloc(), 100);

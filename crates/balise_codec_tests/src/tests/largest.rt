@@ -1,4 +1,4 @@
-//! A telegram of 830 bits with as many packets 66 as it holds.
+//! A telegram of 830 bits, full of packets 66.
 
 use crate::tests::telegrams::{ONE_PACKET, bits_of, header_of, spelt_again};
 use balise_bits::Bits;

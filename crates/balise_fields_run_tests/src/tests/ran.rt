@@ -19,7 +19,7 @@ pub(crate) fn texts_of<'a>(way: Way, input: &'a str, output: &'a str) -> Texts<'
     Texts { way, input, output }
 }
 
-/// Runs by reads of so many bytes, and checks what is printed and the status.
+/// Runs by reads of `step` bytes, and checks what is printed and the status.
 pub(crate) fn check(rt: &impl Abort, alloc: Global, texts: &Texts, step: usize, status: Status) {
     let mut reader = Slow::new(texts.input.as_bytes(), step);
     let mut writer = Counted::new(Vec::new(alloc));

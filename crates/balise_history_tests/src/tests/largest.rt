@@ -30,14 +30,14 @@ fn is_worn(session: &mut Session) -> bool {
         && matches!(session.strike(2_000_000), Err(Refusal::Worn))
 }
 
-/// Does so many edits, under serials from 1.
+/// Does `count` edits, under serials from 1.
 fn edit_often(rt: &impl Abort, session: &mut Session, count: u32) {
     for i in 0..count {
         assert!(rt; session.edit(counted(i % 255)) == Ok(i + 1));
     }
 }
 
-/// Undoes so many edits, the last one first.
+/// Undoes `count` edits, the last one first.
 fn undo_each(rt: &impl Abort, session: &mut Session, count: u32) {
     for i in 0..count {
         assert!(rt; session.undo() == Ok(count - i));
@@ -69,7 +69,7 @@ fn a_million_edits(rt: HostRuntime) {
     check_dependents(&rt, &session);
 }
 
-/// That so many edits are undone, the last one done first.
+/// That `count` edits are undone, the last one done first.
 fn check_undone(rt: &impl Abort, undone: &Vec<u32>, count: usize, first: u32) {
     assert!(rt; undone.len() == count);
     assert!(rt; undone.first().copied() == Some(first));
@@ -132,7 +132,7 @@ fn show_the_same(rt: &impl Abort, one: &Session, other: &Session) -> bool {
     shown(rt, one) == shown(rt, other)
 }
 
-/// Redoes so many edits, the first one first.
+/// Redoes `count` edits, the first one first.
 fn redo_each(rt: &impl Abort, session: &mut Session, count: u32) {
     for i in 0..count {
         assert!(rt; session.redo() == Ok(i + 1));

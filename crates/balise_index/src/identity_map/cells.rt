@@ -60,7 +60,7 @@ impl Cells {
         }
     }
 
-    /// Notes the slot of an identity that is put in after so many others. If an allocation fails, the others' cells stay.
+    /// Notes slot `i` of an identity that is put in after `i` others. If an allocation fails, the cells of the others stay.
     pub(super) fn note(&mut self, id: Id, i: u32) -> Result<(), AllocError>
         ensures kept { KeepsOthers (cell_of self.old) (cell_of self.new) id }
         ensures noted { OnOk result (cell_of self.new id ≡ Some i) }

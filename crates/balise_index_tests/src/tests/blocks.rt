@@ -116,7 +116,7 @@ fn thousands_of_values_stand_in_order(rt: HostRuntime) {
     check_thousands(&rt, &mut Both::new(rt.alloc()));
 }
 
-/// Takes so many values out all over, and puts none in.
+/// Takes `count` values out all over, and puts none in.
 fn take_all_over(rt: &impl Abort, both: &mut Both, count: usize) {
     let mut i: usize = 7;
     for _ in 0..count {

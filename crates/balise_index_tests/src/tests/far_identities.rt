@@ -6,7 +6,7 @@ use balise_rules::Id;
 use std::alloc::Global;
 use std::process::Abort;
 
-/// A map whose rows have as many cells as they may have for one identity. What comes next is far, unless its number is
+/// A map whose rows have all cells that they may have for one identity. What comes next is far, unless its number is
 /// small.
 fn map_of_full_rows(rt: &impl Abort, alloc: Global) -> IdentityMap<u32> {
     let mut map = IdentityMap::new(alloc);
@@ -70,7 +70,7 @@ impl Series {
     }
 }
 
-/// Puts so many values in, and finds each.
+/// Puts `count` values in, and finds each.
 fn put_all(rt: &impl Abort, map: &mut IdentityMap<u32>, series: Series, count: u32) {
     for n in 0..count {
         assert!(rt; put(map, series.nth(n), n));

@@ -89,7 +89,7 @@ fn serial(k: u32, step: u32, count: u32) -> u32 {
     k.wrapping_mul(step) % count
 }
 
-/// Puts so many places in, in one order, and takes them out in another one.
+/// Puts `count` places in, in one order, and takes them out in another one.
 fn check_orders(rt: &impl Abort, alloc: Global, count: u32, into: u32, out: u32) {
     let mut both = Both::new(alloc);
     for k in 0..count {

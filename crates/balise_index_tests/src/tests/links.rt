@@ -99,7 +99,7 @@ fn put_first(rt: &impl Abort, alloc: Global, links: &mut Links, count: u32, lowe
     }
 }
 
-/// That a set of so many places has them, and no other one.
+/// That a set of `count` places has them, and no other one.
 fn check_size(rt: &impl Abort, alloc: Global, count: u32, lowest: u32) {
     let mut links = Links::new();
     put_first(rt, alloc, &mut links, count, lowest);

@@ -36,7 +36,7 @@ fn is_doubled(map: &OrderedMap<u32>, count: u32) -> bool {
     same
 }
 
-/// Puts values in one by one, up to so many, and returns how many there was memory for.
+/// Puts at most `count` values in, one by one, and returns how many there was memory for.
 fn put_up_to(map: &mut OrderedMap<u32>, count: u32) -> u32 {
     for n in 0..count {
         if !put(map, n as usize, Tag::Base(n), n.wrapping_mul(2)) {
@@ -46,7 +46,7 @@ fn put_up_to(map: &mut OrderedMap<u32>, count: u32) -> u32 {
     count
 }
 
-/// Puts values in one by one, each before all others, up to so many, and returns how many there was memory for.
+/// Puts at most `count` values in, each before all others, and returns how many there was memory for.
 fn put_first_up_to(map: &mut OrderedMap<u32>, count: u32) -> u32 {
     for n in 0..count {
         if !put(map, 0, Tag::Base(n), n.wrapping_mul(2)) {
@@ -144,7 +144,7 @@ fn nth_far(n: u32) -> Id {
     id(n, 16382)
 }
 
-/// Whether exactly so many first identities have twice their serials as values.
+/// Whether exactly the first `held` identities have twice their serials as values.
 fn has_far(map: &IdentityMap<u32>, held: u32, count: u32) -> bool {
     let mut same = true;
     for n in 0..count {
@@ -233,7 +233,7 @@ fn a_set_takes_places_with_ample_memory(rt: HostRuntime) {
     fill_links(&rt, rt.alloc(), Memory::Ample);
 }
 
-/// Gives up to so many groups an identity each, and returns how many there was memory for.
+/// Gives at most `count` groups an identity each, and returns how many there was memory for.
 fn tags_up_to(index: &mut NameIndex, count: u32) -> u32 {
     for n in 0..count {
         if index.set_tag(id(7, n), Tag::Base(n)).is_err() {

@@ -100,7 +100,7 @@ fn an_identity_is_claimed_once(rt: HostRuntime) {
     check_claims(&rt, rt.alloc());
 }
 
-/// Moves so many names from one identity to another that a group has.
+/// Moves `count` names from one identity to another that a group has.
 fn check_moved(rt: &impl Abort, alloc: Global, count: u32) {
     let (from, to) = (id(9, 1), id(9, 2));
     if from == to {

@@ -52,7 +52,7 @@ const NAMED: [(u32, u32); 18] = [
     (511, 15301),
 ];
 
-// That the packet has so many bits and fields, whose values one after another are its digits.
+// That the packet has these numbers of bits and fields, and that the fields' values one after another are its digits.
 fn check_spelling(
     rt: &impl Abort,
     alloc: Global,

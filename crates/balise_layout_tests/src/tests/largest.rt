@@ -46,7 +46,7 @@ fn push_element(rt: &impl Abort, bits: &mut Bits, k: u32)
     );
 }
 
-// A packet 5 of so many elements: 1 to 32.
+// A packet 5 of `count` elements: 1 to 32.
 fn linking(rt: &impl Abort, alloc: Global, count: u32) -> Bits {
     assert!(rt; (1 <= count) & (count <= 32));
     let mut bits = Bits::new(alloc);
@@ -84,7 +84,7 @@ fn check_elements(rt: &impl Abort, elements: &Elements) {
     assert!(rt; last.map(|id| id.number) == Some(15501));
 }
 
-// That the packet is read with so many fields, and lent with the same.
+// That the packet is read with `count` fields, and lent with the same.
 fn check_count(rt: &impl Abort, packet: &Packet, count: usize) {
     assert!(rt; packet.fields().expect(rt, "memory").len() == count);
     assert!(rt; packet.lend().fields().expect(rt, "memory").len() == count);
@@ -127,7 +127,7 @@ fn a_packet_5_of_32_elements_is_read(rt: HostRuntime) {
     check_large(&rt, &bits, 197);
 }
 
-// A section with so many differences.
+// A section with this number of differences.
 fn push_section(rt: &impl Abort, bits: &mut Bits, differences: u32) {
     push(
         rt,

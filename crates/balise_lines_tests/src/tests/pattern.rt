@@ -4,7 +4,7 @@ use balise_lines::Counted;
 use std::io;
 use std::io::Read;
 
-/// Gives so many bytes: letters, and each of some distance a line feed.
+/// Gives a number of bytes: letters, and a line feed at each multiple of some distance.
 #[derive(Drop)]
 pub(crate) struct Pattern {
     rest: u64,

@@ -18,7 +18,7 @@ fn check_next(rt: &impl Abort, lines: &Lines, number: u64, place: u64) {
     assert!(rt; lines.place() == place);
 }
 
-/// The lines of a text by a reader that gives so many bytes at a time.
+/// The lines of a text by a reader that gives `step` bytes at a time.
 fn check_by(rt: &impl Abort, input: &[u8], want: &[&[u8]], last: Next, step: usize) {
     let mut reader = Slow::new(input, step);
     let mut lines = Lines::new();

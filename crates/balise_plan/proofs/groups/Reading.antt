@@ -110,7 +110,7 @@ parts n ys (Ok z) (Ok zs) h = (z, zs, refl, refl, sym (unok h))
 parts n ys (Ok z) (Err x) h = absurd cc
 parts n ys (Err x) s h = absurd cc
 
--- as many as there were
+-- the group that is read has the number of telegrams that there were
 same_length : (n : ℕ) (bs : List (List Bool)) (ys : Group) → read_telegrams n bs ≡ Ok ys → length ys ≡ length bs
 unfolding read_telegrams
 same_length n [] ys h = ap length (sym (unok h))

@@ -32,7 +32,7 @@ impl Plan {
     ///
     /// Refused as `Group::read` does, then `GroupTwice` where a group has its identity, and then all stays. `OutOfMemory`
     /// may stand in place of any answer. It is also the answer at 4,294,967,296 groups, which no tag counts; a plan has at
-    /// most 16,776,192, as many as there are identities (1,024 countries of 16,383 numbers).
+    /// most 16,776,192, one for each identity (1,024 countries of 16,383 numbers).
     pub fn push(&mut self, telegrams: Vec<Bits>) -> Result<(), Refusal>
         requires { self.old.changes ≡ 0 }
         ensures { Pushes telegrams.items self.old result self.new }

@@ -12,7 +12,7 @@ const ONE_OF_TWO: &str = "a1027f80a0327fffffffffffffffffffffffffffffffffffffffc0
 /// The number that no group has.
 const RESERVED: &str = "a1007f80bfffffffffffffffffffffffffffffffffffffffffffc0";
 
-/// Whether a telegram is read, with which there are so many.
+/// Whether a telegram is read, and then there are `count` telegrams.
 fn reads(reader: &mut GroupReader, bits: Bits, count: usize) -> bool {
     reader.push(bits).is_ok() & (reader.count() == count)
 }

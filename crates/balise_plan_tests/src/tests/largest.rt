@@ -122,7 +122,7 @@ fn renumbers_179_links_at_once(rt: HostRuntime) {
     read_nine(&rt, rt.alloc());
 }
 
-/// 5.100 with 33 packets 44 of 23 bits, as many as there is room for; 13 bits are left.
+/// 5.100 with 33 packets 44 of 23 bits. There is no room for more; 13 bits are left.
 const FULL: &str =
     "a1007f80a0324b100b9620172c402e58805cb100b9620172c402e58805cb100b9620172c402e58805cb100b9620172c402e58805cb100b9620172c402e58805cb100b9620172c402e58805cb100b9620172c402e58805cb100b9620172c402e58805cb100bfffffc";
 

@@ -46,7 +46,7 @@ fn answers(rt: &impl Abort, alloc: Global, plan: &Plan, found: &[(Id, LinkPlace)
     }
 }
 
-/// Whether so many links name an identity.
+/// Whether `count` links name an identity.
 pub(crate) fn names(rt: &impl Abort, alloc: Global, plan: &Plan, id: Id, count: usize) -> bool {
     match plan.links_to(id) {
         Some(links) => listed(rt, alloc, links).len() == count,

@@ -23,7 +23,7 @@ pub(crate) fn first() -> Place
     Place { index: 0, at: 50 }
 }
 
-/// The place after so many packets, or after the last where there are fewer.
+/// The place after `most` packets, or after the last one if there are fewer.
 pub(crate) fn walk(bits: &Bits, most: usize) -> Place
     requires { (y : Telegram) × IsShown bits.now y }
     ensures { (y : Telegram) → IsShown bits.now y → Passes y.packets most result.index result.at }

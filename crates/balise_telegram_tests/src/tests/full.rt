@@ -29,7 +29,7 @@ const SHORT_FILLED: &str = "a1007f80a0324b104c000000000000000000000000000000003f
 pub(crate) const LONG_FILLED: &str =
     "a1007f80a0324b118200000000000000000000000000000000000000000000000000000000000000000000000000000000000000000000000000000000000000000000000000000000000000000000000000000000000000000000000000000000000000000003fc";
 
-/// The bits of a packet 44, which isn't known, of so many bits: zeros after its first three fields.
+/// The `width` bits of a packet 44, which isn't known: zeros after its first three fields.
 fn opaque(rt: &impl Abort, alloc: Global, width: u32) -> Bits {
     let mut bits = Bits::from_hex(alloc, "2c40", 10).expect(rt, "digits");
     assert!(rt; width >= 23 && width < 8192);
@@ -43,7 +43,7 @@ fn taken(rt: &impl Abort, telegram: &mut Telegram, tag: PacketTag) -> Packet {
     telegram.take(tag).expect(rt, "a packet").0
 }
 
-/// Whether the telegram holds so many packets, and bits used and left of so many.
+/// Whether the telegram has these numbers of packets, of bits used, of bits left and of all bits.
 pub(crate) fn holds(
     telegram: &Telegram,
     count: usize,

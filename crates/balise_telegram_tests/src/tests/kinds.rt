@@ -107,7 +107,7 @@ fn names_the_packets_that_have_elements(rt: HostRuntime) {
 const ELEMENTS: &str =
     "a1007f80a0324151822001c00080220fbc1c2d143ebc061c25142effff951b0f1f4efffca84e3c000664bbb95190f1b5f313b633e8e7085508cbe003f4b2d4e2e8ca4e4abfd356edd773aa311e32cf5b6b416d6ec4e50cea7da5ec2df43b84128426fbffde2e57fc";
 
-/// The digits of a telegram, and what it holds: packets, and bits used and left of so many.
+/// The digits of a telegram, and what it holds: its numbers of packets, of bits used, of bits left and of all bits.
 type Row = (&'static str, usize, usize, usize, usize);
 
 const HELD: [Row; 5] = [

@@ -23,7 +23,7 @@ const TOO_LONG: Result<Status, RunFault> = Err(RunFault::InputTooLong);
 /// Two commands, of which the second undoes the first.
 const PART: &[u8] = b"seth 5.100 0 M_MCOUNT 7\nundo\n";
 
-/// That a run over this beginning and a line of so many letters prints this and ends so.
+/// That a run over this beginning and a line of this number of letters prints this and ends so.
 fn check_line(
     rt: &impl Abort,
     alloc: Global,
@@ -52,7 +52,7 @@ fn longest_line(rt: HostRuntime) {
     check_line(&rt, rt.alloc(), (journal, 4_097), TOO_LONG, b"");
 }
 
-/// That the two commands so many times print two lines each time, and end so.
+/// That the two commands, given `times` times, print two lines each time, and end so.
 fn check_lines(rt: &impl Abort, alloc: Global, times: u64, status: Status) {
     let mut reader = Repeated::new(GROUP, PART, times);
     let mut writer = Tally::new();
@@ -75,7 +75,7 @@ fn check_replies(rt: &impl Abort, text: &[u8], replies: &[u8]) {
     assert!(rt; text.ends_with(PLAN));
 }
 
-/// That the two commands so many times are answered with these replies, quietly.
+/// That the two commands, given `times` times, are answered with these replies, quietly.
 fn check_quiet(rt: &impl Abort, alloc: Global, times: u64, replies: &[u8]) {
     let mut writer = Counted::new(Vec::new(alloc));
     let answer = run_often(alloc, (GROUP, PART, times), &mut writer, QUIET);
@@ -129,7 +129,7 @@ fn a_thousand_edits_undone(rt: HostRuntime) {
     check_text(&rt, &writer, PLAN);
 }
 
-/// That a run over this beginning and 13,421,770 lines of five bytes ends so, after so many lines were written.
+/// That a run over this beginning and 13,421,770 lines of five bytes ends so, after this number of lines was written.
 fn check_input(
     rt: &impl Abort,
     alloc: Global,

@@ -32,7 +32,7 @@ const PUT_IN: &str =
 /// A run of lengths, from the first up to the last, all of them or each second one.
 type Lengths = (usize, usize, bool);
 
-/// What is printed, part by part, and how the run ends, where so many bytes are left of the input.
+/// What is printed, part by part, and how the run ends, if these numbers of bytes are left of the input.
 pub(crate) type Cut = (Lengths, &'static [&'static str], Status);
 
 /// In the first three lines of a plan, the last of which has a telegram of 210 bits.

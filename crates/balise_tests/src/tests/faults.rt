@@ -7,7 +7,7 @@ use std::alloc::Global;
 use std::io::ErrorKind;
 use std::process::Abort;
 
-/// An input with so many lines before its commands, what each command is answered, and what is printed after them.
+/// An input, its number of lines before the commands, the reply to each command, and what is printed after them.
 struct Case {
     flags: Flags,
     input: &'static [u8],
@@ -70,7 +70,7 @@ const CASES: [Case; 5] = [
 /// How many bytes a call gives or takes.
 const STEPS: &[usize] = &[1, 2, 3, 4096];
 
-/// What has been written where so many lines were read, and the input goes on.
+/// What has been written after `lines` lines were read, and the input goes on.
 fn written(rt: &impl Abort, alloc: Global, case: &Case, lines: usize) -> String {
     let mut text = String::new(alloc);
     for (i, answer) in case.answers.iter().enumerate() {
@@ -98,7 +98,7 @@ fn lines_in(bytes: &[u8]) -> usize {
     lines
 }
 
-/// Runs with reads of so many bytes, and returns how many there were.
+/// Runs with reads of `step` bytes, and returns the number of reads.
 fn reads_of(rt: &impl Abort, alloc: Global, case: &Case, step: usize) -> u64 {
     let mut reader = Slow::new(case.input, step);
     let mut writer = Counted::new(Vec::new(alloc));
@@ -108,7 +108,7 @@ fn reads_of(rt: &impl Abort, alloc: Global, case: &Case, step: usize) -> u64 {
     reader.inner().calls
 }
 
-/// Runs with writes of so many bytes, and returns how many there were.
+/// Runs with writes of `step` bytes, and returns the number of writes.
 fn writes_of(rt: &impl Abort, alloc: Global, case: &Case, step: usize) -> u64 {
     let mut writer = Narrow::new(alloc, step, 0, Failure::TakesNone);
     check_ended(rt, write(alloc, case, &mut writer), case.status);
@@ -135,7 +135,7 @@ fn lines_given(rt: &impl Abort, case: &Case, reader: &Counted<Slow>, call: u64) 
     lines_in(case.input.get(..given).unwrap_or(case.input))
 }
 
-/// That the replies to the commands of so many lines have been written, and nothing else.
+/// That the replies to the commands of this number of lines have been written, and nothing else.
 fn check_replies(
     rt: &impl Abort,
     alloc: Global,
@@ -147,7 +147,7 @@ fn check_replies(
     check_text(rt, writer, written(rt, alloc, case, lines).as_bytes());
 }
 
-/// Runs with reads of so many bytes, of which the one of a number fails so.
+/// Runs with reads of `step` bytes. Read number `call` fails so.
 fn fail_read(rt: &impl Abort, alloc: Global, case: &Case, step: usize, call: u64, kind: ErrorKind) {
     let mut reader = Slow::failing(case.input, step, call, kind);
     let mut writer = Counted::new(Vec::new(alloc));
@@ -185,7 +185,7 @@ fn check_beginning(rt: &impl Abort, writer: &Counted<Narrow>, whole: &[u8], call
     assert!(rt; whole.starts_with(text));
 }
 
-/// Runs with writes of so many bytes, of which the one of a number fails so.
+/// Runs with writes of `step` bytes. Write number `call` fails so.
 fn fail_write(
     rt: &impl Abort,
     alloc: Global,

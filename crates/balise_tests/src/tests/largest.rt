@@ -258,7 +258,7 @@ fn nine_telegrams(rt: HostRuntime) {
     }
 }
 
-/// A line with as many telegrams of 210 bits as it can have: 74.
+/// A line with the most telegrams of 210 bits that it can have: 74.
 #[test]
 fn a_line_of_telegrams(rt: HostRuntime) {
     let mut input = String::new(rt.alloc());

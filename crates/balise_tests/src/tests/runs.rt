@@ -32,7 +32,7 @@ pub(crate) struct Row<'a> {
     pub(crate) status: Status,
 }
 
-/// Runs over an input, by reads of so many bytes.
+/// Runs over an input, by reads of `step` bytes.
 pub(crate) fn check(rt: &impl Abort, alloc: Global, row: &Row, step: usize) {
     let mut writer = Counted::new(Vec::new(alloc));
     let ended = run_slowly(alloc, row, step, &mut writer);
@@ -77,7 +77,7 @@ pub(crate) fn check_text(rt: &impl Abort, writer: &Counted<Vec<u8>>, text: &[u8]
     assert!(rt; writer.inner().as_slice() == text);
 }
 
-/// Runs over a text and a part of it so many times.
+/// Runs over a text and over a part that is repeated.
 pub(crate) fn run_often(
     alloc: Global,
     text: (&[u8], &[u8], u64),

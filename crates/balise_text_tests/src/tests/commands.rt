@@ -255,7 +255,7 @@ fn are_all(telegrams: &[Bits], telegram: &Bits) -> bool {
     true
 }
 
-/// Whether so many telegrams are added at place 2, each with these bits.
+/// Whether `count` telegrams are added at place 2, each with these bits.
 fn is_add_of(answer: &Answer, telegram: &Bits, count: usize) -> bool {
     match edit(answer) {
         Some(Command::AddGroup { at: 2, telegrams }) => {

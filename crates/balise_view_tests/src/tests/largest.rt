@@ -52,7 +52,7 @@ fn push_telegram(rt: &impl Abort, alloc: Global, line: &mut String, pig: u32) {
     push(rt, line, "],\"q_link\":1,\"used\":817}");
 }
 
-/// Adds the view of a group of so many telegrams.
+/// Adds the view of a group of `count` telegrams.
 fn push_view(rt: &impl Abort, alloc: Global, line: &mut String, count: u32) {
     push(rt, line, "{\"country\":5,\"number\":100,\"telegrams\":[");
     for pig in 0..count {

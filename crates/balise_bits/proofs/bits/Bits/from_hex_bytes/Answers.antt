@@ -13,7 +13,7 @@ use Rattle.balise_bits.proofs.bits.Bits.from_hex_bytes.Goals.{After-div_ceil, Af
 whole : (c : After-div_ceil) → (length c.in_ok-bits.bits ≡ c.bits.inside.bytes.len) × (c.bits.inside.bytes.len ≡ 8 * length c.bits.inside.bytes.items)
 whole c = whole_len c.bits.inside.bytes.len c.bits.inside.bytes.items c.in_ok-bits.bits c.bits.invariant c.bits.view_is (whole_bytes c.args.text.now c.in_ok-bits.bits c.in_ok-bits.ensures.ok)
 
--- they are as many as fit in the bytes of `len` bits
+-- their number is that of the bits in the bytes of `len` bits
 due : (c : After-len) → (length c.in_ok-bits.bits ≡ c.args.len + fill c.args.len) × (c.bits.inside.bytes.len ≡ c.args.len + fill c.args.len)
 due c =
     let all = whole (goal.at.overflow_sub-spare c).After-div_ceil in
@@ -41,7 +41,7 @@ returns-then-number-ne0-clause-fault c =
     let d = due g.After-len in
     λ _. read_hex-spare c.args.len c.args.text.now c.in_ok-bits.bits c.in_ok-bits.ensures.ok d.0 (λ z. c.if-number-ne0.true (spare g.After-number d.1 ∙ z))
 
--- the bits that count are as many as `len`
+-- `len` bits count
 cut : (c : goal.After-set_spare) → c.set_spare.new.self.len ≡ c.args.len
 cut c = omega (arith, (due (goal.at.invariant_of-bits c).After-len).1, c.set_spare.ensures.len, c.len.ensures)
 

@@ -31,10 +31,8 @@ const JOURNAL: &str =
 
 const JSON: &str = "Print each group as one line of JSON after the plan";
 
-/// What the words ask for. The first is the program's name; each argument may be given once, in any order.
-///
-/// The fault is `Help` where clap is asked for it first, `Other` where a word isn't the program's, and `Memory` at any
-/// time.
+/// What the words ask for. The first is the program's name; each argument may be given once, in any order. Refused as
+/// `Help` where clap is asked for it first, as `Other` where a word isn't the program's, and as `Memory` at any time.
 pub fn flags<'a>(alloc: Global, words: &'a [&'a str]) -> Result<Flags, ArgsFault>
     ensures quiet { IfOk result (λ f. IsTrue f.quiet ↔ IsUsed (codes "quiet") (map (λ w. w.now) words.now)) }
     ensures stop { IfOk result (λ f. IsTrue f.stop ↔ IsUsed (codes "stop") (map (λ w. w.now) words.now)) }

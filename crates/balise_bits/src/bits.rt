@@ -14,10 +14,9 @@ use crate::store::{MOST, Store};
 use std::alloc::Global;
 use std::marker::Model;
 
-/// A list of bits, eight in a byte, the most significant first. The bits after the last one are zero.
-///
-/// A call that would make more than 2,305,843,009,213,693,951 bytes answers `OutOfMemory` and asks for none: a `usize`
-/// couldn't count their bits. No telegram or packet comes near it.
+/// A list of bits, eight in a byte, the most significant first. The bits after the last one are zero. A call that would
+/// make more than 2,305,843,009,213,693,951 bytes answers `OutOfMemory` and allocates nothing: a `usize` couldn't count
+/// their bits.
 #[derive(Drop)]
 pub struct Bits {
     bytes: Store,

@@ -6,10 +6,8 @@ use std::alloc::{AllocError, Global};
 use std::io;
 use std::io::Write;
 
-/// A text that takes no more bytes than it has room for.
-///
-/// It owns its bytes: `run` works for any writer, so its contract couldn't say that a writer still lends the slice
-/// that it was made of.
+/// A text that takes no more bytes than it has room for. It owns its bytes: `run` works for any writer, so its contract
+/// can't state that a writer still lends the slice that it was made of.
 #[derive(Drop)]
 pub(crate) struct OutputText {
     bytes: Vec<u8>,

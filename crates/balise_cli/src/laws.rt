@@ -7,12 +7,9 @@ pub fn one_output()
     ensures { OneOutput }
 {}
 
-/// For every input and whatever is asked for, a run that comes to its end prints one line for a plan or a journal that is
-/// refused, or a reply to each command, and then the plan that the session holds, or facts of it. After each command all
-/// holds that is promised: the plan is, bit for bit and padding included, what the standing edits alone, in order, make
-/// of the plan first read; each undo, redo and strike is taken back exactly by its counterpart; a strike is refused as
-/// dependent exactly where a later edit isn't independent; a refused command changes nothing; and the text of the
-/// journal is read back.
+/// A run that comes to its end prints one line for a refused plan or journal; or a reply to each command, and then the
+/// session's plan or facts. After each command the session is as `headline` of balise_history states, padding included,
+/// and the text of its journal is read back.
 pub fn prints_standing_edits()
     ensures { PrintsStandingEdits }
 {}

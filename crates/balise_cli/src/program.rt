@@ -17,10 +17,8 @@ use std::env::Args;
 use std::io;
 use std::io::{BufWriter, ErrorKind, Read, Write};
 
-/// Runs, and then flushes, also where a fault ended the run. States how the program ends after both.
-///
-/// It is for a program that ends after it: the system takes the session's memory back then, all at once. `run` gives it
-/// back.
+/// Runs, and then flushes, also where a fault ended the run. Returns how the program ends after both. It leaves the
+/// session's memory to the system, which frees it when the program ends; `run` frees it itself.
 pub fn work<R: Read, W: Write + Drop>(
     alloc: Global,
     asked: Asked,

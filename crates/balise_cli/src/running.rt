@@ -46,11 +46,9 @@ impl AtEnd {
     }
 }
 
-/// Reads a plan, perhaps its journal, and commands; answers each command before the next line is looked at; and writes
-/// the plan, and the journal and the view where they are asked for.
-///
-/// A fault leaves a beginning of the output for what was read; where the reader failed, it is all that the complete
-/// lines give.
+/// Reads a plan, perhaps its journal, and commands. Answers each command before it looks at the next line. Writes the
+/// plan, and the journal and the view where they are asked for. At a fault only a beginning of that output was written;
+/// if the reader failed, it is all that the complete lines give.
 pub fn run<R: Read, W: Write>(
     alloc: Global,
     reader: &mut Counted<R>,

@@ -30,9 +30,8 @@ const BOTH: &str = "the argument '--edit <N>' cannot be used with '--tags'";
 
 const NO_SERIAL: &str = "invalid value for '--edit <N>': a serial is a number from 0 to 4294967295";
 
-/// What the words ask for. The first is the program's name; `--edit` or `--tags` may be given, and only once.
-///
-/// The fault is `Help` where clap is asked for it first, `Other` where a word isn't the program's, and `Memory` at any
+/// What the words ask for. The first is the program's name; `--edit` or `--tags` may be given, and only once. Refused
+/// as `Help` where clap is asked for it first, as `Other` where a word isn't the program's, and as `Memory` at any
 /// time.
 pub(crate) fn check_words<'a>(alloc: Global, words: &'a [&'a str]) -> Result<Facts, ArgsFault>
     ensures { Asks (map (λ w. w.now) words.now) result }

@@ -23,10 +23,8 @@ const SPELL: &str = "Read fields, and print the digits of each telegram and pack
 const AFTER_OPTIONS: &str =
     "Status:{n}  0   nothing refused{n}  1   some item refused{n}  3   a line too long, too little memory, or a read or write that failed{n}  64  an unknown argument{n}{n}The formats: man balisefields, or docs/FIELDS.md";
 
-/// What the words ask for. The first is the program's name; `--spell` may be given once.
-///
-/// The fault is `Help` where clap is asked for it first, `Other` where a word isn't the program's, and `Memory` at any
-/// time.
+/// What the words ask for. The first is the program's name; `--spell` may be given once. Refused as `Help` where clap
+/// is asked for it first, as `Other` where a word isn't the program's, and as `Memory` at any time.
 pub(crate) fn check_words<'a>(alloc: Global, words: &'a [&'a str]) -> Result<Way, ArgsFault>
     ensures { Asks (map (λ w. w.now) words.now) result }
 {

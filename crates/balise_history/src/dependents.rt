@@ -14,10 +14,9 @@ use balise_edits::{Entry, apart, count_apart, independent, stands_behind};
 use balise_rules::Refusal;
 use std::alloc::Global;
 
-/// The serials of the later entries that stand after an entry, where all are independent of it; each is tested once, by
-/// the number of its home where that is enough.
-/// Refused as `DependsOn` with the serial of the first that isn't, or as `OutOfMemory`, which is met only where the
-/// entry's edit puts something in.
+/// The serials of the later entries that stand after an entry, if all are independent of it. Refused as `DependsOn`,
+/// with the serial of the first one that isn't; or as `OutOfMemory`, only if the entry's edit puts something in. Each
+/// entry is tested once, by its home's number where that is enough.
 pub(crate) fn serials_behind(
     alloc: Global,
     entry: &Entry,

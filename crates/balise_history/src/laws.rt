@@ -5,10 +5,9 @@ ghost use Rattle.balise_strike_laws.specs.Headline.{Headline, Promised};
 
 use crate::session::Session;
 
-/// For every plan and list of commands, the plan of a session is what the standing edits alone, in order, make of the
-/// plan first read; each undo, redo and strike is taken back exactly by its counterpart; a strike is refused as
-/// dependent exactly where a later edit isn't independent; a refused command changes nothing; and what is said as a
-/// journal is read back.
+/// After any commands, a session's plan is what the standing edits alone make of the plan first read. Undo, redo and
+/// strike are taken back exactly by their counterparts. A strike is refused as dependent exactly where a later edit
+/// isn't independent. A refused command changes nothing. The journal is read back as the session.
 pub fn headline()
     ensures { Headline }
 {

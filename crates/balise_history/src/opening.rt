@@ -53,12 +53,11 @@ impl Opening {
         })
     }
 
-    /// Does the edit of a line, where it fits: nothing was struck, its serial is above the last one and below the next, the
-    /// edit is accepted and notes what the line says.
+    /// Does the edit of a line that fits: nothing was struck, its serial is above the last one and below the next, the
+    /// edit is accepted and notes what the line has.
     ///
-    /// Refused as `JournalMismatch` or `OutOfMemory`. Then all is as before, with one exception: an edit that was accepted,
-    /// but noted something else than the line says, stays done. Memory may run out only where the line's serial may come
-    /// next.
+    /// Refused as `JournalMismatch` or `OutOfMemory`; then all stays, but an accepted edit that noted something else
+    /// stays done. Memory may run out only where the line's serial may come next.
     #[inline(always)]
     pub fn enter(&mut self, line: Line) -> Result<(), Refusal>
         ensures enters { EntersSeen (line_in line) self.old result self.new }

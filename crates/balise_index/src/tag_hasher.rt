@@ -12,10 +12,9 @@ pub(crate) type TagMap<V> = IndexMap<u32, V, BuildHasherDefault<TagHasher>>;
 /// What a code is multiplied by for the highest byte of its hash.
 const FACTOR: u64 = 0x9e37_79b1;
 
-/// Hashes a code to itself but for the highest byte, which differs for codes at one place. So tags one after another,
-/// as those of a plan that is read, are noted in a map at places one after another.
-///
-/// Whoever picks the tags can make their codes collide, as with the hasher that a map has otherwise: its seed is known.
+/// Hashes a code to itself but for the highest byte, which differs for codes at one place. So a plan's tags, which are
+/// read one after another, are noted in a map one after another. Whoever picks the tags can make codes collide; so can
+/// they with a map's usual hasher, whose seed is known.
 #[derive(Clone, Copy)]
 pub(crate) struct TagHasher {
     state: u64,

@@ -21,10 +21,8 @@ pub enum Next {
     End,
 }
 
-/// Reads lines of at most 4,096 bytes from an input of at most 67,108,864 bytes.
-///
-/// The line that was read last stands at the front of the array of its bytes. The next call drops it. Nothing is
-/// copied.
+/// Reads lines of at most 4,096 bytes from an input of at most 67,108,864 bytes. The line that was read last stands at
+/// the front of the array of its bytes. The next call drops it. Nothing is copied.
 #[derive(Drop)]
 pub struct Lines {
     buffer: LineBuffer,
@@ -116,12 +114,10 @@ impl Lines {
         Ok(())
     }
 
-    /// Reads the next line, if there is one.
+    /// Reads the next line, if there is one. Calls the reader only if what was read ahead doesn't show the line.
     ///
-    /// A fault is that the line is too long, or that a call of the reader failed, also one that was only
-    /// interrupted. No line is taken then, and the next call looks at the same place of the input again.
-    ///
-    /// The reader is called only where what was read ahead doesn't show the next line, and not once the end was seen.
+    /// A fault is a line that is too long, or a failed call of the reader, also one that was only interrupted. Then no
+    /// line is taken, and the next call looks at the same place of the input again.
     pub fn next<R: Read>(&mut self, reader: &mut Counted<R>) -> Result<Next, LineFault>
         requires over { OverAtEnd self.old (R.remaining reader.old.inner) }
         ensures over { OverAtEnd self.new (R.remaining reader.new.inner) }

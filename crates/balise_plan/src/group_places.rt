@@ -39,10 +39,9 @@ pub(crate) fn is_taken(index: &NameIndex, id: Id) -> bool
     index.tag(id).is_some()
 }
 
-/// Puts a group of this identity in at a place, under a tag that is new, and notes its identity and its links.
-///
-/// Refused, and then all stays and the group is handed back: `GroupTwice` where a group has its identity; and as
-/// `OutOfMemory` where none has.
+/// Puts a group of this identity in at a place, under a tag that is new, and notes its identity and its links. Refused
+/// as `GroupTwice` where a group has its identity, otherwise only as `OutOfMemory`. Then all stays and the group is
+/// returned.
 pub(crate) fn put_at(
     groups: &mut OrderedMap<Group>,
     index: &mut NameIndex,

@@ -47,9 +47,8 @@ impl GroupReader {
 
     /// Reads one telegram more.
     ///
-    /// Refused in this order: `GroupSize` for a telegram after the eighth, which isn't looked at, then as
-    /// `Telegram::of_bits` refuses.
-    /// `OutOfMemory` may stand in place of any answer but `GroupSize`. A refusal leaves the group as it was.
+    /// Refused in this order, and then all stays: `GroupSize` for a telegram after the eighth, which isn't looked at,
+    /// then as `Telegram::of_bits` refuses. `OutOfMemory` may stand in place of any answer but `GroupSize`.
     pub fn push(&mut self, bits: Bits) -> Result<(), Refusal>
         ensures { ReadsOn bits self.old result self.new }
     {

@@ -1,11 +1,9 @@
 //! A program over the system's own words and streams.
 
-/// Does what the command line asks a program for over standard input, standard output and standard error, and gives the
-/// exit code for `main` to return. `$rt` is the runtime that `main` is given, and `$program` the program.
+/// Runs a program over the system's command line and streams, and returns the exit code for `main`. `$rt` is the
+/// runtime that `main` is given, and `$program` the program. Input and output are buffered, up to 64 KiB each.
 ///
-/// It is a macro since no clause can state what reaches the system: the body is proved in each `main`, over the
-/// contracts of `launch` and of `stop_without_memory`. Output is buffered up to 64 KiB, which is what a pipe takes.
-/// Input is read in pieces of up to 64 KiB. The run takes at most 4,097 bytes of them at once.
+/// It is a macro since no clause can state what reaches the system: the body is proved in each `main`.
 #[macro_export]
 macro_rules! launch_on_system {
     ($rt:ident, $program:ident) => {{

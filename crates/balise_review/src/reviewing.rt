@@ -10,11 +10,11 @@ use crate::links::add_links;
 use balise_plan::Plan;
 use balise_rules::{Refusal, ReviewLine, Tag};
 
-/// The lines of a review of a group, of the plan as it will be once the group is turned. Asked before the turn.
+/// The lines of a review of a group, before it is turned, of the plan as it will be after that. A group of one telegram
+/// has no line. Refused as `NoSuchGroup` or `OutOfMemory`.
 ///
-/// First each distance and each unknown packet of the group, then of each element that names the group its D_LINK and
-/// that of the next element of its packet. A group of one telegram has no line. Refused where no group has the tag
-/// (14), or as out of memory (30).
+/// First each distance and each unknown packet of the group. Then, of each element that names the group, its D_LINK and
+/// that of the next element of its packet.
 pub fn review(plan: &Plan, g: Tag) -> Result<Vec<ReviewLine>, Refusal>
     ensures ok { IfOk result (λ lines. lines.items ≡ review g plan.now.groups) }
     ensures group { IfOk result (λ _. no_group g plan.now.groups ≡ None) }

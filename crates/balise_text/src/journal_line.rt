@@ -76,12 +76,11 @@ fn entry_line(alloc: Global, line: &[u8]) -> Result<JournalLine, Refusal>
     }
 }
 
-/// What a line of a journal, without its end, is, after the first line and in this section of the journal.
+/// What a line of a journal is, in this section of the journal. The line is without its end, and isn't the first.
 ///
-/// Refused: `BadLine` where the line is outside the grammar of the section; then `BadHex` for the words of digits of an
-/// insertion and of an added group, and for those of an added group, word by word, `JournalMismatch` where the digits
-/// are no telegram's. `OutOfMemory` may stand in place of any answer to these two, where the line is of the grammar, and
-/// of no other.
+/// Refused: `BadLine` where the line is outside the section's grammar. Then, for an insertion and an added group only,
+/// `BadHex`; and for an added group, word by word, `JournalMismatch` where the digits are no telegram's. `OutOfMemory`
+/// may stand in place of any answer to these two, but not of `BadLine`.
 pub fn read_journal_line(
     alloc: Global,
     section: Section,

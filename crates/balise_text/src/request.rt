@@ -68,11 +68,9 @@ pub(crate) fn read_other(name: &[u8], words: Words) -> Option<Option<Request>>
     None
 }
 
-/// The command that a line, without its end, is.
-///
-/// Refused: `BadLine` where the line is outside the grammar; then for the words of digits of `insert` and `add`
-/// `BadHex`, and for those of `add` `BadLength` and `SpareBits`, word by word. `OutOfMemory` may stand in place of any
-/// answer to an `insert` or an `add` of the grammar, and of no other.
+/// The command that a line, without its end, is. Refused as `BadLine` where the line is outside the grammar. Then, for
+/// `insert` and `add` only, as `BadHex`; and for `add`, word by word, as `BadLength` and `SpareBits`. `OutOfMemory` may
+/// stand in place of any answer to these two, but not of `BadLine`.
 pub fn read_request(alloc: Global, line: &[u8]) -> Result<Request, Refusal>
     ensures ok { IfOk result (λ r. call_of line.now ≡ Ok (call r)) }
     ensures fault { IfErr result (λ e. e ≢ Refusal.OutOfMemory → call_of line.now ≡ Err e) }

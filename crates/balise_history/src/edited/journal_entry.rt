@@ -91,10 +91,8 @@ fn enter(plan: &mut Plan, history: &mut History, next: u32, line: Line) -> Resul
 }
 
 impl EditedPlan {
-    /// Does the edit of a line under its own serial, where it fits: nothing was undone or struck, the serial is above
-    /// the last one and below the next, the edit is accepted and notes what the line says. Refused as
-    /// `JournalMismatch` or `OutOfMemory`, and then all stays, but that an edit that noted something else is done. Memory
-    /// may run out only where the serial may come next.
+    /// Does the edit of a line under its own serial, as `Opening::enter` does, with the same refusals. An edit that
+    /// noted something else than the line stays done. Memory may run out only where the serial may come next.
     pub(crate) fn entry(&mut self, line: Line) -> Result<(), Refusal>
         requires { self.old.changes < 2 ^ 63 }
         ensures enters { Enters (line_in line) self.old result self.new }

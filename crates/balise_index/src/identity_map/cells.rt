@@ -10,10 +10,9 @@ use balise_rules::Id;
 use std::alloc::{AllocError, Global};
 use std::collections::BTreeMap;
 
-/// In which slot each identity stands. Most have a cell in the row of their country. All rows together have at most 16,384
-/// cells, so that a plan of one country is found by rows alone, and 16 more for each identity that was held at once. An
-/// identity whose row would take more has a cell far from the rows, in a tree, until it is taken out. What cells of
-/// identities that aren't held say is unspecified.
+/// The slot of each identity, in a cell of its country's row. The rows have at most 16,384 cells, enough for a plan of
+/// one country, and 16 more for each identity that was held at once. An identity beyond that has a cell in a tree,
+/// until it is taken out. The cell of an identity that isn't held may hold any number.
 #[derive(Drop)]
 pub(crate) struct Cells {
     rows: Vec<Vec<u32>>,
@@ -60,7 +59,7 @@ impl Cells {
         }
     }
 
-    /// Notes slot `i` of an identity that is put in after `i` others. If an allocation fails, the cells of the others stay.
+    /// Notes slot `i` of an identity that is put in after `i` others. If an allocation fails, the other cells stay.
     pub(super) fn note(&mut self, id: Id, i: u32) -> Result<(), AllocError>
         ensures kept { KeepsOthers (cell_of self.old) (cell_of self.new) id }
         ensures noted { OnOk result (cell_of self.new id ≡ Some i) }

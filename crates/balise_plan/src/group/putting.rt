@@ -24,8 +24,7 @@ impl Group {
         Some(telegram.head(Var::NidC).unwrap_or(0))
     }
 
-    /// Puts a packet into one telegram under a tag that is new there. The packet has to be well-formed in the telegram's
-    /// version.
+    /// Puts a packet that is well-formed in a telegram's version into the telegram, under a tag that is new there.
     pub(crate) fn put_packet(
         &mut self,
         t: u32,

@@ -21,10 +21,9 @@ use balise_rules::{Refusal, Tag};
 use balise_telegram::{Packet, Telegram, TelegramFault};
 
 impl Plan {
-    /// Puts a packet into a telegram under a tag that is new there. The packet has to be well-formed in the telegram's
-    /// version.
+    /// Puts a packet that is well-formed in a telegram's version into the telegram, under a tag that is new there.
     ///
-    /// Refused in this order, and then all stays and the packet is handed back: `NoSuchGroup`, `NoSuchTelegram`,
+    /// Refused in this order, and then all stays and the packet is returned: `NoSuchGroup`, `NoSuchTelegram`,
     /// `NoSuchPacket` where the neighbour doesn't stand, `NoRoom` where the packet is wider than the room.
     /// `OutOfMemory` may stand in place of any answer.
     pub fn put_packet(

@@ -30,9 +30,9 @@ impl Plan {
 
     /// Puts the group of these telegrams in at the end, under the tag of its place, which counts as no change.
     ///
-    /// Refused as `Group::read` does, then `GroupTwice` where a group has its identity, and then all stays. `OutOfMemory`
-    /// may stand in place of any answer. It is also the answer at 4,294,967,296 groups, which no tag counts; a plan has at
-    /// most 16,776,192, one for each identity (1,024 countries of 16,383 numbers).
+    /// Refused, and then all stays: as `Group::read` refuses, then `GroupTwice` where a group has its identity.
+    /// `OutOfMemory` may stand in place of any answer, and is the answer at 4,294,967,296 groups: no tag counts more. A
+    /// plan has at most 16,776,192, one for each identity.
     pub fn push(&mut self, telegrams: Vec<Bits>) -> Result<(), Refusal>
         requires { self.old.changes ≡ 0 }
         ensures { Pushes telegrams.items self.old result self.new }
@@ -48,8 +48,8 @@ impl Plan {
 
     /// Puts the group of telegrams that were read in at the end, under the tag of its place, which counts as no change.
     ///
-    /// Refused as `GroupReader::done` does, then `GroupTwice` where a group has its identity, then as `OutOfMemory`; and
-    /// then all stays.
+    /// Refused, and then all stays: as `GroupReader::done` refuses, then `GroupTwice` where a group has its identity,
+    /// then `OutOfMemory`.
     pub fn push_group(&mut self, group: GroupReader) -> Result<(), Refusal>
         requires { self.old.changes ≡ 0 }
         ensures pushes { PushesRead group self.old result self.new }

@@ -62,9 +62,7 @@ impl Plan {
     }
 
     /// The telegram at a place of the group of an identity, lent, with the tags that lead to it: that of the group and its
-    /// own. Takes no memory.
-    ///
-    /// Refused in this order: `NoSuchGroup`, `NoSuchTelegram`.
+    /// own. Takes no memory. Refused in this order: `NoSuchGroup`, `NoSuchTelegram`.
     #[inline(always)]
     pub fn find_telegram(&self, id: Id, pig: u32) -> Result<(Tag, u32, &Telegram), Refusal>
         ensures ok { IfOk result (λ r. find_telegram id pig self.now.groups ≡ Ok (record { group = r.0; place = r.1; telegram = r.2.now })) }
@@ -83,10 +81,9 @@ impl Plan {
         }
     }
 
-    /// The packet at a place of a telegram, lent, with its telegram and the tags that lead to it: those of the group, of
-    /// the telegram and its own. Takes no memory.
-    ///
-    /// Refused in this order: `NoSuchGroup`, `NoSuchTelegram`, `NoSuchPacket`.
+    /// The packet at a place of a telegram, lent, with its telegram and the tags that lead to it: those of the group,
+    /// of the telegram and its own. Takes no memory. Refused in this order: `NoSuchGroup`, `NoSuchTelegram`,
+    /// `NoSuchPacket`.
     #[inline(always)]
     pub fn find_packet(
         &self,

@@ -88,12 +88,10 @@ impl Telegram {
         self.put_in(place, tag, packet)
     }
 
-    /// Moves the packet with this tag directly after the anchor, or to the first place, and answers the tag of its old
-    /// next neighbour.
+    /// Moves a packet directly after the anchor, or to the first place. Returns the tag of its old next neighbour.
     ///
     /// Refused in this order, and then all stays: `NoSuchPacket` where it or the anchor doesn't stand, `SamePlace`
-    /// where the anchor is itself or its left neighbour, or there is none and it is the first. `OutOfMemory` may stand
-    /// in place of any answer.
+    /// where it stands there or is the anchor. `OutOfMemory` may stand in place of any answer.
     pub fn shift_after(
         &mut self,
         tag: PacketTag,
@@ -105,12 +103,10 @@ impl Telegram {
         self.shift_to(tag, to)
     }
 
-    /// Moves the packet with this tag directly before the neighbour, or to the last place, and answers the tag of its
-    /// old next neighbour.
+    /// Moves a packet directly before the neighbour, or to the last place. Returns the tag of its old next neighbour.
     ///
     /// Refused in this order, and then all stays: `NoSuchPacket` where it or the neighbour doesn't stand, `SamePlace`
-    /// where the neighbour is itself or its right neighbour, or there is none and it is the last. `OutOfMemory` may
-    /// stand in place of any answer.
+    /// where it stands there or is the neighbour. `OutOfMemory` may stand in place of any answer.
     pub fn shift_before(
         &mut self,
         tag: PacketTag,

@@ -1,4 +1,4 @@
-//! Reads the arguments.
+//! Reads the arguments of `baliseplan`: its four flags.
 
 ghost use Rattle.std.specs.Prelude.{◌≡◌, ◌↔◌, IfErr, IfOk, IsTrue, OnOk, codes, map};
 ghost use Rattle.clap.specs.Words.{app_of};

@@ -1,4 +1,4 @@
-//! How the program ends after a run.
+//! How `baliseplan` and `balisefacts` end after a run over a plan.
 
 ghost use Rattle.std.specs.Prelude.{◌≡◌};
 ghost use Rattle.balise_cli.specs.Exits.{exit_of};

@@ -1,4 +1,4 @@
-//! The program over its words, its input and its two outputs.
+//! The program `baliseplan`, and its start over its words and streams.
 
 ghost use Rattle.std.specs.Prelude.{◌≡◌, ◌≢◌, IfErr, IfOk, OnErr, map, string_bytes};
 ghost use Rattle.std.specs.Vec.Iter.{into_iter_items};

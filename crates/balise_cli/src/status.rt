@@ -1,4 +1,4 @@
-//! How a run that came to its end ended.
+//! The status of a run over a plan: accepted, refused, or a bad input.
 
 ghost use Rattle.std.specs.Prelude.{◌≡◌};
 ghost use Rattle.balise_cli.specs.Statuses.{code_of, status_of};

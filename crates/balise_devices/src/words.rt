@@ -1,4 +1,4 @@
-//! The words of a command line.
+//! Words for a test, handed over as the system does.
 
 ghost use Rattle.std.specs.Prelude.{◌≡◌, IfOk, map, string_bytes};
 ghost use Rattle.std.specs.Vec.Iter.{into_iter_items};

@@ -1,4 +1,4 @@
-//! The nine edits, by tags.
+//! An edit as a session holds it, with an inserted packet in a box, and its copy.
 
 ghost use Rattle.std.specs.Prelude.{◌≡◌, IfOk, IsOkUnless};
 ghost use Rattle.balise_edits.specs.Edits.{edit_of};

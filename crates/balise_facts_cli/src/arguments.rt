@@ -1,4 +1,4 @@
-//! Reads the arguments.
+//! Reads the arguments of `balisefacts`: `--edit` and `--tags`.
 
 ghost use Rattle.std.specs.Prelude.{◌≡◌, IfOk, None, Some, codes, false, map, option_map};
 ghost use Rattle.clap.specs.Words.{app_of, rule_of};

@@ -1,4 +1,4 @@
-//! What a line of digits is explained as.
+//! Reads a line of digits and explains it.
 
 ghost use Rattle.std.specs.Prelude.{◌≡◌, Bool, List, Err, Some, IfOk};
 ghost use Rattle.balise_rules.specs.declared.refusal.Refusal.{Refusal};

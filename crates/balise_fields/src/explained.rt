@@ -1,4 +1,4 @@
-//! What a line of digits is explained as.
+//! The types of what a line of digits is explained as: fields, or a fault with its place.
 
 ghost use Rattle.std.specs.Prelude.{◌≡◌};
 

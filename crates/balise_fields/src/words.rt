@@ -1,4 +1,4 @@
-//! The words of a line: the first, and those after it where they are few.
+//! Splits a line of fields into its first word and at most four words after it.
 
 ghost use Rattle.std.specs.Prelude.{◌≡◌, ◌==◌, ◌∷◌, [], List, MatchOption, position};
 ghost use Rattle.balise_text.specs.Words.{words_of, Word};

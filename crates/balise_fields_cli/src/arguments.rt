@@ -1,4 +1,4 @@
-//! Reads the arguments.
+//! Reads the argument of `balisefields`: `--spell`.
 
 ghost use Rattle.std.specs.Prelude.{◌≡◌, IfOk, codes, map};
 ghost use Rattle.clap.specs.Words.{app_of};

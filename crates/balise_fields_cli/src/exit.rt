@@ -1,4 +1,4 @@
-//! How the program ends after a run.
+//! How `balisefields` ends after a run.
 
 ghost use Rattle.std.specs.Prelude.{◌≡◌};
 ghost use Rattle.balise_fields_cli.specs.Exits.{exit_of};

@@ -1,4 +1,4 @@
-//! What the program does with its words, its input and its output.
+//! The program `balisefields`, and its start over its words and streams.
 
 ghost use Rattle.balise_fields_cli.specs.Arguments.{Asks};
 ghost use Rattle.balise_fields_cli.specs.Program.{Works};

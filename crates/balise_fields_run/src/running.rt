@@ -1,4 +1,4 @@
-//! A run either way.
+//! A run from digits to fields, or from fields to digits.
 
 ghost use Rattle.balise_fields_run.specs.Ways.{RanBy};
 

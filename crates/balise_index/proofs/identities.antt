@@ -1,3 +1,4 @@
+-- The map of identities: its cells name the right slots, also after a value is put in, taken out or written.
 pub mod Added
 pub mod Equal
 pub mod PutIn

@@ -1,3 +1,4 @@
+-- The map in order: what it holds under tags, in their order, after one is put in, taken out or written.
 pub mod Coded
 pub mod Entries
 pub mod Held

@@ -1,3 +1,4 @@
+-- Lists of items under tags: the place of a tag, and what a change of one item leaves.
 pub mod Inserted
 pub mod KeyPlaces
 pub mod OneChanged

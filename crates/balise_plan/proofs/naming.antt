@@ -1,3 +1,4 @@
+-- The index of names holds the links of the plan, and is changed link by link as packets and groups change.
 pub mod GroupLists
 pub mod Identities
 pub mod Known

@@ -1,4 +1,4 @@
-//! A program, whatever it is for: what its words ask for, and how that is done.
+//! The trait of a program: what its words ask for, and how that is done.
 
 ghost use Rattle.std.specs.Prelude.{Option, map};
 ghost use Rattle.balise_text.specs.Texts.{Text};

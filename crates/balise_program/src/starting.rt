@@ -1,4 +1,4 @@
-//! A program over its words, its input and its two outputs.
+//! Starts any program over words that are texts, an input and two outputs.
 
 ghost use Rattle.std.specs.Prelude.{map};
 ghost use Rattle.balise_program.specs.Starting.{Starts};

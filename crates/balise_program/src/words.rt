@@ -1,4 +1,4 @@
-//! The words of a command line.
+//! The words of a command line, copied from the system and lent.
 
 ghost use Rattle.std.specs.Prelude.{◌≡◌, IfOk, map, string_bytes};
 ghost use Rattle.std.specs.Vec.Iter.{into_iter_items};

@@ -1,4 +1,4 @@
-//! What is to be looked at by hand after a group was turned.
+//! Finds what is to be looked at by hand after a group is turned.
 
 ghost use Rattle.std.specs.Prelude.{◌≡◌, ◌⊎◌, IfErr, IfOk, None};
 ghost use Rattle.balise_rules.specs.declared.refusal.Refusal.TheVariants.{NoSuchGroup, OutOfMemory};

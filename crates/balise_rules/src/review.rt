@@ -1,4 +1,4 @@
-//! What is to be looked at by hand after a group was turned.
+//! The line of a review: one thing to be looked at by hand after a group is turned.
 
 use crate::identity::Id;
 use crate::variable::Var;

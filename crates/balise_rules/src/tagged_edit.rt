@@ -1,4 +1,4 @@
-//! The nine edits, by tags.
+//! The nine edits, by tags, for any type of an inserted packet and of an added telegram.
 
 ghost use Rattle.std.specs.Prelude.{◌≡◌, IfErr, IfOk, Err, Ok};
 ghost use Rattle.balise_rules.specs.Behind.{anchor_of, anchored};

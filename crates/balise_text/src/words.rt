@@ -1,4 +1,4 @@
-//! The words of a line, one after another.
+//! Walks over the words of a line, or over the parts of a word.
 
 ghost use Rattle.std.specs.Prelude.{◌≡◌, ◌==◌, ◌∷◌, ◌↔◌, [], IsTrue, MatchOption, length, position};
 ghost use Rattle.balise_rules.specs.Variables.{var_named};

@@ -1,4 +1,4 @@
-//! What any program's command line is made of.
+//! Tests of command lines that are made of common parts.
 
 use balise_arguments::{ArgsFault, flag, is_used, plain_command};
 use std::alloc::Global;

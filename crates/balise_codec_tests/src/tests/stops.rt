@@ -1,4 +1,4 @@
-//! Where a telegram's packets end.
+//! Tests of where a telegram's packets end.
 
 use balise_bits::Bits;
 use balise_codec::{Stop, packets_end};

@@ -1,4 +1,4 @@
-//! Sessions over plans of known digits.
+//! Sessions over plans of known digits, whose facts are printed.
 
 ghost use Rattle.std.specs.Prelude.{◌≡◌, ℕ};
 ghost use Rattle.balise_rules.specs.Accepting.{Unused};

@@ -1,4 +1,4 @@
-//! The whole program over its words: what it writes on each stream, and what it ends with.
+//! `balisefields` over its words: what it writes on each stream, and its exit status.
 
 use balise_devices::{Failure, Narrow, Slow, arguments};
 use balise_fields_cli::{Balisefields, Exit, Refusal, launch};

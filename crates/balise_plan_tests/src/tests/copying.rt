@@ -1,4 +1,4 @@
-//! Copies of a plan.
+//! Tests of copies of a plan.
 
 use crate::tests::comparing::same_groups;
 use crate::tests::digits::{ABROAD, INFILL, LINKING, REVOCATIONS, THREE};

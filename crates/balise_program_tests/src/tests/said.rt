@@ -1,4 +1,4 @@
-//! What a program reports of its end and of its arguments.
+//! Tests of what a program reports of its end and of its arguments.
 
 use balise_arguments::flags;
 use balise_program::{

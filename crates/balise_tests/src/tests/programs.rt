@@ -1,4 +1,4 @@
-//! The whole program over its words: what it writes on each stream, and what it ends with.
+//! `baliseplan` over its words: what it writes on each stream, and its exit status.
 
 use crate::tests::runs::PLAIN;
 use balise_cli::{

@@ -139,6 +139,7 @@ fn explain_packet(
     ensures ok { IfOk result (λ r. (p : Packet) (after : List Bool) → read_first version (drop at bits.now) ≡ Ok (p, after) → IsPlaced at p r.0 × (r.1 ≡ at + width p)) }
     ensures fault { IsOkUnless result LayoutFault.OutOfMemory }
 {
+    // The length is a number of 64 bits, so the places below are too.
     let _len = bits.len();
     let packet = PacketRef::new(bits, at, version);
     let end = at + packet.width();

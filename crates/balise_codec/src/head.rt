@@ -27,6 +27,7 @@ pub fn packet_fault(
     ensures tells { IfOk result (λ r. Tells version (drop at bits.now) at r) }
     ensures fault { IsOkUnless result LayoutFault.OutOfMemory }
 {
+    // The length is a number of 64 bits, so the places below are too.
     let _len = bits.len();
     if let Some(reach) = head_fault(alloc, bits, at)? {
         return Ok(Some(reach));

@@ -60,6 +60,7 @@ fn put_packets<W: Write>(
 ) -> Result<(), WriteFault>
     ensures { Writes W.contents writer.old writer.new result (packet_lines id pig 0 telegram.now.packets) }
 {
+    // The number of packets is a `usize`, so counting them doesn't overflow.
     let _count = telegram.count();
     let mut pkt = 0;
     for (tag, _) in telegram.packets() {

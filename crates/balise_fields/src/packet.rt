@@ -61,6 +61,7 @@ fn explain_fault(
     requires { (p : Packet) (after : List Bool) → read_first version bits.now ≡ Ok (p, after) → ⊥ }
     ensures { IfOk result (λ x. IsAloneBegun version bits.now refusal x) }
 {
+    // The length is a number of 64 bits, so the places of the fields are too.
     let _len = bits.len();
     let reach = packet_fault(alloc, bits, 0, version)?.unwrap();
     let (fields, _) = place_all(alloc, 0, &reach.fields)?;

@@ -60,6 +60,7 @@ impl EditedPlan {
     pub(crate) fn promise(&self)
         ensures { (n : ℕ) → Promised self.now.base (state_at n self.now) }
     {
+        // The proof takes the invariant here, where a field is lent: the law requires it.
         let _next = &self.next;
         sessions_promised();
     }

@@ -204,6 +204,7 @@ impl History {
     {
         take_back(plan, &mut self.standing[place])?;
         let entry = self.standing.remove(place);
+        // The number that is taken out has no further use.
         let _ = self.homes.remove(place);
         re_anchor_from(&mut self.standing, place, &behind, &entry, false);
         self.stack.push(Undone { entry, behind }).unwrap();

@@ -101,6 +101,7 @@ impl CodeList {
     {
         if self.blocks.len() == 0 {
             let mut codes = mem::replace(&mut self.spare, Vec::new(*self.blocks.allocator()));
+            // `reserve` made room for both, so neither fails.
             let _ = codes.push(code);
             let _ = self.blocks.push(Block { start: 0, codes });
             self.names.begin_after(0);

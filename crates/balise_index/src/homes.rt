@@ -40,6 +40,7 @@ impl Homes {
         }
         self.blocks.reserve(held.len().saturating_add(more))?;
         for _ in 0..held.len() {
+            // The line above made room for it, so this doesn't fail.
             let _ = self.blocks.push(0);
         }
         for b in 0..order.count_blocks() {
@@ -66,6 +67,7 @@ impl Homes {
         if !self.are_noted {
             return;
         }
+        // `reserve` made room for it. A missing block would only make guesses fail.
         let _ = self.blocks.push(noted(order.block_at(i)));
         if order.count_blocks() > blocks {
             self.note_block(order, held, order.begun_last());
@@ -75,6 +77,7 @@ impl Homes {
     /// Forgets the tag at a place of the map. The last one takes its place.
     pub(crate) fn swap_remove(&mut self, k: usize) {
         if k < self.blocks.len() {
+            // The guess that is taken out has no further use.
             let _ = self.blocks.swap_remove(k);
         }
     }

@@ -105,6 +105,7 @@ impl<V: Drop> IdentityMap<V> {
         self.ids.reserve(1)?;
         self.values.reserve(1)?;
         self.cells.note(id, i as u32)?;
+        // There is room in both lists, so neither fails.
         let _ = self.ids.push(narrow);
         let _ = self.values.push(value);
         Ok(())
@@ -120,6 +121,7 @@ impl<V: Drop> IdentityMap<V> {
             return None;
         }
         self.cells.forget(id);
+        // The identity that is taken out is `id`.
         let _ = self.ids.swap_remove(i);
         let value = self.values.swap_remove(i);
         if i < self.ids.len() {

@@ -155,6 +155,7 @@ impl Links {
             }
             Held::Few(list) => list::remove(list, place),
             Held::Many(tree) => {
+                // Whether it stood there makes no difference.
                 let _ = tree.remove(place);
             }
         }

@@ -204,5 +204,6 @@ impl NameIndex {
 fn take_out(held: &mut IdentityMap<Named>, id: Id)
     ensures { slots.Updates held.old held.new id None }
 {
+    // The slot that is taken out has no further use.
     let _ = held.remove(id);
 }

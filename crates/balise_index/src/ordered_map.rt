@@ -184,6 +184,7 @@ impl<V: Drop> OrderedMap<V> {
         let blocks = self.order.count_blocks();
         self.odd = odd_with(&self.order, self.odd, tag, i);
         let code = self.order.insert(i, tag);
+        // There is room and the code is new, so this doesn't fail and no old value is lost.
         let _ = self.held.insert(code, value);
         self.near = i;
         self.homes.put(&self.order, &self.held, i, blocks);

@@ -115,6 +115,7 @@ pub(crate) fn make_code(rare: &mut Vec<Tag>, tag: Tag) -> u32
         return code;
     }
     let code = FIRST_RARE + rare.len() as u32;
+    // There is room in the list, so this doesn't fail.
     let _ = rare.push(tag);
     code
 }

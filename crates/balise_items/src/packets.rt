@@ -16,6 +16,7 @@ pub(crate) fn line_of(section: &Section, place: usize) -> u64
     ensures { result ≡ line_of section.now place }
 {
     let values = section.values();
+    // The length of a list is far below 2 ^ 64, so the sum doesn't overflow.
     let _len = values.len();
     u64::from(section.line()) + 1 + place as u64
 }

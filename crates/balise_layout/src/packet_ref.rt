@@ -69,6 +69,7 @@ impl<'a> PacketRef<'a> {
         requires head { head ≡ num (part at 23 bits.now) }
         ensures { (p : Packet) (after : List Bool) → read_first version (drop at bits.now) ≡ Ok (p, after) → result ≡ p }
     {
+        // The length is a number of 64 bits, so the packet's end is too.
         let _len = bits.len();
         let kind = PacketKind::of(version, head >> 15);
         let end = at + (head % 8192) as usize;
@@ -111,6 +112,7 @@ impl<'a> PacketRef<'a> {
     pub fn q_dir(&self) -> u32
         ensures { result ≡ value QDir 0 self.now.fields }
     {
+        // The length is a number of 64 bits, so the place below is too.
         let _len = self.bits.len();
         self.bits.number(self.at + 8, 2)
     }
@@ -176,6 +178,7 @@ impl<'a> PacketRef<'a> {
         ensures some { IfSome result (λ elements. elements ≡ links_of country self.now) }
         ensures none { IfNone result (few < length (links_of country self.now)) }
     {
+        // The length is a number of 64 bits, so the place below is too.
         let _len = self.bits.len();
         // The first three fields name nothing.
         let mut walker = Walker::new(FindFew::new(country), self.bits, self.at + 23, self.end);
@@ -195,6 +198,7 @@ impl<'a> PacketRef<'a> {
         let Some(place) = self.place_of(var, k) else {
             return None;
         };
+        // The length is a number of 64 bits, so the place below is too.
         let _len = self.bits.len();
         Some(self.bits.number(self.at + place, var.width()))
     }

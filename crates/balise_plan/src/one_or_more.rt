@@ -127,10 +127,12 @@ impl<T: Drop> OneOrMore<T> {
     {
         if let Held::Listed(list, turned) = &mut self.held {
             list.reserve_exact(1)?;
+            // There is room for it now, so this doesn't fail.
             let _ = list.push(item);
             *turned = false;
             return Ok(());
         }
+        // There is room for two, so neither push below fails.
         let mut list = Vec::with_capacity(self.alloc, 2)?;
         let held = mem::replace(&mut self.held, Held::Listed(Vec::new(self.alloc), false));
         if let Held::One(first) = held {

@@ -26,6 +26,7 @@ pub(crate) fn report_end<E: Write>(errors: &mut Counted<E>, exit: Exit) -> Exit
     ensures same { result ≡ exit }
     ensures reports { Reports E.contents errors.old errors.new result }
 {
+    // There is no other stream to report a failure on.
     let _ = report(errors, exit);
     exit
 }

@@ -25,6 +25,7 @@ pub fn stop_without_memory<E: Write>(errors: &mut Counted<E>) -> Exit
 pub fn stop_at_bad_text<E: Write>(errors: &mut Counted<E>) -> Exit
     ensures { StopsAtBadText E.contents errors.old errors.new result }
 {
+    // There is no other stream to report a failure on.
     let _ = put(errors, NOT_UTF_8);
     Exit {
         code: USAGE,

@@ -121,6 +121,7 @@ fn add_telegram(
     ensures fault { IsOkUnless result Refusal.OutOfMemory }
 {
     let country = telegram.identity().country;
+    // The number of packets is a `usize`, so counting them doesn't overflow.
     let _count = telegram.count();
     let mut pkt: usize = 0;
     for (_, packet) in telegram.packets() {

@@ -24,7 +24,7 @@ pub fn review(plan: &Plan, g: Tag) -> Result<Vec<ReviewLine>, Refusal>
         return Err(Refusal::NoSuchGroup);
     };
     let mut found = Vec::new(plan.allocator());
-    // What is asked of the plan is said by its count: it is sound.
+    // The contract of `count` states that the plan is sound, which `add_links` requires.
     let _count = plan.count();
     if group.count() <= 1 {
         return Ok(found);

@@ -139,6 +139,7 @@ impl Telegram {
         ensures count { result ≡ length self.now.packets }
         ensures tags { Distinct same_tag self.now.packets }
     {
+        // The proof goes over the bits that it shows.
         let _packed = self.packed();
         self.end().index
     }
@@ -289,6 +290,7 @@ impl Telegram {
         ensures index { result.index ≡ place.index + 1 }
         ensures place { IsPlace self.now result }
     {
+        // The bits that it shows bound the place below.
         let _packed = self.packed();
         Place {
             index: place.index + 1,
@@ -301,6 +303,7 @@ impl Telegram {
         ensures place { result ≡ packet_place 50 tag self.now.packets }
         ensures tags { Distinct same_tag self.now.packets }
     {
+        // That the tags are distinct is known of the bits that it shows.
         let _packed = self.packed();
         let Some(place) = self.find(tag) else {
             return None;

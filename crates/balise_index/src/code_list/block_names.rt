@@ -37,6 +37,7 @@ impl BlockNames {
         if self.names.insert(at, name).is_err() {
             return;
         }
+        // `reserve` made room for both lists. A missing name would only make guesses fail.
         let _ = self.places.push(at);
         for place in at..self.names.len() {
             let name = self.names[place] as usize;

@@ -92,6 +92,7 @@ fn cut_at(blocks: &mut Vec<Block>, spare: Vec<u32>, b: usize, cut: usize)
 {
     let start = blocks[b].start + cut;
     let codes = take_rest(&mut blocks[b].codes, spare, cut);
+    // There is room for one more block, so this doesn't fail.
     let _ = blocks.insert(b + 1, Block { start, codes });
 }
 
@@ -107,6 +108,7 @@ fn take_rest(codes: &mut Vec<u32>, room: Vec<u32>, first: usize) -> Vec<u32>
     ensures room { 512 ≤ vec_capacity result }
 {
     let mut rest = room;
+    // There is room for all codes of a block, so this doesn't fail.
     let _ = rest.extend_from_slice(&codes.as_slice()[first..]);
     codes.truncate(first);
     rest
@@ -124,6 +126,7 @@ pub(super) fn put_in(blocks: &mut Vec<Block>, b: usize, i: usize, code: u32)
     ensures capacity { vec_capacity blocks.new ≡ vec_capacity blocks.old }
 {
     let at = i - blocks[b].start;
+    // The block has room for the code, so this doesn't fail.
     let _ = blocks[b].codes.insert(at, code);
     for k in b + 1..blocks.len() {
         blocks[k].start += 1;
@@ -141,6 +144,7 @@ pub(super) fn take_out(blocks: &mut Vec<Block>, b: usize, i: usize)
     ensures capacity { vec_capacity blocks.new ≡ vec_capacity blocks.old }
 {
     let at = i - blocks[b].start;
+    // The code that is taken out is known to the caller.
     let _ = blocks[b].codes.remove(at);
     for k in b + 1..blocks.len() {
         blocks[k].start -= 1;

@@ -83,6 +83,7 @@ impl Cells {
         ensures noted { cell_of self.new id ≡ Some i }
     {
         if self.far(id).is_some() {
+            // It takes the place of the old slot, which takes no memory and doesn't fail.
             let _ = self.far.insert(id, i);
             return;
         }
@@ -97,6 +98,7 @@ impl Cells {
         if self.far.is_empty() {
             return;
         }
+        // The slot that is taken out has no further use.
         let _ = self.far.remove(&id);
     }
 }

@@ -45,6 +45,7 @@ pub(crate) fn remove(list: &mut Vec<NarrowPlace>, place: &LinkPlace)
 {
     let i = place_for(list, *place);
     if is_at(list, i, *place) {
+        // The place that is taken out is `place`.
         let _ = list.remove(i);
     }
 }

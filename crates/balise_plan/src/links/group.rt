@@ -42,6 +42,7 @@ pub(crate) fn forget_group(alloc: Global, index: &mut NameIndex, g: Tag, group: 
     ensures forgotten { SetsAll false (links_in_group g group.now) (names_of index.old) (names_of index.new) }
     ensures tags { tags_of index.new ≡ tags_of index.old }
 {
+    // Forgetting takes no memory, so it doesn't fail.
     let _ = set_group(alloc, index, g, group, false);
 }
 

@@ -43,6 +43,7 @@ pub(crate) fn forget_packet(
     ensures forgotten { SetsAll false (links_from place.group place.telegram place.packet 0 (links_of country packet.now)) (names_of index.old) (names_of index.new) }
     ensures tags { tags_of index.new ≡ tags_of index.old }
 {
+    // Forgetting takes no memory, so it doesn't fail.
     let _ = set_packet(alloc, index, place, country, packet, false);
 }
 

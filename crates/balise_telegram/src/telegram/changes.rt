@@ -101,6 +101,7 @@ impl Telegram {
     pub fn flip_dirs(&mut self)
         ensures { self.new ≡ with_packets self.old (each (λ _ x. turned x) self.old.packets) }
     {
+        // The proof goes over the bits that it shows.
         let _packed = self.packed();
         let mut place = first();
         'packets: loop {

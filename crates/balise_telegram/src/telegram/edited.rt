@@ -93,6 +93,7 @@ pub(crate) fn tag_there(bits: &Bits, place: Place) -> PacketTag
     requires { (y : Telegram) × IsShown bits.now y × IsPlace y place × (place.index < length y.packets) }
     ensures { (y : Telegram) → IsShown bits.now y → IsPlace y place → place.index < length y.packets → TaggedFrom 0 y.packets → Some result ≡ option_map (λ q. q.0) (slice_get y.packets place.index) }
 {
+    // The length bounds the number of packets, so a place fits a `u32`.
     let _len = bits.len();
     PacketTag::Base(place.index as u32)
 }

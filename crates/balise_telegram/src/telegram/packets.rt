@@ -252,8 +252,9 @@ fn cut_out(bits: &mut Bits, edited: &mut Edited, place: Place, width: usize, use
     let after = place.at + width;
     bits.move_part(place.at, after, used - after);
     bits.put_part(used - width, &edited.ground, used - width, width);
-    // They are no more than there is room for.
+    // The tags are at most what there is room for, so one less leaves room for one.
     let _count = edited.tags.len();
+    // The caller knows the tag that is taken out.
     let _ = edited.tags.remove(place.index);
     edited.used = used - width;
 }

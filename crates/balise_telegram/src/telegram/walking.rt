@@ -114,6 +114,7 @@ pub(crate) fn after_head(bits: &Bits, place: Place, head: u32) -> Place
     ensures index { result.index ≡ place.index + 1 }
     ensures place { (y : Telegram) → IsShown bits.now y → IsPlace y place → place.index < length y.packets → IsPlace y result }
 {
+    // The length bounds the place below.
     let _len = bits.len();
     // L_PACKET
     let width = head % 8192;

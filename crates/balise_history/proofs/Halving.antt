@@ -46,7 +46,7 @@ module _ {X : Type 0} (key : X → ℕ) (xs : List X) (x : ℕ) where
       no_lower : (a b : ℕ) (d : X) → a ≤ b → b < length xs → key (get_or xs a d) ≤ key (get_or xs b d)
       no_lower a b d le lt = by a b d (nat_lt a b) refl le lt
 
--- as many have a lower serial as stand before a place that parts them
+-- the number of entries with a lower serial is the place that parts them
 pub place-parts : (s : ℕ) (es : List Entry) (i : ℕ) → i ≤ length es → ((k : ℕ) (d : Entry) → k < i → (get_or es k d).0.0 < s) → ((k : ℕ) (d : Entry) → i ≤ k → k < length es → s ≤ (get_or es k d).0.0) → i ≡ place_of s es
 place-parts s [] i l below from = omega arith
 place-parts s (e ∷ es) zero l below from =

@@ -1,4 +1,4 @@
-//! Parts at the lengths at which another way of reading and putting begins, at each shift, compared bit by bit.
+//! Parts at the lengths where another way of reading and putting begins, at each shift, compared bit by bit.
 
 use crate::tests::moves::{bit_at, check_each_bit, mixed};
 use balise_bits::Bits;

@@ -155,7 +155,7 @@ fn each_field_has_its_place(rt: HostRuntime) {
     check_packet(&rt, &telegram.packets);
 }
 
-// Digits, and the fault by which they are no telegram.
+// Digits that are no telegram, and their fault.
 const FAULTS: [(&str, TelegramFault); 5] = [
     ("a1007f80a03250900f82ff", TelegramFault::BadLength),
     (

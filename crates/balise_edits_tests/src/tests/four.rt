@@ -1,4 +1,4 @@
-//! Four packets of which one is moved, and then another edit is done: the copies and the places of all that is there.
+//! One of four packets is moved, and then another edit is done: the copies and the places of all that is there.
 
 ghost use Rattle.std.specs.Prelude.{◌≤◌, ℕ};
 ghost use Rattle.balise_rules.specs.Accepting.{Unused};

@@ -98,7 +98,7 @@ fn edited(rt: &impl Abort, alloc: Global) -> Session {
     session
 }
 
-/// Does the calls, of which at most one meets the growth that is refused.
+/// Does the calls. At most one of them meets the growth that is refused.
 fn make_calls(rt: &impl Abort, alloc: Global, session: &mut Session, memory: Memory) {
     for (step, serial) in CALLS.iter() {
         call(rt, alloc, session, (*step, *serial), memory);

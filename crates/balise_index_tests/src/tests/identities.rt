@@ -95,7 +95,7 @@ fn values_are_written(rt: HostRuntime) {
     check_written(&rt, rt.alloc());
 }
 
-/// Three values, of which the first is taken out: the last one takes its slot.
+/// The first of three values is taken out: the last one takes its slot.
 fn check_swapped(rt: &impl Abort, alloc: Global) {
     let mut map = IdentityMap::new(alloc);
     assert!(rt;

@@ -146,12 +146,12 @@ fn a_place_above_255_is_refused(rt: HostRuntime) {
     }
 }
 
-/// A packet's place with the largest telegram and element of which two or three places stand by themselves.
+/// A packet's place with the largest telegram and element that two or three places by themselves may have.
 fn largest(group: Tag, packet: Tag) -> LinkPlace {
     place(group, 7, packet, 31)
 }
 
-/// Places with the largest packet of which three stand by themselves, and two, and places just past them.
+/// Places with the largest packet that three places by themselves may have, and two places, and places just past them.
 fn edges() -> [LinkPlace; 12] {
     let (base, fresh) = (Tag::Base(4294967295), Tag::Fresh(4294967295));
     [

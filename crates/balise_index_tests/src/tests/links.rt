@@ -14,7 +14,7 @@ pub(crate) fn place(group: Tag, telegram: u32, packet: Tag, element: u32) -> Lin
     }
 }
 
-/// The lowest packets of places of which three stand by themselves, of which two do, and of which one does.
+/// Serials of packets: from the first on three places stand by themselves, from the second on two, from the third on one.
 pub(crate) const LOWEST: [u32; 3] = [0, 64, 4194304];
 
 /// The place of a serial, in one of two packets. They are in order of their serials.
@@ -50,7 +50,7 @@ fn put_each(rt: &impl Abort, alloc: Global, links: &mut Links, list: &[LinkPlace
     }
 }
 
-/// Places in order, of which each but the last differs from the next one in one field alone.
+/// Places in order. Each but the last differs from the next one in one field alone.
 fn ranked() -> [LinkPlace; 6] {
     [
         place(Tag::Base(1), 2, Tag::Base(3), 4),

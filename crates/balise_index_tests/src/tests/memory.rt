@@ -106,7 +106,7 @@ fn has_first(map: &IdentityMap<u32>, ids: &[Id], count: u32) -> bool {
     same
 }
 
-/// Puts values under identities of which each needs a longer row, or one more row.
+/// Puts values under identities. Each of them needs a longer row, or one more row.
 fn fill_identities(rt: &impl Abort, alloc: Global, memory: Memory) {
     let ids = [
         id(0, 0),
@@ -168,7 +168,7 @@ fn put_far_up_to(map: &mut IdentityMap<u32>, count: u32) -> u32 {
     count
 }
 
-/// Puts values in under identities of which all but the first have far cells. A value is put in, or all stays.
+/// Puts values in under identities. All but the first have far cells. A value is put in, or all stays.
 fn fill_far(rt: &impl Abort, alloc: Global, memory: Memory) {
     let mut map = IdentityMap::new(alloc);
     let held = put_far_up_to(&mut map, 60);

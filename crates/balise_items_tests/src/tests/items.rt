@@ -4,7 +4,7 @@ use balise_items::{Counted, Item, Spelling, put_spelling, read_field_line, spell
 use std::alloc::Global;
 use std::process::Abort;
 
-/// The item of lines, the first of which is line 1, and the number of the line after them.
+/// The item of lines, numbered from 1, and the number of the line after them.
 fn item_of(rt: &impl Abort, alloc: Global, lines: &[&str]) -> (Item, u32) {
     let [first, more @ ..] = lines else {
         panic!(rt; "an item has a line")

@@ -91,7 +91,7 @@ fn buffered(rt: &impl Abort, alloc: Global, fails_at: u64) -> Counted<BufWriter<
     writer
 }
 
-/// That the text is written by six calls and a flush, of which one that fails is counted.
+/// That the text is written by six calls and a flush, and that a failed one is counted.
 fn check_flushed(rt: &impl Abort, writer: &mut Counted<BufWriter<Narrow>>, fails_at: u64) {
     assert!(rt; writer.inner().get_ref().calls == 0);
     let done = writer.flush_buffer().is_ok();

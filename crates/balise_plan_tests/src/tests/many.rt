@@ -24,7 +24,7 @@ fn push_thousand(rt: &impl Abort, alloc: Global, groups: &mut Vec<Vec<Bits>>, ri
     }
 }
 
-/// 1,000 groups of country 5, of which each names the next one and the last the first, or all name the first.
+/// 1,000 groups of country 5. Each names the next one and the last the first, or all name the first.
 fn thousand(rt: &impl Abort, alloc: Global, ring: bool) -> Vec<Vec<Bits>> {
     let mut groups = Vec::new(alloc);
     push_thousand(rt, alloc, &mut groups, ring);

@@ -1,4 +1,4 @@
-//! Changes of which an allocation may fail: one that is refused leaves the plan, and hands back what was to be put in.
+//! Changes whose allocations may fail: a refused one leaves the plan, and returns what was to be put in.
 //!
 //! Each test comes twice: as it is, for a run in which one growth is refused, and with ample memory, where nothing may
 //! be refused. `scripts/check/test_growths.py` refuses each growth of the first in turn.

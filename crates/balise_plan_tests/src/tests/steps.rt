@@ -76,7 +76,7 @@ pub(crate) fn follow_each(rt: &impl Abort, alloc: Global, plan: &mut Plan, rows:
     }
 }
 
-/// Makes a change, after which the plan shows these groups, and its names agree.
+/// Makes a change. After it the plan shows these groups, and its names agree.
 pub(crate) fn follow_one(
     rt: &impl Abort,
     alloc: Global,

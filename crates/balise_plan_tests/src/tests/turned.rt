@@ -88,7 +88,7 @@ fn is_so(rt: &impl Abort, plan: &Plan, turned: bool, put: bool) -> bool {
     same & stands(&copy, turned) & last_has(&copy, put)
 }
 
-/// Makes a change, after which the group stands so and has the packet or not.
+/// Makes a change. After it the group stands so and has the packet or not.
 fn make(rt: &impl Abort, alloc: Global, plan: &mut Plan, step: Step, turned: bool, put: bool) {
     follow(rt, alloc, plan, step, Done);
     assert!(rt; is_so(rt, plan, turned, put));

@@ -54,7 +54,7 @@ impl Telegram {
 
     /// Puts a packet in directly after the anchor, or first where there is none.
     ///
-    /// Refused in this order, and then all stays and the packet is handed back: `NoSuchPacket` where the anchor
+    /// Refused in this order, and then all stays and the packet is returned: `NoSuchPacket` where the anchor
     /// doesn't stand, `NoRoom` where the packet is wider than the room. `OutOfMemory` may stand in place of any answer.
     pub fn insert_after(
         &mut self,
@@ -72,7 +72,7 @@ impl Telegram {
 
     /// Puts a packet in directly before the neighbour, or last where there is none.
     ///
-    /// Refused in this order, and then all stays and the packet is handed back: `NoSuchPacket` where the neighbour
+    /// Refused in this order, and then all stays and the packet is returned: `NoSuchPacket` where the neighbour
     /// doesn't stand, `NoRoom` where the packet is wider than the room. `OutOfMemory` may stand in place of any answer.
     pub fn put_before(
         &mut self,

@@ -1,4 +1,4 @@
-//! Edits of which an allocation may fail: one that is refused leaves the telegram, and hands the packet back.
+//! Edits whose allocations may fail: a refused one leaves the telegram, and returns the packet.
 //!
 //! Each test comes twice: as it is, for a run in which one growth is refused, and with ample memory, where nothing may
 //! be refused. `scripts/check/test_growths.py` refuses each growth of the first in turn.

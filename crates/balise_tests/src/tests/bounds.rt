@@ -20,7 +20,7 @@ const REVOCATION: &[u8] =
 
 const TOO_LONG: Result<Status, RunFault> = Err(RunFault::InputTooLong);
 
-/// Two commands, of which the second undoes the first.
+/// Two commands. The second undoes the first.
 const PART: &[u8] = b"seth 5.100 0 M_MCOUNT 7\nundo\n";
 
 /// That a run over this beginning and a line of this number of letters prints this and ends so.

@@ -35,7 +35,7 @@ type Lengths = (usize, usize, bool);
 /// What is printed, part by part, and how the run ends, if these numbers of bytes are left of the input.
 pub(crate) type Cut = (Lengths, &'static [&'static str], Status);
 
-/// In the first three lines of a plan, the last of which has a telegram of 210 bits.
+/// In the first three lines of a plan. The third has a telegram of 210 bits.
 pub(crate) const FIRST_LINES: &[Cut] = &[
     ((0, 5, true), &["bad 1 1 BadLine\n"], BadInput),
     ((6, 11, true), &["bad 2 1 BadLine\n"], BadInput),

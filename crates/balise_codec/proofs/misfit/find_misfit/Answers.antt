@@ -1,4 +1,4 @@
--- The walk by the number's kind goes along the packet's form.
+-- The walk by the number's kind follows the packet's form.
 use Rattle.std.proofs.Common.{◌∙◌, refl}
 use Rattle.balise_codec.proofs.MisfitWalk.{walked, first_along}
 use Rattle.balise_codec.proofs.misfit.find_misfit.Goals as goal

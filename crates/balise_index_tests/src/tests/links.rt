@@ -14,7 +14,8 @@ pub(crate) fn place(group: Tag, telegram: u32, packet: Tag, element: u32) -> Lin
     }
 }
 
-/// Serials of packets: from the first on three places stand by themselves, from the second on two, from the third on one.
+/// Serials of packets: from the first on three places stand by themselves, from the second on two, from the third on
+/// one.
 pub(crate) const LOWEST: [u32; 3] = [0, 64, 4194304];
 
 /// The place of a serial, in one of two packets. They are in order of their serials.

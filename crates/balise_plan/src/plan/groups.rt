@@ -19,9 +19,9 @@ use balise_rules::{Refusal, Tag};
 impl Plan {
     /// Puts a group in under a tag that is new.
     ///
-    /// Refused in this order, and then all stays and the group is returned: `NoSuchGroup` where the neighbour doesn't stand,
-    /// `GroupTwice` where a group has its identity. `OutOfMemory` may stand in place of any answer. It is also the answer
-    /// for a tag that no plan has: `Base` from 292,999,999 on, or `Fresh` above 4,001,000,000.
+    /// Refused in this order, and then all stays and the group is returned: `NoSuchGroup` where the neighbour doesn't
+    /// stand, `GroupTwice` where a group has its identity. `OutOfMemory` may stand in place of any answer. It is also
+    /// the answer for a tag that no plan has: `Base` from 292,999,999 on, or `Fresh` above 4,001,000,000.
     pub fn put_group(
         &mut self,
         spot: Spot<Tag>,

@@ -85,7 +85,8 @@ pub fn run_facts<R: Read, W: Write>(
     run_lines(alloc, facts_asked(facts), AtEnd::GiveBack, reader, writer)
 }
 
-/// Runs as `run` does. `asked` states what is read and written; `at_end` states whether the session's memory is freed.
+/// Runs as `run` does. `asked` states what it prints and where it stops; `at_end` states whether the session's memory
+/// is freed.
 pub fn run_lines<R: Read, W: Write>(
     alloc: Global,
     asked: Asked,

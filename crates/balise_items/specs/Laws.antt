@@ -109,7 +109,7 @@ AreGivenBy version (s ∷ ss) (p ∷ ps) = IsGivenBy version s.values s.rest p.1
 AreGivenBy version [] (p ∷ ps) = ⊥
 AreGivenBy version (s ∷ ss) [] = ⊥
 
--- the padding that is given; if none is given, ones up to `due` bits, of which `taken` are used already
+-- the padding that is given; if none is given, ones up to `due` bits, since `taken` of them are used already
 abbrev pub given_padding : ℕ → ℕ → List Bool → List Bool
 given_padding due taken [] = ones (due - taken)
 given_padding due taken (b ∷ bs) = b ∷ bs

@@ -19,7 +19,7 @@ pub struct Item {
     pub(crate) number: u32,
     /// The header and the packets before the last.
     pub(crate) before: Vec<Section>,
-    /// The header or the packet to which the lines have come.
+    /// The header or the packet that the lines have reached.
     pub(crate) last: Section,
     /// The bits after packet 255, or none.
     pub(crate) padding: Bits,

@@ -125,7 +125,7 @@ NotesRefused =
     × Misfits (alone empty) (2, inserting 1 None [] ∷ [], []) (Some 0)
     × Misfits (alone empty) (2, set_line ∷ [], []) (Some 0)
 
--- An edit to be struck that doesn't stand, or on which a later one depends.
+-- An edit to be struck that doesn't stand, or that a later one depends on.
 abbrev pub StackRefused : Type 0
 StackRefused =
     Misfits (alone revoking) (2, set_line ∷ [], 7 ∷ []) (Some 1)

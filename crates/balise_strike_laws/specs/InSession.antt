@@ -43,7 +43,7 @@ StrikingHere = (base : Plan) → (items : List Item) → (serial : ℕ) → (e :
     find (λ f. eqb serial f.0.0) (entries base items) ≡ Some e → first_dependent e (later e.0.0 (entries base items)) ≡ None →
     StruckHere base items e (serials_behind e (later e.0.0 (entries base items))) (left_of e (serials_behind e (later e.0.0 (entries base items))) items)
 
--- An undo is the strike of the last edit, after which none stands.
+-- An undo is the strike of the last edit: none stands after it.
 abbrev pub UndoingHere : Type 0
 UndoingHere = (base : Plan) → (items : List Item) → (e : Item) → Standing base items → last items ≡ Some e →
     StruckHere base items (e, noted e.1 (made base (others e.0 items))) [] (others e.0 items)

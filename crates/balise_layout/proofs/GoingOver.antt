@@ -56,37 +56,41 @@ own_takes version n k e zero_not end_not = subst (λ (o : Option ℕ). takes o n
     at true = eq-eqb n n refl
     at false = rw (zero_not, end_not) refl
 
+-- nothing is kept of the first three fields
+abbrev pub KeepsNoHead : {A : Type 0} → (A → ℕ → Var → ℕ → A) → A → Type 0
+KeepsNoHead step a = ((l m : ℕ) → a ≡ step a l NidPacket m) × ((l m : ℕ) → a ≡ step a l QDir m) × ((l m : ℕ) → a ≡ step a l LPacket m)
+
 -- What keeps nothing of the first three fields goes over a packet as over what follows them.
-pub over_head : {A : Type 0} (step : A → ℕ → Var → ℕ → A) (next : ℕ → Form) (form : Form) (bits : List Bool) (at end : ℕ) (a : A) → ((l m : ℕ) → a ≡ step a l NidPacket m) → ((l m : ℕ) → a ≡ step a l QDir m) → ((l m : ℕ) → a ≡ step a l LPacket m) → at + 23 ≤ end → end ≤ length bits
+pub over_head : {A : Type 0} (step : A → ℕ → Var → ℕ → A) (next : ℕ → Form) (form : Form) (bits : List Bool) (at end : ℕ) (a : A) → KeepsNoHead step a → at + 23 ≤ end → end ≤ length bits
     → next (num (take 8 (drop at bits))) ≡ form → walk step (headed next) (a, take (end - at) (drop at bits)) ≡ walk step form (a, take (end - (at + 23)) (drop (at + 23) bits))
 unfolding width_of
-over_head step next form bits at end a number dir said long within is =
+over_head step next form bits at end a same long within is =
     let m : ℕ = num (take 8 (drop at bits)) in
     let places : at + 8 + 2 + 13 ≡ at + 23 = omega arith in
-    walk_step step NidPacket (λ k. plain QDir (plain LPacket (next k))) a a bits at end 8 m refl within (omega (arith, long)) refl (number (end - at) m)
-    ∙ walk_step step QDir (λ _. plain LPacket (next m)) a a bits (at + 8) end 2 (num (take 2 (drop (at + 8) bits))) refl within (omega (arith, long)) refl (dir (end - (at + 8)) _)
-    ∙ walk_step step LPacket (λ _. next m) a a bits (at + 8 + 2) end 13 (num (take 13 (drop (at + 8 + 2) bits))) refl within (omega (arith, long)) refl (said (end - (at + 8 + 2)) _)
+    walk_step step NidPacket (λ k. plain QDir (plain LPacket (next k))) a a bits at end 8 m refl within (omega (arith, long)) refl (same.0 (end - at) m)
+    ∙ walk_step step QDir (λ _. plain LPacket (next m)) a a bits (at + 8) end 2 (num (take 2 (drop (at + 8) bits))) refl within (omega (arith, long)) refl (same.1 (end - (at + 8)) _)
+    ∙ walk_step step LPacket (λ _. next m) a a bits (at + 8 + 2) end 13 (num (take 13 (drop (at + 8 + 2) bits))) refl within (omega (arith, long)) refl (same.2 (end - (at + 8 + 2)) _)
     ∙ ap (λ f. walk step f (a, take (end - (at + 8 + 2 + 13)) (drop (at + 8 + 2 + 13) bits))) is
     ∙ ap (λ (k : ℕ). walk step form (a, take (end - k) (drop k bits))) places
 
--- So does what keeps nothing of any field, and a walker that begins after the first three.
-over_rest : {A : Type 0} (step : A → ℕ → Var → ℕ → A) (version n : ℕ) (kind : PacketKind) (bits : List Bool) (at end : ℕ) (old : A × List Bool) (a : A) → ((x : A) (l : ℕ) (v : Var) (m : ℕ) → x ≡ step x l v m) → Begun version n kind bits at end → old ≡ (a, take (end - (at + 23)) (drop (at + 23) bits))
+-- So does a walker that begins after the first three fields of a packet that was begun.
+pub over_rest : {A : Type 0} (step : A → ℕ → Var → ℕ → A) (version n : ℕ) (kind : PacketKind) (bits : List Bool) (at end : ℕ) (old : A × List Bool) (a : A) → KeepsNoHead step a → Begun version n kind bits at end → old ≡ (a, take (end - (at + 23)) (drop (at + 23) bits))
     → walk step (headed (next_of (number_of kind))) (a, take (end - at) (drop at bits)) ≡ walk step (form_of (number_of kind)) old
 over_rest step version n kind bits at end old a same b start =
     let h = b.2 in
-    over_head step (next_of (number_of kind)) (form_of (number_of kind)) bits at end a (λ l m. same a l NidPacket m) (λ l m. same a l QDir m) (λ l m. same a l LPacket m) (omega (arith, b.0, h.least)) b.1
+    over_head step (next_of (number_of kind)) (form_of (number_of kind)) bits at end a same (omega (arith, b.0, h.least)) b.1
     (ap (next_of (number_of kind)) h.has_number ∙ next_own (number_of kind) n (own_takes version n (number_of kind) b.3 h.not_zero h.not_end))
     ∙ ap (walk step (form_of (number_of kind))) (sym start)
 
--- where what keeps nothing of fields goes over what follows the first three and fails, no packet is found
-pub over_fails : {A : Type 0} (step : A → ℕ → Var → ℕ → A) (version n : ℕ) (kind : PacketKind) (bits : List Bool) (at end : ℕ) (old : A × List Bool) (a : A) (e : LayoutFault) (y : A × List Bool) → ((x : A) (l : ℕ) (v : Var) (m : ℕ) → x ≡ step x l v m) → Begun version n kind bits at end → old ≡ (a, take (end - (at + 23)) (drop (at + 23) bits)) → walk step (form_of (number_of kind)) old ≡ Err (e, y) → (e ≢ OutOfMemory) × Finds version bits at (Err e)
+-- where what keeps nothing of the first three fields goes over what follows them and fails, no packet is found
+pub over_fails : {A : Type 0} (step : A → ℕ → Var → ℕ → A) (version n : ℕ) (kind : PacketKind) (bits : List Bool) (at end : ℕ) (old : A × List Bool) (a : A) (e : LayoutFault) (y : A × List Bool) → KeepsNoHead step a → Begun version n kind bits at end → old ≡ (a, take (end - (at + 23)) (drop (at + 23) bits)) → walk step (form_of (number_of kind)) old ≡ Err (e, y) → (e ≢ OutOfMemory) × Finds version bits at (Err e)
 over_fails step version n kind bits at end old a e y same b start walked =
     let front = take (end - at) (drop at bits) in
     let none = walked_none step (headed (next_of (number_of kind))) a front e y (over_rest step version n kind bits at end old a same b start ∙ walked) in
     (mismatch e none.0, bounded_reads version n (end - at) (drop at bits) b.2 ∙ ap (read_packet (drop (end - at) (drop at bits))) (same_form version n kind bits at end b ∙ none.1) ∙ ap refused (sym none.0))
 
 -- where it comes to the end, the packet is found
-pub over_ends : {A : Type 0} (step : A → ℕ → Var → ℕ → A) (version n : ℕ) (kind : PacketKind) (bits : List Bool) (at end : ℕ) (old : A × List Bool) (a : A) (after : A × List Bool) → ((x : A) (l : ℕ) (v : Var) (m : ℕ) → x ≡ step x l v m) → Begun version n kind bits at end → old ≡ (a, take (end - (at + 23)) (drop (at + 23) bits)) → walk step (form_of (number_of kind)) old ≡ Ok after → Finds version bits at (Ok (kind, end))
+pub over_ends : {A : Type 0} (step : A → ℕ → Var → ℕ → A) (version n : ℕ) (kind : PacketKind) (bits : List Bool) (at end : ℕ) (old : A × List Bool) (a : A) (after : A × List Bool) → KeepsNoHead step a → Begun version n kind bits at end → old ≡ (a, take (end - (at + 23)) (drop (at + 23) bits)) → walk step (form_of (number_of kind)) old ≡ Ok after → Finds version bits at (Ok (kind, end))
 over_ends step version n kind bits at end old a after same b start walked =
     let size = end - at in
     let front = take size (drop at bits) in

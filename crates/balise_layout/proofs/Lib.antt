@@ -10,6 +10,7 @@ pub mod Searches
 pub mod ElementsFound
 pub mod Refused
 pub mod Nameless
+pub mod NamedFound
 pub mod OwnNumber
 pub mod FewElements
 pub mod GoingOver

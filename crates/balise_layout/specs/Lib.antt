@@ -11,6 +11,7 @@ pub mod First
 pub mod Setting
 pub mod Laws
 pub mod LayoutLaws
+pub mod Naming
 pub use Rattle.balise_rules.specs.Variables
 pub use Rattle.balise_rules.specs.Refusals
 pub use Rattle.balise_rules.specs.Bits

@@ -4,6 +4,7 @@ ghost use Rattle.std.specs.Prelude.{◌≡◌, ◌≤◌, ◌++◌, ◌∷◌, [
 ghost use Rattle.balise_layout.specs.Linked.{few};
 
 use crate::fault::LayoutFault;
+use crate::named::Named;
 use crate::visit::Visit;
 use balise_rules::{Id, Var};
 use std::marker::Model;
@@ -94,6 +95,17 @@ impl FindFew {
             country,
             found: FewIdentities::none(),
             more: false,
+        }
+    }
+
+    /// What was found, as what a packet with elements names.
+    pub(crate) fn into_named(self) -> Named
+        ensures few { self.2 ≡ false → result ≡ Named.Few self.1 }
+        ensures many { self.2 ≡ true → result ≡ Named.Many }
+    {
+        match self.into_few() {
+            Some(few) => Named::Few(few),
+            None => Named::Many,
         }
     }
 

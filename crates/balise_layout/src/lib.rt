@@ -10,6 +10,7 @@ mod few;
 mod kind;
 pub mod laws;
 mod layout;
+mod named;
 mod packet;
 mod packet_ref;
 mod parts;
@@ -27,6 +28,7 @@ pub use fault::LayoutFault;
 pub use few::FewIdentities;
 pub use kind::{PacketKind, is_known, may_have_elements};
 pub use layout::Layout;
+pub use named::Named;
 pub use packet::Packet;
 pub use packet_ref::PacketRef;
 pub use tables::{

@@ -10,6 +10,7 @@ ghost use Rattle.balise_rules.specs.Names.{links_of};
 ghost use Rattle.balise_layout.specs.Collected.{all_keyed};
 ghost use Rattle.balise_layout.specs.First.{LiesAt, ReadsFirst, StandsAt};
 ghost use Rattle.balise_layout.specs.Held.{before, held, with_field, Holds, IsHeld};
+ghost use Rattle.balise_layout.specs.Naming.{StandsNamed};
 ghost use Rattle.balise_layout.specs.Layouts.{next_of};
 ghost use Rattle.balise_layout.specs.Kinds.{number_of, Finds};
 ghost use Rattle.balise_layout.specs.Setting.{flipped, renamed, turned, Sets};
@@ -17,7 +18,9 @@ ghost use Rattle.balise_layout.specs.Setting.{flipped, renamed, turned, Sets};
 use crate::bounds::bounds;
 use crate::elements::Elements;
 use crate::fault::LayoutFault;
+use crate::few::FindFew;
 use crate::kind::PacketKind;
+use crate::named::Named;
 use crate::packet_ref::PacketRef;
 use crate::visit::Nothing;
 use crate::walker::Walker;
@@ -80,6 +83,30 @@ impl Packet {
     {
         let (_, end) = Packet::find(bits, at, version)?;
         Ok(end)
+    }
+
+    /// The place after the packet that `read` would read, and what it names in a telegram of this country, in one walk over
+    /// its fields; or the first fault. Takes no memory.
+    #[inline(always)]
+    pub fn check_named(
+        bits: &Bits,
+        at: usize,
+        version: u32,
+        country: u32,
+    ) -> Result<(usize, Named), LayoutFault>
+        ensures stands { StandsNamed version country bits.now at result }
+        ensures fault { IfErr result (λ e. e ≢ LayoutFault.OutOfMemory) }
+    {
+        let (number, end) = bounds(bits, at)?;
+        let kind = PacketKind::of(version, number);
+        if kind.has_elements() {
+            let mut walker = Walker::new(FindFew::new(country), bits, at + 23, end);
+            kind.walk_rest(&mut walker)?;
+            return Ok((end, walker.into_visitor().into_named()));
+        }
+        let mut walker = Walker::new(Nothing, bits, at + 23, end);
+        kind.walk_rest(&mut walker)?;
+        Ok((end, Named::Nothing))
     }
 
     // The kind of the packet at a place and the place after it, or the first fault. Takes no memory.

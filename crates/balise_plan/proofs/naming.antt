@@ -4,6 +4,7 @@ pub mod Identities
 pub mod Known
 pub mod LinkSteps
 pub mod LinksAt
+pub mod Noted
 pub mod OfGroup
 pub mod OfPacket
 pub mod Parts

@@ -4,12 +4,14 @@ ghost use Rattle.std.specs.Prelude.{◌≡◌, ◌≤◌, is_some, insert, lengt
 ghost use Rattle.balise_rules.specs.Plan.{group_named, identity_of, Group as GroupValue, IsSoundGroup};
 ghost use Rattle.balise_rules.specs.Tagged.{find};
 ghost use Rattle.balise_rules.specs.Tags.{same_tag};
+ghost use Rattle.balise_plan.specs.GroupNames.{AreLinks};
 ghost use Rattle.balise_plan.specs.Held.{IsHeld};
 ghost use Rattle.balise_index.specs.NameIndex.{indexed, names_of, tags_of, IsUnclaimed};
 ghost use Rattle.balise_index.specs.AtSpot.{put_in, spot_stands};
 
 use crate::group::Group;
-use crate::links::group::{forget_group, set_group};
+use crate::group_names::GroupNames;
+use crate::links::group::{forget_group, note_group};
 use balise_index::{NameIndex, OrderedMap, Spot};
 use balise_rules::{Id, Refusal, Tag};
 use std::alloc::Global;
@@ -39,9 +41,9 @@ pub(crate) fn is_taken(index: &NameIndex, id: Id) -> bool
     index.tag(id).is_some()
 }
 
-/// Puts a group of this identity in at a place, under a tag that is new, and notes its identity and its links. Refused
-/// as `GroupTwice` where a group has its identity, otherwise only as `OutOfMemory`. Then all stays and the group is
-/// returned.
+/// Puts a group of this identity, which names these, in at a place, under a tag that is new, and notes its identity and its
+/// links. Refused as `GroupTwice` where a group has its identity, otherwise only as `OutOfMemory`. Then all stays and the
+/// group is returned.
 pub(crate) fn put_at(
     groups: &mut OrderedMap<Group>,
     index: &mut NameIndex,
@@ -49,8 +51,10 @@ pub(crate) fn put_at(
     g: Tag,
     own: Id,
     group: Group,
+    names: &GroupNames,
 ) -> Result<(), (Refusal, Group)>
     requires own { own ≡ identity_of group }
+    requires names { AreLinks names.now group }
     requires sound { IsSoundGroup group }
     requires held { IsHeld (tags_of index.old) (names_of index.old) groups.old.entries }
     requires within { i ≤ length groups.old.entries }
@@ -70,7 +74,7 @@ pub(crate) fn put_at(
         index.forget_tag(own);
         return Err((Refusal::OutOfMemory, group));
     }
-    if set_group(alloc, index, g, &group, true).is_err() {
+    if note_group(alloc, index, g, &group, names).is_err() {
         forget_group(alloc, index, g, &group);
         index.forget_tag(own);
         return Err((Refusal::OutOfMemory, group));

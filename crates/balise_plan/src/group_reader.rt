@@ -1,12 +1,14 @@
 //! A group read telegram by telegram.
 
-ghost use Rattle.std.specs.Prelude.{◌≡◌, [], Bool, IfOk, List, MatchResult, length, Err, Ok};
-ghost use Rattle.balise_plan.specs.GroupReading.{group_of, ReadsOn};
-ghost use Rattle.balise_rules.specs.Plan.{identity_of, read_group, IsSoundGroup};
+ghost use Rattle.std.specs.Prelude.{◌≡◌, [], Bool, IfOk, List, length, Ok};
+ghost use Rattle.balise_plan.specs.GroupNames.{AreLinks};
+ghost use Rattle.balise_plan.specs.GroupReading.{group_of, ReadsOn, WereRead};
+ghost use Rattle.balise_rules.specs.Plan.{read_group, IsSoundGroup};
 
 use crate::group::{Group, Telegrams};
+use crate::group_names::GroupNames;
 use crate::one_or_more::OneOrMore;
-use balise_rules::{Id, Refusal};
+use balise_rules::Refusal;
 use balise_telegram::{Bits, Telegram};
 use std::alloc::Global;
 use std::marker::Model;
@@ -15,17 +17,19 @@ use std::marker::Model;
 #[derive(Drop)]
 pub struct GroupReader {
     telegrams: Telegrams,
+    names: GroupNames,
 }
 
 impl Model for GroupReader {
     ghost use Rattle.balise_rules.specs.Plan as rules;
+    ghost use Rattle.balise_plan.specs.GroupNames.{AreLinks};
     ghost use Rattle.balise_plan.specs.GroupReading.{WereRead};
 
     ghost Value = { rules.Group };
 
     ghost view = { λ g. g.telegrams };
 
-    ghost invariant = { λ g. WereRead g.telegrams };
+    ghost invariant = { λ g. WereRead g.telegrams × AreLinks g.names g.telegrams };
 }
 
 impl GroupReader {
@@ -35,6 +39,7 @@ impl GroupReader {
     {
         GroupReader {
             telegrams: OneOrMore::new(alloc),
+            names: GroupNames::Nothing,
         }
     }
 
@@ -52,14 +57,16 @@ impl GroupReader {
     pub fn push(&mut self, bits: Bits) -> Result<(), Refusal>
         ensures { ReadsOn bits self.old result self.new }
     {
-        if self.telegrams.len() >= 8 {
+        let tag = self.telegrams.len();
+        if tag >= 8 {
             return Err(Refusal::GroupSize);
         }
-        let telegram = match Telegram::of_bits(bits) {
-            Ok(telegram) => telegram,
+        let (telegram, names) = match Telegram::named(bits) {
+            Ok(read) => read,
             Err(fault) => return Err(fault.refusal()),
         };
         self.telegrams.push(telegram)?;
+        self.names.add(tag as u32, names);
         Ok(())
     }
 
@@ -71,21 +78,21 @@ impl GroupReader {
         ensures sound { IfOk result (λ g. IsSoundGroup g) }
         ensures read { IfOk result (λ g. (bs : List (List Bool)) × (read_group bs ≡ Ok g)) }
     {
-        match self.identified() {
+        let (telegrams, _names) = self.into_parts();
+        match Group::of_read(telegrams) {
             Ok((_, group)) => Ok(group),
             Err(refusal) => Err(refusal),
         }
     }
 
-    // The group that `done` answers, and its identity.
+    // The telegrams that were read, and what they name.
     #[inline(always)]
-    pub(crate) fn identified(self) -> Result<(Id, Group), Refusal>
-        ensures group { MatchResult result (λ r. group_of self ≡ Ok r.1) (λ e. group_of self ≡ Err e) }
-        ensures own { IfOk result (λ r. r.0 ≡ identity_of r.1) }
-        ensures sound { IfOk result (λ r. IsSoundGroup r.1) }
-        ensures read { IfOk result (λ r. (bs : List (List Bool)) × (read_group bs ≡ Ok r.1)) }
+    pub(crate) fn into_parts(self) -> (Telegrams, GroupNames)
+        ensures telegrams { result.0 ≡ self }
+        ensures names { AreLinks result.1 self }
+        ensures read { WereRead self }
     {
-        let GroupReader { telegrams } = self;
-        Group::of_read(telegrams)
+        let GroupReader { telegrams, names } = self;
+        (telegrams, names)
     }
 }

@@ -2,6 +2,7 @@
 #![tactic(auto)]
 
 mod group;
+mod group_names;
 mod group_places;
 mod group_reader;
 mod links;

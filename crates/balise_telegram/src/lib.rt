@@ -7,10 +7,10 @@ mod packet_digits;
 mod telegram;
 
 pub use balise_layout::{
-    Bits, BitsFault, LayoutFault, NO_GROUP, Packet, PacketKind, PacketRef, is_known,
+    Bits, BitsFault, FewIdentities, LayoutFault, NO_GROUP, Packet, PacketKind, PacketRef, is_known,
 };
 pub use balise_rules::{Id, Refusal, Tag as PacketTag, Var};
 pub use fault::TelegramFault;
 pub use header::Header;
 pub use packet_digits::packet_in;
-pub use telegram::{Packets, Telegram};
+pub use telegram::{Packets, Telegram, TelegramNames};

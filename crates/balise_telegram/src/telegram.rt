@@ -4,6 +4,7 @@ mod changes;
 mod contents;
 mod edited;
 mod iter;
+mod names;
 mod packets;
 mod reading;
 mod walking;
@@ -32,6 +33,7 @@ use crate::telegram::walking::{Place, after, ends, walk};
 use balise_layout::{Bits, PacketRef};
 use balise_rules::{Id, Var};
 pub use iter::Packets;
+pub use names::TelegramNames;
 use std::marker::Model;
 
 /// A telegram of 210 or 830 bits. It is held as the bits that it shows. Once a packet was put in, taken out or moved,

@@ -43,6 +43,7 @@ impl Group {
     pub(crate) fn of_read(telegrams: Telegrams) -> Result<(Id, Group), Refusal>
         requires { WereRead telegrams }
         ensures group { MatchResult result (λ r. group_of telegrams ≡ Ok r.1) (λ e. group_of telegrams ≡ Err e) }
+        ensures same { IfOk result (λ r. r.1 ≡ telegrams) }
         ensures own { IfOk result (λ r. r.0 ≡ identity_of r.1) }
         ensures sound { IfOk result (λ r. IsSoundGroup r.1) }
         ensures read { IfOk result (λ r. (bs : List (List Bool)) × (read_group bs ≡ Ok r.1)) }

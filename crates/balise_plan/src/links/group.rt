@@ -1,22 +1,51 @@
 //! All links of a group in the index of names.
 
-ghost use Rattle.std.specs.Prelude.{◌≡◌, IsOk, OnOk, OnErr, false};
+ghost use Rattle.std.specs.Prelude.{◌≡◌, IsOk, OnOk, OnErr, false, true};
 ghost use Rattle.balise_rules.specs.Plan.{country_of};
 ghost use Rattle.balise_plan.specs.GroupLinks.{links_in_group, links_in_packets, KeepsOthers, SetsAll};
+ghost use Rattle.balise_plan.specs.GroupNames.{AreLinks};
 ghost use Rattle.balise_index.specs.NameIndex.{names_of, tags_of};
 
 use crate::group::Group;
-use crate::links::packet::set_linking;
+use crate::group_names::GroupNames;
+use crate::links::packet::{set_elements, set_linking};
 use crate::packet_place::PacketPlace;
 use balise_index::NameIndex;
 use balise_rules::Tag;
 use balise_telegram::Telegram;
 use std::alloc::{AllocError, Global};
 
-/// Notes the links of a group, packet by packet, or with `noted` false forgets them, which takes no memory. Where memory
-/// runs out, some of them may be noted.
+/// Notes the links of a group, by what it names. Where memory runs out, some of them may be noted.
 #[inline(always)]
-pub(crate) fn set_group(
+pub(crate) fn note_group(
+    alloc: Global,
+    index: &mut NameIndex,
+    g: Tag,
+    group: &Group,
+    names: &GroupNames,
+) -> Result<(), AllocError>
+    requires { AreLinks names.now group.now }
+    ensures set { OnOk result (SetsAll true (links_in_group g group.now) (names_of index.old) (names_of index.new)) }
+    ensures others { OnErr result (KeepsOthers (links_in_group g group.now) (names_of index.old) (names_of index.new)) }
+    ensures tags { tags_of index.new ≡ tags_of index.old }
+{
+    match names {
+        GroupNames::Nothing => Ok(()),
+        GroupNames::One(telegram, packet, few) => {
+            let place = PacketPlace {
+                group: g,
+                telegram: *telegram,
+                packet: Tag::Base(*packet),
+            };
+            set_elements(alloc, index, place, few.as_slice(), true)
+        }
+        GroupNames::Many => set_group(alloc, index, g, group, true),
+    }
+}
+
+// Notes the links of a group, packet by packet, or with `noted` false forgets them, which takes no memory. Where memory
+// runs out, some of them may be noted.
+fn set_group(
     alloc: Global,
     index: &mut NameIndex,
     g: Tag,

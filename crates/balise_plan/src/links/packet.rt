@@ -88,8 +88,9 @@ fn set_many(
     set_elements(alloc, index, place, elements.as_slice(), noted)
 }
 
+/// Notes or forgets the links of a packet that names these identities.
 #[inline(always)]
-fn set_elements(
+pub(crate) fn set_elements(
     alloc: Global,
     index: &mut NameIndex,
     place: PacketPlace,

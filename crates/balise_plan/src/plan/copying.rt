@@ -3,6 +3,7 @@
 ghost use Rattle.std.specs.Prelude.{◌≡◌, IfOk, IsOkUnless};
 
 use crate::group::Group;
+use crate::group_names::GroupNames;
 use crate::group_places::put_at;
 use crate::plan::Plan;
 use balise_index::{NameIndex, OrderedMap};
@@ -23,7 +24,17 @@ impl Plan {
             };
             let group = group.copy()?;
             let own = group.sound_identity();
-            if put_at(&mut groups, &mut index, i, tag, own, group).is_err() {
+            if put_at(
+                &mut groups,
+                &mut index,
+                i,
+                tag,
+                own,
+                group,
+                &GroupNames::Many,
+            )
+            .is_err()
+            {
                 return Err(Refusal::OutOfMemory);
             }
         }

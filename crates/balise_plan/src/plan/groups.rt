@@ -10,6 +10,7 @@ ghost use Rattle.balise_plan.specs.Held.{DoesAlways, MayChange};
 ghost use Rattle.balise_plan.specs.Spots.{PutsGroup};
 
 use crate::group::Group;
+use crate::group_names::GroupNames;
 use crate::group_places::{place_of, put_at};
 use crate::links::group::forget_group;
 use crate::plan::Plan;
@@ -36,7 +37,15 @@ impl Plan {
             return Err((Refusal::NoSuchGroup, group));
         };
         let own = group.sound_identity();
-        match put_at(&mut self.groups, &mut self.index, i, g, own, group) {
+        match put_at(
+            &mut self.groups,
+            &mut self.index,
+            i,
+            g,
+            own,
+            group,
+            &GroupNames::Many,
+        ) {
             Ok(()) => {
                 self.changes += 1;
                 Ok(())

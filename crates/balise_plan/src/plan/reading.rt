@@ -1,12 +1,14 @@
 //! A plan read group by group.
 
 ghost use Rattle.std.specs.Prelude.{◌≡◌, ◌≢◌, Bool, IfErr, IfOk, OnOk, Ok, Err, List, map, []};
+ghost use Rattle.balise_plan.specs.GroupNames.{AreLinks};
 ghost use Rattle.balise_plan.specs.GroupReading.{PushesGroup, PushesRead};
 ghost use Rattle.balise_rules.specs.Plan.{identity_of, pushed, read_plan, IsSoundGroup};
 ghost use Rattle.balise_plan.specs.Spots.{Pushes};
 ghost use Rattle.balise_index.specs.NameIndex.{indexed, tags_of, IsUnclaimed};
 
 use crate::group::Group;
+use crate::group_names::GroupNames;
 use crate::group_places::{is_taken, put_at};
 use crate::group_reader::GroupReader;
 use crate::plan::Plan;
@@ -43,7 +45,7 @@ impl Plan {
             Err(fault) => return Err(fault),
         };
         let own = group.sound_identity();
-        self.push_read(own, group)
+        self.push_read(own, group, &GroupNames::Many)
     }
 
     /// Puts the group of telegrams that were read in at the end, under the tag of its place, which counts as no change.
@@ -55,16 +57,18 @@ impl Plan {
         ensures pushes { PushesRead group self.old result self.new }
         ensures read { OnOk result ((bs : List (List Bool)) × (pushed self.old.groups bs ≡ Ok self.new.groups)) }
     {
-        match group.identified() {
-            Ok((own, group)) => self.push_read(own, group),
+        let (telegrams, names) = group.into_parts();
+        match Group::of_read(telegrams) {
+            Ok((own, group)) => self.push_read(own, group, &names),
             Err(fault) => Err(fault),
         }
     }
 
-    // Puts a group of this identity in at the end, under the tag of its place.
-    fn push_read(&mut self, own: Id, group: Group) -> Result<(), Refusal>
+    // Puts a group of this identity, which names these, in at the end, under the tag of its place.
+    fn push_read(&mut self, own: Id, group: Group, names: &GroupNames) -> Result<(), Refusal>
         requires count { self.old.changes ≡ 0 }
         requires own { own ≡ identity_of group }
+        requires names { AreLinks names.now group }
         requires sound { IsSoundGroup group }
         ensures { PushesGroup group self.old result self.new }
     {
@@ -74,7 +78,7 @@ impl Plan {
         }
         let tag = Tag::Base(place as u32);
         let index = &mut self.index;
-        if let Err((refusal, _)) = put_at(&mut self.groups, index, place, tag, own, group) {
+        if let Err((refusal, _)) = put_at(&mut self.groups, index, place, tag, own, group, names) {
             return Err(refusal);
         }
         Ok(())

@@ -24,7 +24,7 @@ new-walker-requires-clause-ordered c = lies_long _ _ _ _ _ (lies c.self.inside c
 walked : (i : Inside) (c : ℕ) (p : Packet) (a : ℕ × List Id × Bool) (w : (ℕ × List Id × Bool) × List Bool) → Lies (next_of (number_of i.kind)) i.bits.now i.at i.end p → a ≡ (c, [], false) → w ≡ (a, take (i.end - (i.at + 23)) (drop (i.at + 23) i.bits.now)) → walk link_few (headed (next_of (number_of i.kind))) ((c, [], false), take (i.end - i.at) (drop i.at i.bits.now)) ≡ walk link_few (form_of (number_of i.kind)) w
 walked i c p a w l is start =
     let own = number_of i.kind in
-    over_head link_few (next_of own) (form_of own) i.bits.now i.at i.end (c, [], false) (λ k m. refl) (λ k m. refl) (λ k m. refl) (lies_long _ _ _ _ _ l) l.within (lying_form own i.bits.now i.at i.end p l)
+    over_head link_few (next_of own) (form_of own) i.bits.now i.at i.end (c, [], false) (λ k m. refl, λ k m. refl, λ k m. refl) (lies_long _ _ _ _ _ l) l.within (lying_form own i.bits.now i.at i.end p l)
     ∙ ap (walk link_few (form_of own)) (ap (λ (x : ℕ × List Id × Bool). (x, take (i.end - (i.at + 23)) (drop (i.at + 23) i.bits.now))) (sym is) ∙ sym start)
 
 -- what it has found at the end is what there is in the packet

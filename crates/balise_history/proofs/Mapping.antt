@@ -1,7 +1,11 @@
 -- A list that is changed item by item, in order.
-use Rattle.std.proofs.Common.{◌≡◌, ◌<◌, ◌+◌, ◌∙◌, ℕ, List, ◌++◌, length, get_or, map, take, drop, set, ap, arith}
-use Rattle.std.proofs.lemmas.List.{append-nil, drop_all, get_or_default, length-append, length-drop, length-map, length-take, take_all}
+use Rattle.std.proofs.Common.{◌≡◌, ◌<◌, ◌+◌, ◌∙◌, ℕ, suc, List, ◌++◌, length, get_or, map, take, drop, set, refl, ap, arith}
+use Rattle.std.proofs.lemmas.List.{append-nil, drop-set-lt, drop_all, get_or_default, length-append, length-drop, length-map, length-take, take-set, take_all}
 use Rattle.std.proofs.lemmas.List.Edits.{map_over_more}
+
+-- what an item was changed to is nothing to the others
+pub others-left : {A : Type 0} (xs : List A) (i : ℕ) (x : A) → take i (set xs i x) ++ drop (suc i) (set xs i x) ≡ take i xs ++ drop (suc i) xs
+others-left xs i x = rw (take-set, drop-set-lt (suc i) xs i x (omega arith)) refl
 
 module _ {A : Type 0} (f : A → A) where
   -- the first items were changed, and the others not yet

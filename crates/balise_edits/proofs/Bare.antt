@@ -64,17 +64,18 @@ dropped_at b (Some ys) = refl
 pub no_packet : (g : Tag) (plan : Plan) → (noted (DropGroup g) plan).packet ≡ None
 no_packet g plan = dropped_at (behind same_tag g plan) (find same_tag g plan)
 
--- ---- the entry of an edit that takes nothing out
+-- ---- the entry of an edit that was the last one
 
-pub bare_last : (f : Entry) (e : Edit) (groups : Plan) → f.0.1 ≡ e → takes_out e ≡ false → IsLast f groups → f ≡ (f.0, without_content f.1)
-bare_last f e groups is h l =
+-- where it takes nothing out, its entry has nothing to lose
+pub bare_last : {f : Entry} {e : Edit} {groups : Plan} → IsLast f groups → f.0.1 ≡ e → takes_out e ≡ false → f ≡ (f.0, without_content f.1)
+bare_last {f = f} l is h =
     let bare : without_content (noted f.0.1 l.before) ≡ noted f.0.1 l.before = bare_noted f.0.1 l.before (ap takes_out is ∙ h) in
-    ap (λ m. (f.0, m)) (sym l.noted_there ∙ sym bare ∙ ap without_content l.noted_there)
+    ap (λ m. (f.0, m)) (rw (← l.noted_there) (sym bare))
 
--- ---- the edit of an entry, where it is told apart
+-- what taking it back asks of the plan holds
+pub asks_of : {f : Entry} {e : Edit} {groups : Plan} → IsLast f groups → f.0.1 ≡ e → AsksBack (f.0.0, e) f.1 groups
+asks_of {f = f} {groups = groups} l is = subst (λ x. AsksBack (f.0.0, x) f.1 groups) is (last_asks f groups l)
 
-pub asks_of : (f : Entry) (e : Edit) (groups : Plan) → f.0.1 ≡ e → IsLast f groups → AsksBack (f.0.0, e) f.1 groups
-asks_of f e groups is l = subst (λ x. AsksBack (f.0.0, x) f.1 groups) is (last_asks f groups l)
-
-pub back_of : (f : Entry) (e : Edit) (old : held.Plan) → f.0.1 ≡ e → changed_to (back (f.0.0, e) f.1 old.groups) old ≡ changed_to (back f.0 f.1 old.groups) old
-back_of f e old is = ap (λ x. changed_to (back (f.0.0, x) f.1 old.groups) old) (sym is)
+-- it is taken back as that edit is
+pub back_of : {f : Entry} {e : Edit} (old : held.Plan) → IsLast f old.groups → f.0.1 ≡ e → changed_to (back (f.0.0, e) f.1 old.groups) old ≡ changed_to (back f.0 f.1 old.groups) old
+back_of {f = f} old l is = ap (λ x. changed_to (back (f.0.0, x) f.1 old.groups) old) (sym is)

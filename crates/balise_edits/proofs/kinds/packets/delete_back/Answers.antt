@@ -1,3 +1,4 @@
+-- A packet that was taken out goes back into its place, which isn't refused; where memory is wanting, the entry gets it back.
 use Rattle.std.proofs.Common.{◌≡◌, ◌∙◌, None, Some, inl, inr, ap, subst, sym}
 use Rattle.balise_rules.specs.Packet.{IsSpelt}
 use Rattle.balise_rules.specs.Tagged.{find}
@@ -15,12 +16,12 @@ use Rattle.balise_edits.proofs.kinds.packets.delete_back.Goals as goal
 
 pub put_packet-requires-clause-new : goal.put_packet-requires-clause-new
 put_packet-requires-clause-new c y is =
-    let gap = gap_of c.args.entry.now c.args.g c.args.t c.args.p c.in-Some.packet c.args.plan.now.groups c.requires.is c.requires.last c.in-Some.ensures.taken in
+    let gap = gap_of c.requires.last c.requires.is c.in-Some.ensures.taken in
     subst (λ (z : Telegram). find same_tag c.args.p z.packets ≡ None) (unsome (sym gap.stands ∙ is)) gap.gone
 
 pub put_packet-requires-clause-spelt : goal.put_packet-requires-clause-spelt
 put_packet-requires-clause-spelt c y is =
-    let gap = gap_of c.args.entry.now c.args.g c.args.t c.args.p c.in-Some.packet c.args.plan.now.groups c.requires.is c.requires.last c.in-Some.ensures.taken in
+    let gap = gap_of c.requires.last c.requires.is c.in-Some.ensures.taken in
     subst (λ (z : Telegram). IsSpelt (version_of z) c.in-Some.packet) (unsome (sym gap.stands ∙ is)) gap.spelt
 
 pub returns-in-Err : goal.returns-in-Err
@@ -28,8 +29,8 @@ returns-in-Err c =
     let f = c.args.entry.now in
     let groups = c.args.plan.now.groups in
     let before : c.before-before.result ≡ f.1.before = c.before-before.ensures ∙ ap (λ m. m.before) c.note.ensures in
-    let gap : HasGap c.args.g c.args.t c.args.p c.in-Some.packet c.before-before.result groups = subst (λ b. HasGap c.args.g c.args.t c.args.p c.in-Some.packet b groups) (sym before) (gap_of f c.args.g c.args.t c.args.p c.in-Some.packet groups c.requires.is c.requires.last c.in-Some.ensures.taken) in
-    let r : put_refusal c.args.g c.args.t (Before c.before-before.result) c.in-Some.packet groups ≡ None = packet_free c.args.g c.args.t c.args.p c.in-Some.packet c.before-before.result groups gap in
+    let gap : HasGap c.args.g c.args.t c.args.p c.in-Some.packet c.before-before.result groups = rw before (gap_of c.requires.last c.requires.is c.in-Some.ensures.taken) in
+    let free : put_refusal c.args.g c.args.t (Before c.before-before.result) c.in-Some.packet groups ≡ None = packet_free c.args.g c.args.t c.args.p c.in-Some.packet c.before-before.result groups gap in
     let kept : c.keep_packet.new.self ≡ f = c.keep_packet.ensures ∙ ap (λ (h : Entry). (h.0, with_packet (Some c.in-Err.packet) h.1)) c.take_packet.ensures.left
     ∙ ap (λ q. (f.0, with_packet q f.1)) (ap Some c.in-Err.ensures.1 ∙ c.in-Some.ensures.taken) in
     (elim c.in-Err.ensures.0 [ inl e ↦ e | inr e ↦ absurd (cc) ], kept, c.in-Err.ensures.2)

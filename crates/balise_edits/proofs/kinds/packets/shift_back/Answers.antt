@@ -1,5 +1,5 @@
-use Rattle.std.proofs.Common.{◌≡◌, ◌∙◌, None, inl, inr, refl, ap, subst, sym}
-use Rattle.balise_rules.specs.declared.tagged_edit.TaggedEdit.TheVariants.{MovePacket}
+-- A packet put back where it was, which isn't refused.
+use Rattle.std.proofs.Common.{◌≡◌, ◌∙◌, None, inl, inr, refl, ap}
 use Rattle.balise_index.specs.declared.spot.Spot.TheVariants.{Before}
 use Rattle.balise_plan.specs.Spots.{shift_refusal}
 use Rattle.balise_edits.proofs.Bare.{asks_of}
@@ -10,7 +10,7 @@ pub returns-in-Err : goal.returns-in-Err
 returns-in-Err c =
     let f = c.args.entry.now in
     let groups = c.args.plan.now.groups in
-    let asks = asks_of f (MovePacket c.args.g c.args.t c.args.p c.requires.is.0) groups c.requires.is.1 c.requires.last in
+    let asks = asks_of c.requires.last c.requires.is.1 in
     let before : c.before-before.result ≡ f.1.before = c.before-before.ensures ∙ ap (λ m. m.before) c.note.ensures in
-    let r : shift_refusal c.args.g c.args.t c.args.p (Before c.before-before.result) groups ≡ None = subst (λ b. shift_refusal c.args.g c.args.t c.args.p (Before b) groups ≡ None) (sym before) (shift_free c.args.g c.args.t c.args.p f.1.before groups asks) in
+    let free : shift_refusal c.args.g c.args.t c.args.p (Before c.before-before.result) groups ≡ None = rw before (shift_free c.args.g c.args.t c.args.p f.1.before groups asks) in
     (elim c.in-Err.ensures.shifts.0 [ inl e ↦ e | inr e ↦ absurd (cc) ], refl, c.in-Err.ensures.shifts.1)

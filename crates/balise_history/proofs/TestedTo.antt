@@ -26,9 +26,9 @@ none-dependent : (e : Entry) (fs : List Entry) → AllApart e fs → first_depen
 none-dependent e fs all = skip (first_dependent e) e (dependent-apart e) (length fs) fs (subst (AllApart e) (sym (take-length fs)) all) ∙ ap (first_dependent e) (drop-length fs)
 
 -- those that the numbers of their homes tell
-pub counted : (e : Entry) (fs : List Entry) (hs : List ℕ) (b : List ℕ) (p n : ℕ) → TestedTo e fs b p → hs ≡ map number_at fs → n ≤ length (take (length hs - p) (drop p hs))
+pub counted : {e : Entry} {fs : List Entry} {b : List ℕ} {p : ℕ} (hs : List ℕ) (n : ℕ) → TestedTo e fs b p → hs ≡ map number_at fs → n ≤ length (take (length hs - p) (drop p hs))
     → ((gs : List Entry) → take (length hs - p) (drop p hs) ≡ map number_at gs → AllApart e (take n gs)) → TestedTo e fs b (p + n)
-counted e fs hs b p n t is w all =
+counted {e = e} {fs = fs} {b = b} {p = p} hs n t is w all =
     let here = told e fs hs p n t.found.within is w all in
     record {
       tested = t.tested ∙ skip (first_dependent e) e (dependent-apart e) n (drop p fs) here.1 ∙ ap (first_dependent e) (drop-drop n p fs);
@@ -45,29 +45,29 @@ stepped e fs b c p f t g n s = record {
   found = found-next (serials_behind e) fs b c p f t.found g s;
 }
 
-pub next-apart : (e : Entry) (fs : List Entry) (b : List ℕ) (p : ℕ) (f : Entry) → TestedTo e fs b p → slice_get fs p ≡ Some f → apart e f ≡ true → TestedTo e fs b (p + 1)
-next-apart e fs b p f t g a = stepped e fs b b p f t g (independent-apart e f a) (ap (λ (l : List ℕ). b ++ l) (behind-apart e f (drop (p + 1) fs) a))
+pub next-apart : {e : Entry} {fs : List Entry} {b : List ℕ} {p : ℕ} {f : Entry} → TestedTo e fs b p → slice_get fs p ≡ Some f → apart e f ≡ true → TestedTo e fs b (p + 1)
+next-apart {e = e} {fs = fs} {b = b} {p = p} {f = f} t g a = stepped e fs b b p f t g (independent-apart e f a) (ap (λ (l : List ℕ). b ++ l) (behind-apart e f (drop (p + 1) fs) a))
 
-pub next-behind : (e : Entry) (fs : List Entry) (b : List ℕ) (p : ℕ) (f : Entry) → TestedTo e fs b p → slice_get fs p ≡ Some f → apart e f ≡ false → stands_behind e f ≡ true → TestedTo e fs (b ++ f.0.0 ∷ []) (p + 1)
-next-behind e fs b p f t g a s =
+pub next-behind : {e : Entry} {fs : List Entry} {b : List ℕ} {p : ℕ} {f : Entry} → TestedTo e fs b p → slice_get fs p ≡ Some f → apart e f ≡ false → stands_behind e f ≡ true → TestedTo e fs (b ++ f.0.0 ∷ []) (p + 1)
+next-behind {e = e} {fs = fs} {b = b} {p = p} {f = f} t g a s =
     stepped e fs b (b ++ f.0.0 ∷ []) p f t g (independent-behind e f a s)
     (ap (λ (l : List ℕ). b ++ l) (behind-next e f (drop (p + 1) fs) a) ∙ sym (append_assoc b (f.0.0 ∷ []) (serials_behind e (drop (p + 1) fs))))
 
 -- ---- how it ends
 
-pub tested-all : (e : Entry) (fs : List Entry) (b : List ℕ) (p : ℕ) → TestedTo e fs b p → length fs ≤ p → (first_dependent e fs ≡ None) × (b ≡ serials_behind e fs)
-tested-all e fs b p t h = (t.tested ∙ ap (first_dependent e) (drop_all p fs h), found-all (serials_behind e) fs b p refl t.found h)
+pub tested-all : {e : Entry} {fs : List Entry} {b : List ℕ} {p : ℕ} → TestedTo e fs b p → length fs ≤ p → (first_dependent e fs ≡ None) × (b ≡ serials_behind e fs)
+tested-all {e = e} {fs = fs} {b = b} {p = p} t h = (t.tested ∙ ap (first_dependent e) (drop_all p fs h), found-all (serials_behind e) fs b p refl t.found h)
 
 depends : (e f : Entry) (fs : List Entry) → independent e f ≡ false → first_dependent e (f ∷ fs) ≡ Some f.0.0
 depends e f fs i = ap (λ (b : Bool). cond b (first_dependent e fs) (Some f.0.0)) i
 
-pub first-dependent : (e : Entry) (fs : List Entry) (b : List ℕ) (p : ℕ) (f : Entry) → TestedTo e fs b p → slice_get fs p ≡ Some f → apart e f ≡ false → stands_behind e f ≡ false → first_dependent e fs ≡ Some f.0.0
-first-dependent e fs b p f t g a s =
+pub first-dependent : {e : Entry} {fs : List Entry} {b : List ℕ} {p : ℕ} {f : Entry} → TestedTo e fs b p → slice_get fs p ≡ Some f → apart e f ≡ false → stands_behind e f ≡ false → first_dependent e fs ≡ Some f.0.0
+first-dependent {e = e} {fs = fs} {b = b} {p = p} {f = f} t g a s =
     t.tested ∙ ap (first_dependent e) (drop_found fs p f g) ∙ depends e f (drop (p + 1) fs) (ap (λ (x : Bool). x || stands_behind e f) a ∙ s)
 
-pub runs-out : (e : Entry) (fs : List Entry) (b : List ℕ) (p : ℕ) (f : Entry) → TestedTo e fs b p → slice_get fs p ≡ Some f → apart e f ≡ false → stands_behind e f ≡ true → RunsOutAmong e fs
-runs-out e fs b p f t g a s = record {
+pub runs-out : {e : Entry} {fs : List Entry} {b : List ℕ} {p : ℕ} {f : Entry} → TestedTo e fs b p → slice_get fs p ≡ Some f → apart e f ≡ false → stands_behind e f ≡ true → RunsOutAmong e fs
+runs-out {e = e} {fs = fs} {b = b} {p = p} {f = f} t g a s = record {
   tested = p + 1;
-  independent = (next-behind e fs b p f t g a s).before;
+  independent = (next-behind t g a s).before;
   some_behind = λ h. some-behind e (take p fs) f a (ap (serials_behind e) (sym (take-more fs p f g)) ∙ h);
 }

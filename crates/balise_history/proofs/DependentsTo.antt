@@ -22,19 +22,19 @@ dependent-next : (e f : Entry) (fs : List Entry) → independent e f ≡ false �
 dependent-next e f fs i = simp i
 
 -- those that the numbers of their homes tell
-pub passed : (e : Entry) (fs : List Entry) (hs : List ℕ) (found : List ℕ) (p n : ℕ) → DependentsTo e fs found p → hs ≡ map number_at fs → n ≤ length (take (length hs - p) (drop p hs))
+pub passed : (e : Entry) {fs : List Entry} {found : List ℕ} {p : ℕ} (hs : List ℕ) (n : ℕ) → DependentsTo e fs found p → hs ≡ map number_at fs → n ≤ length (take (length hs - p) (drop p hs))
     → ((gs : List Entry) → take (length hs - p) (drop p hs) ≡ map number_at gs → AllApart e (take n gs)) → DependentsTo e fs found (p + n)
-passed e fs hs found p n t is w all =
+passed e {fs = fs} {found = found} {p = p} hs n t is w all =
     let here = told e fs hs p n t.within is w all in
     found-skipped (dependents e) e fs found p n (λ f gs a. independent-left e f gs (independent-apart e f a)) t here.0 here.1
 
 -- the next one is independent
-pub next-independent : (e : Entry) (fs : List Entry) (found : List ℕ) (p : ℕ) (f : Entry) → DependentsTo e fs found p → slice_get fs p ≡ Some f → independent e f ≡ true → DependentsTo e fs found (p + 1)
-next-independent e fs found p f t g i = found-next (dependents e) fs found found p f t g (ap (λ (l : List ℕ). found ++ l) (independent-left e f (drop (p + 1) fs) i))
+pub next-independent : (e : Entry) {fs : List Entry} {found : List ℕ} {p : ℕ} {f : Entry} → DependentsTo e fs found p → slice_get fs p ≡ Some f → independent e f ≡ true → DependentsTo e fs found (p + 1)
+next-independent e {fs = fs} {found = found} {p = p} {f = f} t g i = found-next (dependents e) fs found found p f t g (ap (λ (l : List ℕ). found ++ l) (independent-left e f (drop (p + 1) fs) i))
 
 -- the next one depends on it
-pub next-dependent : (e : Entry) (fs : List Entry) (found : List ℕ) (p : ℕ) (f : Entry) → DependentsTo e fs found p → slice_get fs p ≡ Some f → independent e f ≡ false → DependentsTo e fs (found ++ f.0.0 ∷ []) (p + 1)
-next-dependent e fs found p f t g i =
+pub next-dependent : (e : Entry) {fs : List Entry} {found : List ℕ} {p : ℕ} {f : Entry} → DependentsTo e fs found p → slice_get fs p ≡ Some f → independent e f ≡ false → DependentsTo e fs (found ++ f.0.0 ∷ []) (p + 1)
+next-dependent e {fs = fs} {found = found} {p = p} {f = f} t g i =
     found-next (dependents e) fs found (found ++ f.0.0 ∷ []) p f t g
     (ap (λ (l : List ℕ). found ++ l) (dependent-next e f (drop (p + 1) fs) i) ∙ sym (append_assoc found (f.0.0 ∷ []) (dependents e (drop (p + 1) fs))))
 

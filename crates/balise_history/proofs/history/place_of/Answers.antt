@@ -1,3 +1,4 @@
+-- The place where a search of the rising serials ends is how many are lower.
 use Rattle.std.proofs.Common.{◌≡◌, ◌∙◌, ◌-◌, Ok, Err, Some, length, get_or, sym, ap, rules, arith}
 use Rattle.std.proofs.lemmas.List.Sorted.{answers_always}
 use Rattle.std.proofs.lemmas.Option.{get_or_from_slice_get, slice_get-get_or}

@@ -2,7 +2,6 @@
 use Rattle.std.proofs.Common.{◌≡◌, ◌∙◌, ◌<◌, ◌+◌, ◌*◌, ◌%◌, ℕ, zero, suc, Bool, true, false, ◌&&◌, not, eqb, nat_lt, List, [], ◌∷◌, All, map, take, sym, ap, subst, arith}
 use Rattle.std.proofs.lemmas.Bool.{and_parts, ltb-true, not-true, not_from_false}
 use Rattle.std.proofs.lemmas.List.Elements.{All-nil, All-cons, All-head, All-tail}
-use Rattle.std.specs.List.{prefix_len}
 use Rattle.balise_rules.specs.declared.tag.Tag.{Tag}
 use Rattle.balise_rules.specs.declared.tag.Tag.TheVariants.{Base, Fresh}
 use Rattle.balise_rules.specs.Paths.{Entry, apart}
@@ -62,10 +61,3 @@ pub counted-apart : (e : Entry) (n : ℕ) (ns : List ℕ) (fs : List Entry) → 
 counted-apart e n ns fs c is =
     let p = is_far (home_at e).group (limit (home_at e).extent) in
     all-apart e n fs (subst (λ (ms : List ℕ). All (λ m. p m ≡ true) (take n ms)) is (subst (λ (k : ℕ). All (λ m. p m ≡ true) (take k ns)) (sym c) (passing p ns)))
-
--- the same by the group and the limit of an entry's home
-pub counted-by : (e : Entry) (n group most : ℕ) (h : Home) (ns : List ℕ) → group ≡ h.group → most ≡ limit h.extent → h ≡ home_at e → n ≡ prefix_len (is_far group most) ns → n ≡ count_far e ns
-counted-by e n group most h ns g m at is =
-    let G : group ≡ (home_at e).group = g ∙ ap (λ (k : Home). k.group) at in
-    let M : most ≡ limit (home_at e).extent = m ∙ ap (λ (k : Home). limit k.extent) at in
-    is ∙ ap (λ (k : ℕ). prefix_len (is_far k most) ns) G ∙ ap (λ (k : ℕ). prefix_len (is_far (home_at e).group k) ns) M

@@ -12,8 +12,8 @@ pub returns-in-Ok-clause-back : goal.returns-in-Ok-clause-back
 returns-in-Ok-clause-back c =
     let f = c.args.entry.now in
     let groups = c.args.plan.now.groups in
-    let l : IsLast ((f.0.0, TurnGroup c.args.g), f.1) groups = subst (λ x. IsLast ((f.0.0, x), f.1) groups) c.requires.is c.requires.last in
-    let own : (noted (TurnGroup c.args.g) groups).own ≡ f.1.own = own_turned f.0.0 c.args.g f.1 groups l in (
+    let last : IsLast ((f.0.0, TurnGroup c.args.g), f.1) groups = subst (λ x. IsLast ((f.0.0, x), f.1) groups) c.requires.is c.requires.last in
+    let own : (noted (TurnGroup c.args.g) groups).own ≡ f.1.own = own_turned f.0.0 c.args.g f.1 groups last in (
       bare_last c.requires.last c.requires.is refl,
       c.in-Ok.ensures.1 ∙ ap (λ i. changed_to (effect (0, TurnGroup c.args.g) i groups) c.args.plan.now) own ∙ back_of c.args.plan.now c.requires.last c.requires.is,
     )

@@ -7,7 +7,7 @@ use Rattle.balise_rules.specs.declared.refusal.Refusal.TheVariants.{OutOfMemory,
 use Rattle.balise_rules.specs.Plan as rules
 use Rattle.balise_rules.specs.Addresses.{Command, edit_of}
 use Rattle.balise_rules.specs.Edits.{Edit, Item}
-use Rattle.balise_rules.specs.declared.tagged_edit.TaggedEdit.TheVariants.{DropGroup}
+use Rattle.balise_rules.specs.declared.tagged_edit.TaggedEdit.TheVariants.{AddGroup, DropGroup}
 use Rattle.balise_rules.specs.Notes.{noted, nothing, without_content}
 use Rattle.balise_rules.specs.Doing.{done, refusal}
 use Rattle.balise_rules.specs.Back.{back}
@@ -19,7 +19,7 @@ use Rattle.balise_rules.proofs.Cases.{unsome}
 use Rattle.balise_rules.proofs.Tests.{split_on}
 use Rattle.balise_edit_laws.specs.Along.{back_along}
 use Rattle.balise_edits.specs.Standing.{IsLast, IsNext, changed_to}
-use Rattle.balise_edits.specs.Held.{Plan}
+use Rattle.balise_plan.specs.Held.{Plan}
 use Rattle.balise_strike_laws.specs.InSession.{left_of}
 use Rattle.balise_strike_laws.specs.Redoing.{Answer}
 use Rattle.balise_strike_laws.proofs.SessionsKept.{sessions_kept}

@@ -26,7 +26,7 @@ use Rattle.balise_edit_laws.specs.Along.{back_along}
 use Rattle.balise_edit_laws.proofs.Histories.{kept_along}
 use Rattle.balise_edit_laws.proofs.ReadyCommands.{word_spelt}
 use Rattle.balise_edits.specs.Standing.{changed_to}
-use Rattle.balise_edits.specs.Held.{Plan}
+use Rattle.balise_plan.specs.Held.{Plan}
 use Rattle.balise_strike_laws.proofs.Journals.{same_itself}
 use Rattle.balise_strike_laws.proofs.Rising.{between-more, between-before, others-above}
 use Rattle.balise_strike_laws.proofs.SessionsKept.{standing_within, openings_kept}

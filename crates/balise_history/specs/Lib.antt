@@ -6,8 +6,8 @@ pub mod Sessions
 pub mod Openings
 pub mod Returned
 pub mod Unmade
-pub use Rattle.balise_edits.specs.Commands
-pub use Rattle.balise_edits.specs.Lines
+pub use Rattle.balise_commands.specs.Commands
+pub use Rattle.balise_commands.specs.Lines
 pub use Rattle.balise_plan.specs.GroupReading
 pub use Rattle.balise_rules.specs.Accepting
 pub use Rattle.balise_rules.specs.Journal

@@ -11,7 +11,7 @@ use Rattle.balise_rules.specs.Back.{back}
 use Rattle.balise_rules.specs.Paths.{Entry}
 use Rattle.balise_rules.specs.Behind.{anchor_of}
 use Rattle.balise_rules.specs.Session.{Removed}
-use Rattle.balise_edits.specs.Held.{Plan}
+use Rattle.balise_plan.specs.Held.{Plan}
 use Rattle.balise_edits.specs.Anchors.{hung_on}
 use Rattle.balise_edits.specs.Standing.{changed_to}
 use Rattle.balise_history.specs.declared.history.Undone.{Undone}

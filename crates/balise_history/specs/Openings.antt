@@ -9,7 +9,7 @@ use Rattle.balise_rules.specs.Session.{State, top}
 use Rattle.balise_history.specs.declared.journal_fault.JournalFault.{JournalFault}
 use Rattle.balise_history.specs.Held.{Edited, state_at, seen, IsHeld}
 use Rattle.balise_history.specs.Lists.{History, items_of, removed_of}
-use Rattle.balise_edits.specs.Held.{Plan}
+use Rattle.balise_plan.specs.Held.{Plan}
 use Rattle.balise_history.specs.Sessions.{Seen}
 
 -- the journal doesn't fit, or memory is wanted

@@ -3,7 +3,7 @@
 mod journal_entry;
 
 ghost use Rattle.std.specs.Prelude.{◌≡◌, ◌≢◌, ◌+◌, ◌<◌, ◌≤◌, ◌^◌, [], ℕ, length, Err, IfErr, IfOk, IsErrOf, Ok, OnOk};
-ghost use Rattle.balise_edits.specs.Commands.{command_of};
+ghost use Rattle.balise_commands.specs.Commands.{command_of};
 ghost use Rattle.balise_history.specs.Dependents.{dependents_of};
 ghost use Rattle.balise_history.specs.Held.{Answered, state_at};
 ghost use Rattle.balise_history.specs.Tests.{StrikeMayRunOut};

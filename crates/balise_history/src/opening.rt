@@ -1,7 +1,7 @@
 //! A session read from a journal, line by line.
 
 ghost use Rattle.std.specs.Prelude.{◌≡◌, ◌<◌, ◌^◌, ℕ, IsErrOf, None, Some, MatchResult};
-ghost use Rattle.balise_edits.specs.Lines.{line_in};
+ghost use Rattle.balise_commands.specs.Lines.{line_in};
 ghost use Rattle.balise_history.specs.Openings.{EntersSeen, MayComeNext, ReadsEntry, ReadsUndone, StrikesSeen};
 ghost use Rattle.balise_history.specs.Tests.{StrikeMayRunOut};
 ghost use Rattle.balise_rules.specs.Accepting.{Unused};

@@ -2,7 +2,7 @@
 
 ghost use Rattle.std.specs.Prelude.{◌≡◌, ◌≢◌, IfErr, IfOk, Some, None, Ok, Err, ok_or, slice_get};
 ghost use Rattle.balise_edits.specs.Edits.{edit_of};
-ghost use Rattle.balise_edits.specs.Commands.{command_of};
+ghost use Rattle.balise_commands.specs.Commands.{command_of};
 ghost use Rattle.balise_rules.specs.Addresses as rules;
 ghost use Rattle.balise_rules.specs.Addresses.{anchor_at, find_group, find_packet, find_telegram, AskInsert, AskMove};
 ghost use Rattle.balise_rules.specs.Packet.{Packet};

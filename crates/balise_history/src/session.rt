@@ -1,8 +1,8 @@
 //! A session: commands on a plan, undo, redo and strike in place.
 
 ghost use Rattle.std.specs.Prelude.{◌≡◌, ◌≢◌, ◌+◌, ◌<◌, ◌≤◌, ◌^◌, [], ℕ, length, map, nat_le, Err, IfErr, IfNone, IfOk, IfSome, IsErrOf, IsOkUnless, Ok};
-ghost use Rattle.balise_edits.specs.Lines.{line_in};
-ghost use Rattle.balise_edits.specs.Commands.{command_of};
+ghost use Rattle.balise_commands.specs.Lines.{line_in};
+ghost use Rattle.balise_commands.specs.Commands.{command_of};
 ghost use Rattle.balise_history.specs.Dependents.{dependents_of};
 ghost use Rattle.balise_history.specs.Openings.{FailsAt};
 ghost use Rattle.balise_history.specs.Returned.{bare};

@@ -2,7 +2,7 @@
 
 ghost use Rattle.std.specs.Prelude.{◌≡◌, ◌<◌, ◌^◌, true, IfErr, IfOk, IsErrOf, Some, option_and_then};
 ghost use Rattle.balise_edits.specs.Edits.{edit_of};
-ghost use Rattle.balise_edits.specs.Lines.{line_edit_of, line_in, noted_in};
+ghost use Rattle.balise_commands.specs.Lines.{line_edit_of, line_in, noted_in};
 ghost use Rattle.balise_history.specs.Held.{IsHeld, state_at};
 ghost use Rattle.balise_history.specs.Lists.{items_of};
 ghost use Rattle.balise_history.specs.Openings.{comes_next, Enters, EntersIn, MayComeNext, Mismatches};

@@ -1,5 +1,5 @@
 use Rattle.std.proofs.Common.{◌≡◌, map, take}
-use Rattle.balise_edits.specs.Lines.{line_in}
+use Rattle.balise_commands.specs.Lines.{line_in}
 use Rattle.balise_rules.specs.Journal.{line_of}
 use Rattle.balise_history.proofs.session.lines_of.Given as goal
 

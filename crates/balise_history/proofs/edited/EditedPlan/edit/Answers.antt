@@ -3,7 +3,7 @@ use Rattle.std.proofs.Common.{◌≡◌, ◌+◌, [], ◌∷◌, ◌++◌, refl,
 use Rattle.balise_rules.specs.Session.{Ask, Done}
 use Rattle.balise_edits.specs.Edits.{edit_of}
 use Rattle.balise_edit_laws.specs.Along.{back_along}
-use Rattle.balise_edits.specs.Commands.{command_of}
+use Rattle.balise_commands.specs.Commands.{command_of}
 use Rattle.balise_history.specs.Held.{Edited, Accepts}
 use Rattle.balise_history.proofs.Adding.{plan-made}
 use Rattle.balise_history.proofs.Answering.{view, added-one, edit-accepts}

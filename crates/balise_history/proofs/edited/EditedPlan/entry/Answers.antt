@@ -1,5 +1,5 @@
 use Rattle.std.proofs.Common.{subst}
-use Rattle.balise_edits.specs.Lines.{line_in}
+use Rattle.balise_commands.specs.Lines.{line_in}
 use Rattle.balise_history.specs.Held.{Edited}
 use Rattle.balise_history.specs.Openings.{Enters}
 use Rattle.balise_history.proofs.Answering.{view}

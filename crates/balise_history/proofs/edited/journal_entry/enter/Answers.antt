@@ -3,7 +3,7 @@ use Rattle.balise_rules.specs.Journal.{Noted, noted_of, same_noted}
 use Rattle.balise_rules.specs.Notes.{noted}
 use Rattle.balise_rules.specs.Paths.{Entry}
 use Rattle.balise_edits.specs.Edits.{edit_of}
-use Rattle.balise_edits.specs.Lines.{line_in, line_edit_of, noted_in}
+use Rattle.balise_commands.specs.Lines.{line_in, line_edit_of, noted_in}
 use Rattle.balise_history.proofs.Entering.{line-spelt, line-unused, is-entered, is-noted-else}
 use Rattle.balise_history.proofs.edited.journal_entry.enter.Goals as goal
 use Rattle.balise_history.proofs.edited.journal_entry.enter.Goals.{After-push}

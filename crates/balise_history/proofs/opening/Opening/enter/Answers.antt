@@ -1,4 +1,4 @@
-use Rattle.balise_edits.specs.Lines.{line_in}
+use Rattle.balise_commands.specs.Lines.{line_in}
 use Rattle.balise_history.proofs.Reading.{enters-within}
 use Rattle.balise_history.proofs.opening.Opening.enter.Goals as goal
 

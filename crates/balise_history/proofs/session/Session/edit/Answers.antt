@@ -1,5 +1,5 @@
 use Rattle.balise_rules.specs.Session.{Ask, Done}
-use Rattle.balise_edits.specs.Commands.{command_of}
+use Rattle.balise_commands.specs.Commands.{command_of}
 use Rattle.balise_history.proofs.Bounds.{within-next}
 use Rattle.balise_history.proofs.session.Session.edit.Goals as goal
 

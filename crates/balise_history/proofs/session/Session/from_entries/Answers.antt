@@ -1,7 +1,7 @@
 -- The lines of a journal, one after another: they are read as the rules read them, and where one isn't, all before it were.
 use Rattle.std.proofs.Common.{◌≡◌, ◌∙◌, inl, inr, ⊎_elim, suc, List, ◌∷◌, drop, take, map, length, Some, Ok, Err, refl, sym, ap, arith, add-one}
 use Rattle.std.proofs.lemmas.List.{nil_from_length}
-use Rattle.balise_edits.specs.Lines.{line_in}
+use Rattle.balise_commands.specs.Lines.{line_in}
 use Rattle.balise_commands.specs.declared.line.Line as code
 use Rattle.balise_rules.specs.Journal.{Line}
 use Rattle.balise_rules.specs.Opening.{from_entries, with_entries, with_entry, or_place}

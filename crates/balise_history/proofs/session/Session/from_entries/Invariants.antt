@@ -1,6 +1,6 @@
 use Rattle.std.proofs.Common.{◌≡◌, ◌+◌, drop, map, take, vec_len}
 use Rattle.std.specs.Prelude.{Ok}
-use Rattle.balise_edits.specs.Lines.{line_in}
+use Rattle.balise_commands.specs.Lines.{line_in}
 use Rattle.balise_rules.specs.Opening.{from_entries, with_entries}
 use Rattle.balise_history.proofs.session.Session.from_entries.Given as goal
 

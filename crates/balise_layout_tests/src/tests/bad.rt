@@ -32,6 +32,7 @@ const ROWS: [(&str, usize, LayoutFault); 14] = [
 fn check_bad(rt: &impl Abort, bits: &Bits, at: usize, fault: LayoutFault) {
     assert!(rt; Packet::read(bits, at, 33).err() == Some(fault));
     assert!(rt; Packet::check(bits, at, 33) == Err(fault));
+    assert!(rt; Packet::check_named(bits, at, 33, 5).err() == Some(fault));
 }
 
 #[test]

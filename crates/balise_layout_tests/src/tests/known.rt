@@ -5,7 +5,7 @@ use crate::tests::packets::{
     check_digits, check_fields, packet_of,
 };
 use balise_bits::Bits;
-use balise_layout::{Id, Packet, PacketRef, Var, may_have_elements};
+use balise_layout::{Id, Named, Packet, PacketRef, Var, may_have_elements};
 use std::alloc::Global;
 use std::process::Abort;
 
@@ -209,9 +209,9 @@ fn links_are_listed(rt: HostRuntime) {
 }
 
 // A packet in digits, the version of its telegram, and what its elements name in country 5.
-type Named = (&'static str, u32, &'static [Id]);
+type NamedRow = (&'static str, u32, &'static [Id]);
 
-const NAMED: [Named; 6] = [
+const NAMED: [NamedRow; 6] = [
     (LINKS, 33, &[SIX, SIX]),
     (LINK, 16, &[FIVE]),
     (INFILL, 33, &[FIVE]),
@@ -220,10 +220,26 @@ const NAMED: [Named; 6] = [
     (OPAQUE, 33, &[]),
 ];
 
+// Whether what was seen of a packet is what it names.
+pub(crate) fn is_named(named: &Named, links: &[Id]) -> bool {
+    match named {
+        Named::Nothing => links.is_empty(),
+        Named::Few(few) => !links.is_empty() & (few.as_slice() == links),
+        Named::Many => links.len() > 4,
+    }
+}
+
+// That the check of the packet at a place ends there, and sees what it names.
+fn check_seen(rt: &impl Abort, bits: &Bits, at: usize, end: usize, row: &NamedRow) {
+    let (checked, named) = Packet::check_named(bits, at, row.1, 5).expect(rt, "a packet");
+    assert!(rt; (checked == end) & is_named(&named, row.2));
+}
+
 // That the elements of the packet at a place are listed there.
-fn check_links_in(rt: &impl Abort, bits: &Bits, at: usize, row: &Named) {
-    let (packet, _) = Packet::read(bits, at, row.1).expect(rt, "a packet");
+fn check_links_in(rt: &impl Abort, bits: &Bits, at: usize, row: &NamedRow) {
+    let (packet, end) = Packet::read(bits, at, row.1).expect(rt, "a packet");
     check_links(rt, &packet, row.2);
+    check_seen(rt, bits, at, end, row);
     let links = PacketRef::new(bits, at, row.1).links(5);
     assert!(rt; links.expect(rt, "memory").as_slice() == row.2);
     let lent = PacketRef::new(bits, at, row.1);
@@ -233,7 +249,7 @@ fn check_links_in(rt: &impl Abort, bits: &Bits, at: usize, row: &Named) {
     assert!(rt; lent.has_elements() == (row.2.len() > 0));
 }
 
-fn check_named(rt: &impl Abort, packet: &Packet, alloc: Global, row: &Named) {
+fn check_named(rt: &impl Abort, packet: &Packet, alloc: Global, row: &NamedRow) {
     let mut bits = Bits::new(alloc);
     bits.push_zeros(50).expect(rt, "memory");
     packet.write(&mut bits).expect(rt, "memory");

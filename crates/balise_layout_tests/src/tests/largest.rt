@@ -2,6 +2,7 @@
 
 ghost use Rattle.std.specs.Prelude.{◌<◌};
 
+use crate::tests::known::is_named;
 use crate::tests::lent::check_lent;
 use balise_bits::Bits;
 use balise_layout::{Elements, Id, MOST_ELEMENTS, Packet, Var};
@@ -112,11 +113,19 @@ fn check_few(rt: &impl Abort, packet: &Packet, count: usize) {
     }
 }
 
+// That what is seen of the packet, while it is checked, is what it names.
+fn check_seen(rt: &impl Abort, bits: &Bits, links: &[Id]) {
+    let (_, named) = Packet::check_named(bits, 0, 33, 7).expect(rt, "a packet");
+    assert!(rt; is_named(&named, links));
+}
+
 #[test]
 fn up_to_four_elements_are_few(rt: HostRuntime) {
     for count in &[1_u32, 3, 4, 5, 6, 32] {
         let bits = linking(&rt, rt.alloc(), *count);
-        check_few(&rt, &read(&rt, &bits), *count as usize);
+        let packet = read(&rt, &bits);
+        check_few(&rt, &packet, *count as usize);
+        check_seen(&rt, &bits, packet.elements(7).as_slice());
     }
 }
 

@@ -1,7 +1,8 @@
 //! Groups read telegram by telegram.
 
-use crate::tests::digits::{EMPTY, LINKING, LONG, THREE};
+use crate::tests::digits::{ABROAD, EMPTY, INFILL, LINKING, LONG, THREE};
 use crate::tests::plans::{check_texts, one_of_eight, telegrams};
+use crate::tests::walking::agrees;
 use balise_plan::{Bits, Group, GroupReader, Plan, Refusal};
 use std::alloc::Global;
 use std::process::Abort;
@@ -61,6 +62,35 @@ fn groups_pushed(rt: HostRuntime) {
     let alloc = rt.alloc();
     let mut plan = Plan::empty(alloc);
     push_each(&rt, alloc, &mut plan);
+}
+
+/// Groups that name nothing; one identity, by packet 5 or 136; one twice; and more: by each of two telegrams, by two packets,
+/// in the second telegram alone, by five elements, and one that says it names nothing.
+const NAMING: [&str; 9] = [
+    THREE,
+    LINKING,
+    INFILL,
+    ABROAD,
+    "a1027f80a03450900f8282a04540fa0064a603ffffffffffffffc0 a1127f80a034415022a07d00325301ffffffffffffffffffffffc0",
+    "a1007f80a034c15022a000403253000a811500040194980fffffc0",
+    "a1027f80a03550900f82ffffffffffffffffffffffffffffffffc0 a1127f80a03550900f8282a04f4003c060192980ffffffffffffc0",
+    "a1007f80a035c15070a000003253080004032d300010066a6000300cf4c000801a299ffffffffffffffffffffffffffffffffffffffffffffffffffffffffffffffffffffffffffffffffffffffffffffffffffffffffffffffffffffffffffffffffffffffffffc",
+    "a1007f80a03641503b2000e037fff4c0800400c84cffffffffffc0",
+];
+
+/// That the plan knows what the groups that were pushed name.
+fn check_names(rt: &impl Abort, alloc: Global, plan: &Plan) {
+    assert!(rt; agrees(rt, alloc, plan, &[(5, 100), (6, 100)]));
+}
+
+#[test]
+fn what_groups_name_is_known(rt: HostRuntime) {
+    let alloc = rt.alloc();
+    let mut plan = Plan::empty(alloc);
+    for text in &NAMING {
+        push(&rt, alloc, &mut plan, text, Ok(()));
+        check_names(&rt, alloc, &plan);
+    }
 }
 
 /// Reads a telegram of 830 bits as this one of eight.

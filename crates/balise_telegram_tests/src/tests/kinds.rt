@@ -1,9 +1,9 @@
 //! Telegrams with packets of each kind.
 
-use crate::tests::changes::NAMED;
+use crate::tests::changes::{LINKING, NAMED};
 use crate::tests::full::{FULL, LONG, SHORT, holds};
 use crate::tests::telegrams::telegram_of;
-use balise_telegram::{Id, PacketTag, Telegram};
+use balise_telegram::{Bits, Id, PacketTag, Telegram, TelegramNames};
 use std::alloc::Global;
 use std::process::Abort;
 
@@ -71,13 +71,13 @@ fn have_elements(telegram: &Telegram) -> bool {
 }
 
 /// The places of those that have elements.
-const LINKING: [u32; 4] = [0, 1, 7, 8];
+const PLACES: [u32; 4] = [0, 1, 7, 8];
 
 /// Whether these are the packets that are gone to, and then none.
 fn goes_to_linking(telegram: &Telegram) -> bool {
     let mut packets = telegram.packets();
     let mut same = true;
-    for place in &LINKING {
+    for place in &PLACES {
         same &= match packets.next_linking() {
             Some((tag, packet)) => (tag == PacketTag::Base(*place)) & packet.has_elements(),
             None => false,
@@ -101,6 +101,48 @@ fn check_elements(rt: &impl Abort, telegram: &mut Telegram) {
 #[test]
 fn names_the_packets_that_have_elements(rt: HostRuntime) {
     check_elements(&rt, &mut telegram_of(&rt, rt.alloc(), EACH_KIND));
+}
+
+/// Whether what was seen of a telegram is what its packets name.
+fn is_seen(telegram: &Telegram, names: &TelegramNames) -> bool {
+    let mut packets = telegram.packets();
+    let Some((tag, packet)) = packets.next_linking() else {
+        return matches!(names, TelegramNames::Nothing);
+    };
+    let elements = packet.elements(telegram.identity().country);
+    let alone = packets.next_linking().is_none();
+    match names {
+        TelegramNames::Nothing => false,
+        TelegramNames::One(place, few) => {
+            alone & (tag == PacketTag::Base(*place)) & (few.as_slice() == elements.as_slice())
+        }
+        TelegramNames::Many => !alone | (elements.len() > 4),
+    }
+}
+
+/// That telegrams are read as `of_bits` reads them, and what they name is seen.
+fn check_seen(rt: &impl Abort, bits: Bits, digits: &str) {
+    let (telegram, names) = Telegram::named(bits).expect(rt, "a telegram");
+    assert!(rt; is_seen(&telegram, &names));
+    let shown = telegram.bits().to_hex().expect(rt, "memory");
+    assert!(rt; shown.as_str() == digits);
+}
+
+/// Telegrams of one packet 5, of one element and of two, and one that names nothing.
+const SHORT_ONES: [&str; 3] = [
+    LINKING,
+    "a1007f80a03341503b204b20300c88c0819000c98cffffffffffc0",
+    SHORT,
+];
+
+#[test]
+fn what_telegrams_name_is_seen(rt: HostRuntime) {
+    let alloc = rt.alloc();
+    for digits in TELEGRAMS.iter().chain(SHORT_ONES.iter()) {
+        let due = if digits.len() == 54 { 210 } else { 830 };
+        let bits = Bits::from_hex(alloc, digits, due).expect(&rt, "memory");
+        check_seen(&rt, bits, digits);
+    }
 }
 
 /// A packet 5 of 18 elements, so that no bit is left.
